@@ -10,7 +10,8 @@ use Rattle.drv_syntax.specs.Code.Tests.{added, choice_here, choice_open, is_star
 use Rattle.drv_syntax.specs.Code.Writing.{Parts, Reading, at_rest, given, named_given, open_at}
 use Rattle.drv_syntax.specs.Contexts.{ListContext, in_arguments, in_braces}
 use Rattle.drv_syntax.specs.Descent as d
-use Rattle.drv_syntax.specs.Descent.{Ends, Lists, Operand, Read, Stops, Took, function_from, levels, result, result_in, then_read, within}
+use Rattle.drv_syntax.specs.Descent.{Ends, Lists, Operand, Read, Stops, Took, arguments_of, call_in, function_from, levels, result}
+use Rattle.drv_syntax.specs.Descent.{then_read, within}
 use Rattle.drv_syntax.specs.Labels.{Label, nodes_of, part_label}
 use Rattle.drv_syntax.specs.Spelling.{span}
 use Rattle.drv_syntax.specs.Stars.{has_star}
@@ -80,17 +81,19 @@ module _ (outer : Option ℕ) (at : ℕ) (so_far : Option Choice) (start : ℕ) 
     text_is = cc (one_is, some_left one.bytes colon first, is)
 
     -- after the colon, the test gives its function's name and then its arguments
-    after_colon : reads ≡ given inner two on (then_read (function_from v.rest.at two.at [] two.bytes) (result_in deep c two.at two.bytes))
+    after_colon : reads ≡ given inner two on (then_read (function_from v.rest.at two.at [] two.bytes) (call_in d.result_operand deep
+        (in_braces c) two.at two.bytes))
     after_colon =
         let n : v.rest.at + 2 ≡ v.rest.at + 1 + 1 = omega arith in
         ap (λ bs. given outer front on (result deep c at v.rest.at bs)) text_is
         ∙ given_past outer front on 1 (within at (then_read (function_from v.rest.at (v.rest.at + 2) [] (drop 1 front.bytes))
-        (result_in deep c (v.rest.at + 2) (drop 1 front.bytes))))
+        (call_in d.result_operand deep (in_braces c) (v.rest.at + 2) (drop 1 front.bytes))))
         ∙ given_within outer at (after 1 front) on (then_read (function_from v.rest.at (v.rest.at + 2) [] (drop 1 front.bytes))
-        (result_in deep c (v.rest.at + 2) (drop 1 front.bytes)))
+        (call_in d.result_operand deep (in_braces c) (v.rest.at + 2) (drop 1 front.bytes)))
         ∙ ap (λ (i : ℕ). given inner (after 1 front) on (then_read (function_from v.rest.at i [] (drop 1 front.bytes))
-        (result_in deep c i (drop 1 front.bytes)))) n
-        ∙ ap (λ (x : Left). given inner x on (then_read (function_from v.rest.at x.at [] x.bytes) (result_in deep c x.at x.bytes)))
+        (call_in d.result_operand deep (in_braces c) i (drop 1 front.bytes)))) n
+        ∙ ap (λ (x : Left). given inner x on (then_read (function_from v.rest.at x.at [] x.bytes) (call_in d.result_operand deep (in_braces
+        c) x.at x.bytes)))
         (ap (λ (x : Left). after 1 x) (sym one_is) ∙ sym two_is)
 
     -- the name of the function is read, in a test at the place n
@@ -100,29 +103,14 @@ module _ (outer : Option ℕ) (at : ℕ) (so_far : Option Choice) (start : ℕ) 
       named_is : named_given inner (at_rest two v) (function_from v.rest.at two.at [] two.bytes) ≡ Ok (name, u)
       named_is = cc (o_is, n_is, named)
 
-      -- what the arguments of this name give, with the parenthesis that closes them
-      abbrev arguments : List ℕ → ℕ → List ℕ → Read Operand
-      arguments x n text = then_read (deep (in_arguments (in_braces c)) n text) (λ list size. Took (d.result_operand x list.0) (size + 1))
-
-      -- after k bytes of the name and its parenthesis come the arguments
-      arguments_at : (x : List ℕ) (k : ℕ)
-          → given inner two on (result_in deep c two.at two.bytes x k)
-          ≡ given inner (after k two) on (arguments x (two.at + k) (drop k two.bytes))
-      arguments_at x k = by (deep (in_arguments (in_braces c)) (two.at + k) (drop k two.bytes))
-        where
-          by : (r : Read (Items × ℕ))
-              → given inner two on (then_read r (λ list size. Took (d.result_operand x list.0) (k + (size + 1))))
-              ≡ given inner (after k two) on (then_read r (λ list size. Took (d.result_operand x list.0) (size + 1)))
-          by (Took list size) = ap (λ (l : Left). Ok (on (d.result_operand x list.0) l)) (after_after k (size + 1) two)
-          by (Ends n) = refl
-          by (Stops n fault) = refl
-
       -- once the name is read, the test gives its arguments
-      after_name : reads ≡ given inner u.rest on (arguments name u.rest.at u.rest.bytes)
+      after_name : reads ≡ given inner u.rest on (arguments_of d.result_operand deep (in_braces c) name u.rest.at u.rest.bytes)
       after_name =
           after_colon
-          ∙ given_then inner (at_rest two v) u name on (function_from v.rest.at two.at [] two.bytes) (result_in deep c two.at two.bytes)
-          (λ x i text. arguments x i text) (λ x k. arguments_at x k) named_is
+          ∙ given_then inner (at_rest two v) u name on (function_from v.rest.at two.at [] two.bytes) (call_in d.result_operand deep
+          (in_braces c) two.at two.bytes)
+          (λ x i bs. arguments_of d.result_operand deep (in_braces c) x i bs)
+          (λ x k. given_past inner two on k (arguments_of d.result_operand deep (in_braces c) x (two.at + k) (drop k two.bytes))) named_is
 
       -- the alternative is open, and the token of the test opens in it; its arguments have the context ctx
       module _ (choice : Choice) (q w : Reading) (part : Open) (opens : choice_open so_far start u.parts ≡ (choice, q.parts))

@@ -1,5 +1,5 @@
 use Rattle.drv_syntax.proofs.Failing.{Failure, Fails, around, failed, past_fails, within_then}
-use Rattle.drv_syntax.proofs.PartsRead.{Reads, byte_next, function_reads, past_past, reads_past}
+use Rattle.drv_syntax.proofs.PartsRead.{Reads, byte_next, function_reads, past_past, reads_as, reads_past}
 use Rattle.drv_syntax.specs.Bytes.{is_function}
 use Rattle.drv_syntax.specs.Contexts.{ListContext, in_arguments, in_braces}
 use Rattle.drv_syntax.specs.Descent as d
@@ -7,7 +7,7 @@ use Rattle.drv_syntax.specs.Descent.{Lists, Read, Took, past, then_read, within}
 use Rattle.drv_syntax.specs.Spelling as s
 use Rattle.drv_syntax.specs.Spelling.{AreItems, At, IsCall}
 use Rattle.drv_syntax.specs.Tree.{Items}
-use Rattle.std.proofs.Common.{◌≡◌, ◌∙◌, ◌+◌, ◌++◌, Bool, false, true, List, [], ◌∷◌, ap, arith, drop, drop-drop, length, refl, suc, sym, ℕ}
+use Rattle.std.proofs.Common.{◌≡◌, ◌∙◌, ◌+◌, ◌++◌, Bool, false, true, List, [], ◌∷◌, ap, arith, drop, length, refl, suc, ℕ}
 use Rattle.std.specs.Prelude.{◌-◌, ◌==◌}
 
 -- What the grammar says of a function's call, in a list or in a test, Descent makes of it. It serves the laws `spelled_is_read`,
@@ -30,12 +30,11 @@ ListReads size lists c =
 module _ {X : Type 0} (make : List ℕ → Items → X) (g : ListContext) (lists : Lists) (at outer : ℕ) where
   -- what Descent makes of a call, by what is made of its name and arguments
   abbrev pub called : ℕ → List ℕ → Read X
-  called n text = within outer (then_read (d.function_from at n [] text) (λ name k.
-      then_read (lists (in_arguments g) (n + k) (drop k text)) (λ list used. Took (make name list.0) (k + (used + 1)))))
+  called n text = within outer (then_read (d.function_from at n [] text) (d.call_in make lists g n text))
 
   -- after the name, which takes so many bytes
   abbrev pub listed : List ℕ → ℕ → Read (Items × ℕ) → Read X
-  listed name k r = within outer (then_read r (λ list used. Took (make name list.0) (k + (used + 1))))
+  listed name k r = within outer (past k (then_read r (λ list used. Took (make name list.0) (used + 1))))
 
   -- once its name and parenthesis are read, a call gives what the list of its arguments gives
   call_goes : (n : ℕ) (name text : List ℕ) → is_function name ≡ true
@@ -46,9 +45,7 @@ module _ {X : Type 0} (make : List ℕ → Items → X) (g : ListContext) (lists
         m.size,
         m.left,
         m.fits,
-        ap (λ r. within outer (then_read r (λ it k.
-            then_read (lists (in_arguments g) (n + k) (drop k (name ++ 40 ∷ text)))
-            (λ list used. Took (make it list.0) (k + (used + 1)))))) m.is
+        ap (λ r. within outer (then_read r (d.call_in make lists g n (name ++ 40 ∷ text)))) m.is
             ∙ ap (λ (t : List ℕ). listed name m.size (lists (in_arguments g) (n + m.size) t)) m.left,
       )
 
@@ -59,14 +56,9 @@ module _ {X : Type 0} (make : List ℕ → Items → X) (g : ListContext) (lists
       let z = call_goes n name u is in
       let m = ih (n + z.0) u (41 ∷ rest) items l (omega (arith, a, z.2)) in
       let more = byte_next u m.size m.left m.fits in
-      let one : suc m.size ≡ m.size + 1 = omega arith in
-      record {
-        size = z.0 + (m.size + 1);
-        is = z.3 ∙ ap (λ r. listed name z.0 r) m.is;
-        left = sym (drop-drop (m.size + 1) z.0 (name ++ 40 ∷ u)) ∙ ap (λ (t : List ℕ). drop (m.size + 1) t) z.1
-            ∙ ap (λ (i : ℕ). drop i u) (sym one) ∙ more.0;
-        fits = omega (arith, z.2, more.1);
-      }
+      let one : m.size + 1 ≡ suc m.size = omega arith in
+      reads_as (z.3 ∙ ap (λ r. listed name z.0 r) m.is) (reads_past z.0 (name ++ 40 ∷ u) z.1 z.2
+      (record { size = m.size + 1; is = refl; left = ap (λ (i : ℕ). drop i u) one ∙ more.0; fits = omega (arith, more.1) }))
 
   -- a call fails as the list of its arguments does
   pub call_fails : (f : Failure) (n : ℕ) (name text : List ℕ) → is_function name ≡ true
@@ -74,9 +66,8 @@ module _ {X : Type 0} (make : List ℕ → Items → X) (g : ListContext) (lists
       → called n (name ++ 40 ∷ text) ≡ failed (around outer f)
   call_fails f n name text is h =
       let z = call_goes n name text is in
-      let k = z.0 in
-      z.3 ∙ within_then (lists (in_arguments g) (n + k) text) f outer (λ list used. Took (make name list.0) (k + (used + 1)))
-      (h (n + k) (omega (arith, z.2)))
+      z.3 ∙ within_then (lists (in_arguments g) (n + z.0) text) f outer z.0 (λ list used. Took (make name list.0) (used + 1))
+      (h (n + z.0) (omega (arith, z.2)))
 
 -- the call of a test of a result, whose % has the place n
 module _ (deep : Lists) (c : ListContext) (at : ℕ) (emits : Bool) where

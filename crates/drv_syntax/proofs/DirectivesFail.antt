@@ -1,11 +1,13 @@
-use Rattle.drv_syntax.proofs.PartsRead.{none_quoted}
+use Rattle.std.specs.List.{prefix_len}
+use Rattle.drv_syntax.proofs.Longer.{run_longer}
+use Rattle.drv_syntax.proofs.PartsRead.{name_fits, none_quoted, run_length, run_to}
 use Rattle.drv_words.specs.Bytes as ascii
 use Rattle.drv_syntax.proofs.Leads.{differs}
 use Rattle.drv_syntax.proofs.Names.{bracket_ends, front_front}
 use Rattle.drv_syntax.specs.Bytes.{is_function_front, is_name_byte, is_option, is_word}
 use Rattle.drv_syntax.specs.Contexts.{ListContext}
 use Rattle.drv_syntax.specs.Descent as d
-use Rattle.drv_syntax.specs.Descent.{Lists, Quoted, Read, Run, Stops, Took, past, quoted}
+use Rattle.drv_syntax.specs.Descent.{Lists, Read, Stops, past}
 use Rattle.drv_syntax.specs.Refusals as r
 use Rattle.drv_syntax.specs.Refusals.{Breaks, Empty, IsNoFunction, nests}
 use Rattle.drv_syntax.specs.Spelling as s
@@ -15,7 +17,7 @@ use Rattle.drv_syntax.specs.declared.directives.Directive.{Directive}
 use Rattle.drv_syntax.specs.declared.fault.SyntaxFault.TheVariants.{BadDirective, EmptyTest, TooNested, UnknownFunction}
 use Rattle.drv_syntax.specs.declared.fault.SyntaxFault.{SyntaxFault}
 use Rattle.std.proofs.Common.{◌≡◌, ◌≤◌, ◌∙◌, ◌+◌, ◌++◌, Bool, false, true, List, [], ◌∷◌, ap, append-nil, append_assoc, arith, length}
-use Rattle.std.proofs.Common.{length-append, refl, subst, sym, ℕ}
+use Rattle.std.proofs.Common.{length-append, refl, sym, ℕ}
 use Rattle.std.proofs.lemmas.Bool.Decides.{nat_tests}
 use Rattle.std.specs.Prelude.{◌==◌, nat_le}
 
@@ -68,44 +70,34 @@ function_stops at m q (r.not_a_name name h e) = (
 
 -- the name of a named text
 
--- a text is as long as the run that it begins with and what follows
-run_length : {f : ℕ → Bool} {t w u : List ℕ} → IsRun f t w u → length t ≡ length w + length u
-run_length (s.run_ends {rest} h) = omega arith
-run_length (s.run_goes e i) = omega (arith, run_length i)
+-- a run is counted as a run of at least its bytes, whatever follows it
+run_counted : {f : ℕ → Bool} {t w u : List ℕ} (q : List ℕ) → IsRun f t w u → length w ≤ prefix_len f (t ++ q)
+run_counted q (s.run_ends h) = omega arith
+run_counted q (s.run_goes e i) = rw e (omega (arith, run_counted q i))
 
 -- the name of a named text in a directive at this place, and what follows the byte that doesn't fit
 module _ (at : ℕ) (q : List ℕ) where
-  -- where a name has at most 255 bytes, so has each front of it
-  shorter : (done : List ℕ) (b : ℕ) (w : List ℕ) → length (done ++ b ∷ w) ≤ 255 → nat_le (length (done ++ b ∷ [])) 255 ≡ true
-  shorter done b w l =
-      let short : length (done ++ b ∷ []) ≤ 255 = omega (arith, l, length-append done (b ∷ w), length-append done (b ∷ [])) in
-      grind (arith, nat_tests)
-
   -- a name fails at a byte that can't be in it and is no closing parenthesis
-  names_stop : {t w : List ℕ} {b : ℕ} (k : ℕ) (done : List ℕ) → IsRun is_name_byte t w (b ∷ []) → length (done ++ w) ≤ 255
-      → (b == ascii.closing_parenthesis) ≡ false → d.name_from at k done (t ++ q) ≡ Stops (k + length w) (BadDirective at)
-  names_stop k [] (s.run_ends (s.at_byte h)) l e = rw h refl
-  names_stop k (x ∷ done) (s.run_ends (s.at_byte h)) l e = rw (h, e) refl
-  names_stop k done (s.run_goes {b = c} {text} {run} h i) l e =
-      let g = append_assoc done (c ∷ []) run in
-      let z : k + 1 + length run ≡ k + length (c ∷ run) = omega arith in
-      rw (h, shorter done c run l) (ap (λ r. past 1 r)
-      (names_stop (k + 1) (done ++ c ∷ []) i (subst (λ (v : List ℕ). length v ≤ 255) (sym g) l) e)
-      ∙ ap (λ (j : ℕ). Stops j (BadDirective at)) z)
+  names_stop : {t w : List ℕ} {b : ℕ} (k : ℕ) → IsRun is_name_byte t w (b ∷ []) → length w ≤ 255
+      → (b == ascii.closing_parenthesis) ≡ false → d.named at k (t ++ q) ≡ Stops (k + length w) (BadDirective at)
+  names_stop {t} {w} {b} k i l e =
+      let j = run_longer q i tt in
+      let m = run_to j in
+      let same_size : prefix_len is_name_byte (t ++ q) ≡ length w = omega (arith, run_length j, m.2) in
+      rw (name_fits j l, m.0, m.1) (ap (λ r. past (prefix_len is_name_byte (t ++ q)) r) (ended (k + prefix_len is_name_byte (t ++ q)) w)
+      ∙ ap (λ (i : ℕ). Stops (k + i) (BadDirective at)) same_size)
+    where
+      ended : (n : ℕ) (w : List ℕ) → d.name_end at n w (b ∷ q) ≡ Stops n (BadDirective at)
+      ended n [] = refl
+      ended n (x ∷ w) = rw e refl
 
   -- a name of 256 bytes fails at its last one
-  names_long : {t w : List ℕ} (k : ℕ) (done : List ℕ) → IsRun is_name_byte t w [] → length (done ++ w) ≡ 256 → length done ≤ 255
-      → (j : ℕ) × (j + 1 ≡ k + length w) × (d.name_from at k done (t ++ q) ≡ Stops j (BadDirective at))
-  names_long k done (s.run_ends h) l e = absurd (let z : length done ≡ 256 = ap length (sym (append-nil done)) ∙ l in omega (arith, z, e))
-  names_long k done (s.run_goes {b = c} h (s.run_ends z)) l e =
-      let long : nat_le (length (done ++ c ∷ [])) 255 ≡ false = grind (arith, nat_tests) in
-      (k, omega arith, rw (h, long) refl)
-  names_long k done (s.run_goes {b = c} h (s.run_goes {b = x} {text = t} {run = run} g i)) l e =
-      let y = append_assoc done (c ∷ []) (x ∷ run) in
-      let more : length (done ++ c ∷ []) ≤ 255 = omega (arith, l, length-append done (c ∷ x ∷ run), length-append done (c ∷ [])) in
-      let short : nat_le (length (done ++ c ∷ [])) 255 ≡ true = grind (arith, nat_tests) in
-      let m = names_long (k + 1) (done ++ c ∷ []) (s.run_goes g i) (ap (λ (v : List ℕ). length v) y ∙ l) more in
-      (m.0, omega (arith, m.1), rw (h, short) (ap (λ r. past 1 r) m.2))
+  names_long : {t w : List ℕ} (k : ℕ) → IsRun is_name_byte t w [] → length w ≡ 256
+      → d.named at k (t ++ q) ≡ Stops (k + 255) (BadDirective at)
+  names_long {t} k i l =
+      let more : 256 ≤ prefix_len is_name_byte (t ++ q) = omega (arith, l, run_counted q i) in
+      let long : nat_le (prefix_len is_name_byte (t ++ q)) 255 ≡ false = grind (arith, nat_tests) in
+      rw long refl
 
 -- a directive whose % has the place `at`, in a list with the context c; m is the place after its byte
 module _ (lists deep : Lists) (c : ListContext) (at m : ℕ) where
@@ -132,13 +124,11 @@ module _ (lists deep : Lists) (c : ListContext) (at m : ℕ) where
   break_stops q r.empty_option = (m + 1 + 1 + 0, omega arith, empty)
     where
       empty : d.option at (m + 1) (123 ∷ 125 ∷ q) ≡ Stops (m + 1 + 1 + 0) (BadDirective at)
-      empty = ap (λ (z : Quoted). past 1 (d.option_text at (m + 1 + 1) z (125 ∷ q))) (none_quoted is_option {b = 125} q refl refl)
+      empty = cc (none_quoted is_option {b = 125} q refl refl)
   break_stops q (r.no_name e) = (m + 1 + 0, omega arith, rw e refl)
   break_stops q (r.open_name {name = name} i l e) =
-      (m + 1 + length name, omega (arith, run_length i), names_stop at q (m + 1) [] i l e)
-  break_stops q (r.long_name i l) =
-      let z = names_long at q (m + 1) [] i l (omega arith) in
-      (z.0, omega (arith, z.1, run_length i), z.2)
+      (m + 1 + length name, omega (arith, run_length i), names_stop at q (m + 1) i l e)
+  break_stops q (r.long_name i l) = (m + 1 + 255, omega (arith, l, run_length i), names_long at q (m + 1) i l)
   break_stops q (r.no_brace {kind = kind} {b = b} level e) = (m + 1, refl, nested ∙ rw e refl)
     where
       nested : d.directive_by lists deep c at m (kinds.WithMarkedBraces kind) (b ∷ q)

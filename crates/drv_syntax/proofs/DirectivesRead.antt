@@ -1,30 +1,29 @@
 use Rattle.drv_syntax.proofs.CallsRead.{ListReads, call_fails, call_reads}
 use Rattle.drv_syntax.proofs.ChoicesRead.{brace_ends, brace_reads}
-use Rattle.drv_syntax.proofs.Failing.{AtEnd, EndsOut, HangsOut, runs_out}
+use Rattle.drv_syntax.proofs.Failing.{AtEnd, EndsOut, HangsOut, pattern_cut, runs_out, worded_out}
 use Rattle.drv_syntax.proofs.PartsRead.{Reads, name_reads, option_reads, pattern_reads, reads_as, reads_past, reads_then, saying_reads}
-use Rattle.drv_syntax.proofs.PartsRead.{suffix_reads}
+use Rattle.drv_syntax.proofs.PartsRead.{name_fits, reads_none, run_to, suffix_reads}
 use Rattle.drv_syntax.proofs.TestsEnd.{ListEnds, name_ends}
 use Rattle.drv_syntax.specs.Bytes.{is_name_byte, is_option, is_word}
 use Rattle.drv_syntax.specs.Contexts.{ListContext, in_arguments, in_braces, in_x, is_said}
 use Rattle.drv_syntax.specs.Descent as d
-use Rattle.drv_syntax.specs.Descent.{Ends, Lists, Quoted, Read, Took, past, then_read}
+use Rattle.drv_syntax.specs.Descent.{Ends, Lists, Read, Took, past, then_read}
 use Rattle.drv_syntax.specs.Directives.{braced, said}
 use Rattle.drv_syntax.specs.Faults.{is_closed_by_end}
 use Rattle.drv_syntax.specs.Fronts as cuts
-use Rattle.drv_syntax.specs.Fronts.{CutsBrace, CutsDirective}
+use Rattle.drv_syntax.specs.Fronts.{CutsBrace, CutsDirective, RunsOut}
 use Rattle.drv_syntax.specs.Spelling as s
 use Rattle.drv_syntax.specs.Spelling.{At, IsBrace, IsCall, IsDirective, IsRun}
-use Rattle.drv_syntax.specs.Tree.{Brace, Function, Hide, Item, Items, Tests, pattern}
+use Rattle.drv_syntax.specs.Tree.{Brace, Function, Hide, Item, Items, Pattern, Tests}
 use Rattle.drv_syntax.specs.declared.directives.BraceKind.TheVariants.{InPlace}
 use Rattle.drv_syntax.specs.declared.directives.BraceKind.{BraceKind}
 use Rattle.drv_syntax.specs.declared.directives.Directive.TheVariants.{WithPattern, WithSaying}
 use Rattle.drv_syntax.specs.declared.directives.Directive.{Directive}
 use Rattle.drv_syntax.specs.declared.directives.SayKind.{SayKind}
 use Rattle.drv_syntax.specs.declared.fault.SyntaxFault.TheVariants.{TooNested}
-use Rattle.std.proofs.Common.{◌≡◌, ◌≤◌, ◌∙◌, ◌+◌, ◌-◌, ◌++◌, ◌⊎◌, Bool, false, true, if◌then◌else◌, List, [], ◌∷◌, ap, append_assoc, arith}
-use Rattle.std.proofs.Common.{inl, inr, length, length-append, refl, subst, sym, ℕ}
-use Rattle.std.proofs.lemmas.Bool.Decides.{nat_tests}
-use Rattle.std.specs.Prelude.{◌==◌, nat_le}
+use Rattle.std.proofs.Common.{◌≡◌, ◌≤◌, ◌∙◌, ◌+◌, ◌-◌, ◌++◌, ◌⊎◌, Bool, false, if◌then◌else◌, List, [], ◌∷◌, ap, arith, inl, inr, length}
+use Rattle.std.proofs.Common.{refl, ℕ}
+use Rattle.std.specs.Prelude.{◌==◌}
 
 -- What the grammar says of a directive, Descent makes of it. It serves the laws `spelled_is_read` and `front_is_unrefused`. `Reads r text x
 -- rest` says that the result r took x from the text and left this rest (PartsRead). `ListReads` and `ListEnds` say of all lists with a
@@ -35,15 +34,9 @@ use Rattle.std.specs.Prelude.{◌==◌, nat_le}
 abbrev pub cut_place : ℕ → ℕ → Directive → ℕ
 cut_place size n f = if is_closed_by_end f then size - 1 else n
 
--- a name that isn't closed, after so much of it
-names_end : (at n : ℕ) (done : List ℕ) {t name : List ℕ} → IsRun is_name_byte t name [] → length (done ++ name) ≤ 255
-    → d.name_from at n done t ≡ Ends at
-names_end at n done (s.run_ends h) l = refl
-names_end at n done (s.run_goes {b} {text} {run} e i) l =
-    let regrouped = append_assoc done (b ∷ []) run in
-    let short : length (done ++ b ∷ []) ≤ 255 = omega (arith, l, length-append done (b ∷ run), length-append done (b ∷ [])) in
-    let fits : nat_le (length (done ++ b ∷ [])) 255 ≡ true = grind (arith, nat_tests) in
-    rw (e, fits) (ap (λ r. past 1 r) (names_end at (n + 1) (done ++ b ∷ []) i (subst (λ (v : List ℕ). length v ≤ 255) (sym regrouped) l)))
+-- a name that isn't closed
+names_end : (at n : ℕ) {t name : List ℕ} → IsRun is_name_byte t name [] → length name ≤ 255 → d.named at n t ≡ Ends at
+names_end at n i l = rw (name_fits i l, (run_to i).1) refl
 
 -- a directive whose % has the place `at`, in a list with the context c; n is the place of its byte
 module _ (lists deep : Lists) (c : ListContext) (at n : ℕ) where
@@ -96,7 +89,7 @@ module _ (lists deep : Lists) (c : ListContext) (at n : ℕ) where
     directive_reads (s.temp_name {kind = kind} i) place = suffix_reads kind (n + 1) i
     directive_reads (s.add_option i) place = option_reads at (n + 1) i
     directive_reads (s.saying {kind = kind} i e) place = saying_reads c.kind kind (n + 1) i e
-    directive_reads (s.named_text {b = b} {name = name} i l) place = name_reads at (n + 1) [] b name i l refl
+    directive_reads (s.named_text {b = b} i l) place = name_reads at (n + 1) b i l
     directive_reads (s.hide i) place =
         let m = pattern_reads at (n + 1) i in
         reads_then (λ p used. Took (Hide p) used) m (record { size = m.size; is = refl; left = m.left; fits = m.fits })
@@ -124,42 +117,35 @@ module _ (lists deep : Lists) (c : ListContext) (at n : ℕ) where
           (brace_ends lists deep c at size (xs (cut_level i)) deeper (x_ends (cut_level i)) deeper_end m i place)
 
       -- where the text ends in %e or %n, it ends in a backslash, or the directive is read up to the end
-      saying_out : (kind : SayKind) (text : List ℕ) → HangsOut (is_said c.kind) text ⊎ EndsOut (is_said c.kind) text → At size (n + 1) text
-          → DirOut (WithSaying kind) text
-      saying_out kind text (inl h) place =
-          let last : n + 1 + h.0 ≡ size - 1 = omega (arith, place, h.2) in
-          inl (ap (λ (q : Quoted). d.saying_text kind (n + 1) q text) h.1 ∙ ap (λ (i : ℕ). Ends i) last)
-      saying_out kind text (inr (word, used, e, l, k)) place = inr (
-        said kind word,
-        record {
-          size = used;
-          is = ap (λ (q : Quoted). d.saying_text kind (n + 1) q text) e ∙ ap (λ (x : List ℕ). d.saying_end kind word used x) l;
-          left = l;
-          fits = omega (arith, k);
-        },
-      )
+      saying_out : (kind : SayKind) {text : List ℕ} → RunsOut (is_said c.kind) text → At size (n + 1) text → DirOut (WithSaying kind) text
+      saying_out kind o place = worded_out (n + 1) (λ m. Ends m) (λ word m rest. d.saying_end kind word rest)
+          (λ m e. let last : m ≡ size - 1 = omega (arith, place, e) in ap (λ (i : ℕ). Ends i) last)
+          (λ word m. inr (said kind word, reads_none [] refl)) o
 
       -- where the text ends in %< or %>, the directive isn't closed, or is read up to the end
-      hide_out : (text : List ℕ) → HangsOut is_word text ⊎ EndsOut is_word text → DirOut WithPattern text
-      hide_out text (inl h) = inl (ap (λ (q : Quoted). then_read (d.pattern_text at (n + 1) q text) (λ p used. Took (Hide p) used)) h.1)
-      hide_out text (inr ([], used, e, l, k)) =
-          inl (ap (λ (q : Quoted). then_read (d.pattern_text at (n + 1) q text) (λ p used. Took (Hide p) used)) e
-          ∙ ap (λ (x : List ℕ). then_read (d.pattern_end at (n + 1) [] used x) (λ p used. Took (Hide p) used)) l)
-      hide_out text (inr (b ∷ word, used, e, l, k)) = inr (
-        Hide (pattern (b ∷ word) false),
-        record {
-          size = used;
-          is = ap (λ (q : Quoted). then_read (d.pattern_text at (n + 1) q text) (λ p used. Took (Hide p) used)) e
-              ∙ ap (λ (x : List ℕ). then_read (d.pattern_end at (n + 1) (b ∷ word) used x) (λ p used. Took (Hide p) used)) l;
-          left = l;
-          fits = omega (arith, k);
-        },
-      )
+      hide_out : {text : List ℕ} → RunsOut is_word text → DirOut WithPattern text
+      hide_out {text} o = by (pattern_cut at (n + 1) o)
+        where
+          by : (d.pattern_at at (n + 1) text ≡ Ends at) ⊎ ((p : Pattern) × Reads (d.pattern_at at (n + 1) text) text p [])
+              → DirOut WithPattern text
+          by (inl e) = inl (ap (λ r. then_read r (λ p used. Took (Hide p) used)) e)
+          by (inr m) = inr (
+            Hide m.0,
+            reads_then (λ p used. Took (Hide p) used) m.1 (record {
+              size = m.1.size;
+              is = refl;
+              left = m.1.left;
+              fits = m.1.fits;
+            }),
+          )
 
       -- where the text ends in %x{, Descent says that the directive isn't closed
-      option_out : (text : List ℕ) → HangsOut is_option text ⊎ EndsOut is_option text → d.option at (n + 1) (123 ∷ text) ≡ Ends at
-      option_out text (inl h) = ap (λ (q : Quoted). past 1 (d.option_text at (n + 1 + 1) q text)) h.1
-      option_out text (inr (word, used, e, l, k)) = cc (e, l)
+      option_out : {text : List ℕ} → RunsOut is_option text → d.option at (n + 1) (123 ∷ text) ≡ Ends at
+      option_out {text} o = by (runs_out o)
+        where
+          by : HangsOut is_option text ⊎ EndsOut is_option text → d.option at (n + 1) (123 ∷ text) ≡ Ends at
+          by (inl h) = cc (h.1)
+          by (inr h) = cc (h.1.is, h.1.left)
 
       -- where by the grammar the text ends in a directive, this isn't closed, or is read up to the end
       pub directive_out : {f : Directive} {text : List ℕ} → CutsDirective size c f text → At size (n + 1) text → DirOut f text
@@ -167,13 +153,13 @@ module _ (lists deep : Lists) (c : ListContext) (at n : ℕ) where
           let last : n + 1 ≡ size - 1 = omega (arith, place) in
           inl (ap (λ (i : ℕ). Ends i) last)
       directive_out cuts.cut_option place = inl refl
-      directive_out (cuts.cut_option_text {text = text} o) place = inl (option_out text (runs_out o))
-      directive_out (cuts.cut_saying {kind = kind} {text = text} o) place = saying_out kind text (runs_out o) place
-      directive_out (cuts.cut_name i l) place = inl (names_end at (n + 1) [] i l)
-      directive_out (cuts.cut_hide {text = text} o) place = hide_out text (runs_out o)
+      directive_out (cuts.cut_option_text o) place = inl (option_out o)
+      directive_out (cuts.cut_saying {kind = kind} o) place = saying_out kind o place
+      directive_out (cuts.cut_name i l) place = inl (names_end at (n + 1) i l)
+      directive_out (cuts.cut_hide o) place = hide_out o
       directive_out (cuts.cut_function (cuts.in_function {text = text} e h)) place =
           inl (nest_is (d.call lists c at (n + 1) text) e
-          ∙ ap (λ r. d.within at (then_read r (d.call_in lists c (n + 1) text))) (name_ends at (n + 1) [] text h))
+          ∙ ap (λ r. d.within at (then_read r (d.call_in Function lists c (n + 1) text))) (name_ends at (n + 1) [] text h))
       directive_out (cuts.cut_function (cuts.in_function_arguments {text = text} name e is l)) place =
           inl (nest_is (d.call lists c at (n + 1) (name ++ 40 ∷ text)) e
           ∙ call_fails Function c lists at at (AtEnd 0) (n + 1) name text is (λ m p. args_end e m text l (omega (arith, place, p))))

@@ -2,19 +2,19 @@ use Rattle.drv_syntax.proofs.Failing.{Failure, failed, then_fails}
 use Rattle.drv_syntax.proofs.Heads.{no_sign, no_white, pattern_head}
 use Rattle.drv_syntax.proofs.Leads.{differs, other}
 use Rattle.drv_syntax.proofs.MeantRuns.{empty_run}
-use Rattle.drv_syntax.proofs.PartsRead.{Reads, beyond, byte_next, reads_as, reads_past, runs_to}
+use Rattle.drv_syntax.proofs.PartsRead.{Reads, beyond, byte_next, reads_as, reads_byte, reads_none, reads_past, runs_to, worded_reads}
 use Rattle.drv_syntax.proofs.PatternsRead.{patterns_read}
 use Rattle.drv_syntax.proofs.TestsRead.{from_reads, mark_is, mark_reads, switch_reads, test_goes, tests_go}
 use Rattle.drv_syntax.specs.Bytes.{is_mark, is_of, is_white, is_word}
 use Rattle.drv_syntax.specs.Contexts.{ListContext}
 use Rattle.drv_syntax.specs.Descent as d
-use Rattle.drv_syntax.specs.Descent.{Lists, Operand, Patterns, Quoted, Read, Took, quoted, then_read}
+use Rattle.drv_syntax.specs.Descent.{Ends, Lists, Operand, Patterns, Read, Took, then_read}
 use Rattle.drv_syntax.specs.Refusals.{AtBar, AtFront, ends_pattern}
 use Rattle.drv_syntax.specs.Spelling as s
 use Rattle.drv_syntax.specs.Spelling.{ArePatterns, AreSpaces, At, IsPattern, IsQuoted, span}
 use Rattle.drv_syntax.specs.Tree.{Pattern, Span, pattern}
-use Rattle.std.proofs.Common.{◌≡◌, ◌∙◌, ◌+◌, ◌⊎◌, Bool, false, true, if◌then◌else◌, List, [], ◌∷◌, ap, arith, drop, inl, inr, length, refl}
-use Rattle.std.proofs.Common.{subst, suc, sym, ℕ}
+use Rattle.std.proofs.Common.{◌≡◌, ◌∙◌, ◌+◌, ◌⊎◌, Bool, false, true, if◌then◌else◌, List, [], ◌∷◌, ap, arith, inl, inr, length, refl, subst}
+use Rattle.std.proofs.Common.{suc, sym, ℕ}
 use Rattle.std.specs.Prelude.{◌==◌, Some}
 
 -- What the grammar says of patterns at the front of braces, where tests could be as well, Descent makes of it. It serves the laws
@@ -50,48 +50,26 @@ module _ (deep : Lists) (c : ListContext) (at : ℕ) where
 
   -- what Descent makes of the text after a mark, where patterns may be
   abbrev marks : ℕ → ℕ → List ℕ → Read Operand
-  marks mark n t = d.mark_text at true mark n (quoted is_word t) t
+  marks mark n t = d.mark_text at true mark n t
 
   -- a mark alone, with white space or the end of a pattern after it, is read
   bare_reads : (mark n b : ℕ) (rest : List ℕ) → IsQuoted is_word (b ∷ rest) [] (b ∷ rest) → (b == 42) ≡ false
       → (is_white b ≡ true) ⊎ (is_of ends_pattern b ≡ true) → Reads (marks mark n (b ∷ rest)) (b ∷ rest) (d.bare_operand mark) (b ∷ rest)
   bare_reads mark n b rest i e f =
       let m = runs_to i in
-      record {
-        size = 0;
-        is = ap (λ (q : Quoted). d.mark_text at true mark n q (b ∷ rest)) m.is
-            ∙ ap (λ (t : List ℕ). d.mark_end at true mark n [] m.size t) m.left
-            ∙ bare_took at mark n b e f;
-        left = refl;
-        fits = omega arith;
-      }
+      worded_reads n (λ m. Ends at) (λ word m rest. d.mark_end at true mark word m rest) m
+      (reads_none (b ∷ rest) (bare_took at mark (n + m.size) b e f))
 
   -- after a mark, a word with a star is read as a starred pattern
   starred_reads : (mark n : ℕ) (word : List ℕ) {t rest : List ℕ} → IsQuoted is_word t word (42 ∷ rest)
       → Reads (marks mark n t) t (d.starred_operand mark word) rest
-  starred_reads mark n [] {t} {rest} i =
+  starred_reads mark n word {rest = rest} i =
       let m = runs_to i in
-      let e : t ≡ 42 ∷ rest = empty_run i in
-      record {
-        size = 1;
-        is = ap (λ (q : Quoted). d.mark_text at true mark n q t) m.is ∙ ap (λ (t : List ℕ). d.mark_end at true mark n [] m.size t) m.left;
-        left = ap (λ (t : List ℕ). drop 1 t) e;
-        fits = ap length e ∙ one (length rest);
-      }
+      worded_reads n (λ m. Ends at) (λ word m rest. d.mark_end at true mark word m rest) m (reads_byte 42 rest (ended word (n + m.size)))
     where
-      one : (k : ℕ) → suc k ≡ 1 + k
-      one k = omega arith
-  starred_reads mark n (x ∷ word) {t} {rest} i =
-      let m = runs_to i in
-      let e = byte_next t m.size m.left m.fits in
-      let one : suc m.size ≡ m.size + 1 = omega arith in
-      record {
-        size = m.size + 1;
-        is = ap (λ (q : Quoted). d.mark_text at true mark n q t) m.is
-            ∙ ap (λ (t : List ℕ). d.mark_end at true mark n (x ∷ word) m.size t) m.left;
-        left = ap (λ (i : ℕ). drop i t) (sym one) ∙ e.0;
-        fits = omega (arith, e.1);
-      }
+      ended : (word : List ℕ) (m : ℕ) → d.mark_end at true mark word m (42 ∷ rest) ≡ Took (d.starred_operand mark word) 1
+      ended [] m = refl
+      ended (x ∷ word) m = refl
 
   -- Descent reads what may be a test as something that may be this pattern
   abbrev Operates : ℕ → List ℕ → Pattern → List ℕ → Type 0

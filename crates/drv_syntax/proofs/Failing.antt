@@ -1,9 +1,13 @@
+use Rattle.drv_syntax.specs.Bytes.{is_word}
+use Rattle.drv_syntax.specs.Tree.{Pattern, pattern}
+use Rattle.drv_syntax.proofs.PartsRead.{Reads, RunsTo, reads_none, run_byte, run_escape, runs_to, worded_reads}
 use Rattle.drv_syntax.specs.Descent as d
-use Rattle.drv_syntax.specs.Descent.{Ends, Quoted, Read, Run, Stops, past, quoted, then_read, with_byte, within}
+use Rattle.drv_syntax.specs.Descent.{Ends, Quoted, Read, Stops, past, quoted, then_read, with_byte, within, worded}
 use Rattle.drv_syntax.specs.Fronts as cuts
+use Rattle.drv_syntax.specs.Spelling as s
 use Rattle.drv_syntax.specs.Fronts.{RunsOut}
 use Rattle.drv_syntax.specs.declared.fault.SyntaxFault.{SyntaxFault}
-use Rattle.std.proofs.Common.{◌≡◌, ◌∙◌, ◌+◌, ◌⊎◌, Bool, List, [], ◌∷◌, ap, arith, drop, drop-drop, inl, inr, length, refl, sym, ℕ}
+use Rattle.std.proofs.Common.{◌≡◌, ◌∙◌, ◌+◌, ◌⊎◌, Bool, List, [], ◌∷◌, ap, arith, inl, inr, length, refl, ℕ, false}
 
 -- How Descent fails on a text that the grammar says is cut short or refused. It serves the laws `front_is_unrefused` and `refusal_kinds`. A
 -- `Failure` is one of the two ways to fail. `r ≡ failed f` says that the result r fails in the way f. `around at f` is how the directive
@@ -47,10 +51,10 @@ within_fails r (AtEnd inner) at e = ap (λ r. within at r) e.1
 within_fails r (AtByte n fault) at e = ap (λ r. within at r) e
 
 -- a directive fails as the list in it does, whatever would follow that list
-pub within_then : {X Y : Type 0} (r : Read X) (f : Failure) (at : ℕ) (goes : X → ℕ → Read Y) → Fails r f
-    → within at (then_read r goes) ≡ failed (around at f)
-within_then r (AtEnd inner) at goes e = ap (λ r. within at (then_read r goes)) e.1
-within_then r (AtByte n fault) at goes e = ap (λ r. within at (then_read r goes)) e
+pub within_then : {X Y : Type 0} (r : Read X) (f : Failure) (at k : ℕ) (goes : X → ℕ → Read Y) → Fails r f
+    → within at (past k (then_read r goes)) ≡ failed (around at f)
+within_then r (AtEnd inner) at k goes e = ap (λ r. within at (past k (then_read r goes))) e.1
+within_then r (AtByte n fault) at k goes e = ap (λ r. within at (past k (then_read r goes))) e
 
 -- a run up to the end of the text
 abbrev pub HangsOut : (ℕ → Bool) → List ℕ → Type 0
@@ -58,33 +62,48 @@ HangsOut f text = (size : ℕ) × (quoted f text ≡ d.Hangs size) × (size + 1 
 
 -- a run of bytes and escapes takes the whole text, which doesn't end in an escape
 abbrev pub EndsOut : (ℕ → Bool) → List ℕ → Type 0
-EndsOut f text = (word : List ℕ) × (size : ℕ) × (quoted f text ≡ Run word size) × (drop size text ≡ []) × (size ≡ length text)
+EndsOut f text = (word : List ℕ) × RunsTo f text word []
 
 -- a run up to the end of the text either hangs at a backslash, which is the last byte, or is the whole text
 pub runs_out : {f : ℕ → Bool} {text : List ℕ} → RunsOut f text → HangsOut f text ⊎ EndsOut f text
-runs_out cuts.out_end = inr ([], 0, refl, refl, refl)
+runs_out cuts.out_end = inr ([], runs_to s.quoted_end)
 runs_out cuts.out_backslash = inl (0, refl, omega arith)
 runs_out {f} (cuts.out_escape {b} {text} o) = by (runs_out o)
   where
     by : HangsOut f text ⊎ EndsOut f text → HangsOut f (92 ∷ b ∷ text) ⊎ EndsOut f (92 ∷ b ∷ text)
     by (inl h) = inl (2 + h.0, ap (λ (q : Quoted). with_byte b 2 q) h.1, omega (arith, h.2))
-    by (inr h) = inr (
-      b ∷ h.0,
-      2 + h.1,
-      ap (λ (q : Quoted). with_byte b 2 q) h.2,
-      sym (drop-drop h.1 2 (92 ∷ b ∷ text)) ∙ h.3,
-      omega (arith, h.4),
-    )
+    by (inr h) = inr (b ∷ h.0, run_escape b h.1)
 runs_out {f} (cuts.out_byte {b} {text} e g o) = by text (runs_out o)
   where
     by : (text : List ℕ) → HangsOut f text ⊎ EndsOut f text → HangsOut f (b ∷ text) ⊎ EndsOut f (b ∷ text)
-    by [] h = inr (b ∷ [], 1, rw (e, g) refl, refl, refl)
+    by text (inr h) = inr (b ∷ h.0, run_byte e g h.1)
+    by [] (inl h) = absurd (omega (arith, h.2))
     by (c ∷ text) (inl h) = inl (1 + h.0, rw (e, g) (ap (λ (q : Quoted). with_byte b 1 q) h.1), omega (arith, h.2))
-    by (c ∷ text) (inr h) =
-        inr (
-          b ∷ h.0,
-          1 + h.1,
-          rw (e, g) (ap (λ (q : Quoted). with_byte b 1 q) h.2),
-          sym (drop-drop h.1 1 (b ∷ c ∷ text)) ∙ h.3,
-          omega (arith, h.4),
-        )
+
+-- where the text ends in a word, a part that begins with it gives what it says of that, or of the text's end after the word
+pub worded_out : {X : Type 0} {f : ℕ → Bool} {text : List ℕ} {at : ℕ} (n : ℕ) (hangs : ℕ → Read X) (goes : List ℕ → ℕ → List ℕ → Read X)
+    → ((m : ℕ) → m + 1 ≡ n + length text → hangs m ≡ Ends at)
+    → ((word : List ℕ) (m : ℕ) → (goes word m [] ≡ Ends at) ⊎ ((x : X) × Reads (goes word m []) [] x [])) → RunsOut f text
+    → (worded hangs goes n (quoted f text) text ≡ Ends at) ⊎ ((x : X) × Reads (worded hangs goes n (quoted f text) text) text x [])
+worded_out {X} {f} {text} {at} n hangs goes h k o = by (runs_out o)
+  where
+    after : {word : List ℕ} (m : RunsTo f text word [])
+        → (goes word (n + m.size) [] ≡ Ends at) ⊎ ((x : X) × Reads (goes word (n + m.size) []) [] x [])
+        → (worded hangs goes n (quoted f text) text ≡ Ends at) ⊎ ((x : X) × Reads (worded hangs goes n (quoted f text) text) text x [])
+    after {word} m (inl e) = inl (ap (λ q. worded hangs goes n q text) m.is
+        ∙ ap (λ (t : List ℕ). past m.size (goes word (n + m.size) t)) m.left ∙ ap (λ r. past m.size r) e)
+    after m (inr z) = inr (z.0, worded_reads n hangs goes m z.1)
+
+    by : HangsOut f text ⊎ EndsOut f text
+        → (worded hangs goes n (quoted f text) text ≡ Ends at) ⊎ ((x : X) × Reads (worded hangs goes n (quoted f text) text) text x [])
+    by (inl g) = inl (ap (λ q. worded hangs goes n q text) g.1 ∙ h (n + g.0) (omega (arith, g.2)))
+    by (inr g) = after g.1 (k g.0 (n + g.1.size))
+
+-- where the text ends in a pattern, this isn't closed, or is read up to the end
+pub pattern_cut : {text : List ℕ} (at n : ℕ) → RunsOut is_word text
+    → (d.pattern_at at n text ≡ Ends at) ⊎ ((p : Pattern) × Reads (d.pattern_at at n text) text p [])
+pattern_cut at n o = worded_out n (λ m. Ends at) (λ word m rest. d.pattern_end at word m rest) (λ m e. refl) ended o
+  where
+    ended : (word : List ℕ) (m : ℕ) → (d.pattern_end at word m [] ≡ Ends at) ⊎ ((p : Pattern) × Reads (d.pattern_end at word m []) [] p [])
+    ended [] m = inl refl
+    ended (x ∷ word) m = inr (pattern (x ∷ word) false, reads_none [] refl)

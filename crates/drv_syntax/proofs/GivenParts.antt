@@ -9,7 +9,7 @@ use Rattle.drv_syntax.specs.declared.descent.reader.Spelled.{Spelled}
 use Rattle.drv_syntax.specs.Code.Tests.{pattern_given}
 use Rattle.drv_syntax.specs.Contexts.{Kind, is_said}
 use Rattle.drv_syntax.specs.Descent.{Ends, Hangs, Quoted, Read, Run, Stops, Took, function_from, option, option_end, option_text, past}
-use Rattle.drv_syntax.specs.Descent.{pattern_at, pattern_end, pattern_text, quoted, saying, saying_end, saying_text, then_read}
+use Rattle.drv_syntax.specs.Descent.{pattern_at, pattern_end, quoted, saying, saying_end, then_read, worded}
 use Rattle.drv_syntax.specs.Directives.{said}
 use Rattle.drv_syntax.specs.Labels.{part_label, word_label}
 use Rattle.drv_syntax.specs.Tree.{AddOption, Hide, Item, Pattern, pattern}
@@ -137,35 +137,16 @@ given_shorter {X = X} outer v u x r h =
 
 -- words with escapes
 
--- where the text ends in a backslash within a run of bytes, the part with this run is not closed
-pub quoted_hung : {Y Z : Type 0} (outer : Option ℕ) (v u : Reading) (g : Y → Left → Z) (q : Quoted) (goes : Quoted → Read Y) (place : ℕ → ℕ)
-    → ((size : ℕ) → goes (Hangs size) ≡ Ends (place (v.rest.at + size))) → quoted_to [] v q ≡ (None, u)
-    → given outer v.rest g (goes q) ≡ Err (Unclosed (open_at outer (place u.rest.at)))
-quoted_hung outer v u g (Run w size) goes place is e =
+-- where the text ends in a backslash within a word, a part that begins with it gives what it says of that
+pub quoted_hung : {X Y : Type 0} (outer : Option ℕ) (v u : Reading) (g : X → Left → Y) (hangs : ℕ → Read X)
+    (goes : List ℕ → ℕ → List ℕ → Read X) (q : Quoted) → quoted_to [] v q ≡ (None, u)
+    → given outer v.rest g (worded hangs goes v.rest.at q v.rest.bytes) ≡ given outer v.rest g (hangs u.rest.at)
+quoted_hung outer v u g hangs goes (Run w size) e =
     let n : Some w ≡ None = ap (λ (z : Option (List ℕ) × Reading). z.0) e in
     absurd cc
-quoted_hung outer v u g (Hangs size) goes place is e =
-    let p : after size v.rest ≡ u.rest = ap (λ (z : Option (List ℕ) × Reading). z.1.rest) e in
-    cc (is size, p)
-
--- a part that ends with a run of bytes and escapes
-module _ {Y Z : Type 0} (outer : Option ℕ) (g : Y → Left → Z) where
-  -- a part of so many bytes is one of none, from the rest after them
-  took_none : (rest : Left) (size : ℕ) (x : Y) → given outer rest g (Took x size) ≡ given outer (after size rest) g (Took x 0)
-  took_none rest size x = ap (λ (r : Left). Ok (g x r)) (sym (after_none (after size rest)))
-
-  -- a part of so many bytes and one more is one of one byte, from the rest after them
-  took_more : (rest : Left) (size : ℕ) (x : Y) → given outer rest g (Took x (size + 1)) ≡ given outer (after size rest) g (Took x 1)
-  took_more rest size x = ap (λ (r : Left). Ok (g x r)) (after_after size 1 rest)
+quoted_hung outer v u g hangs goes (Hangs size) e = ap (λ (z : Option (List ℕ) × Reading). given outer v.rest g (hangs z.1.rest.at)) e
 
 -- %x{..}
-
--- the end of %x{..} gives the same, whether its bytes are counted with it or already taken
-option_shift : {Z : Type 0} (outer : Option ℕ) (rest : Left) (g : Item → Left → Z) (at n : ℕ) (w : List ℕ) (size : ℕ) (bs : List ℕ)
-    → given outer rest g (option_end at n w size bs) ≡ given outer (after size rest) g (option_end at n w 0 bs)
-option_shift outer rest g at n w size [] = refl
-option_shift outer rest g at n [] size (b ∷ bs) = refl
-option_shift outer rest g at n (x ∷ w) size (b ∷ bs) = took_more outer g rest size (AddOption (x ∷ w))
 
 -- %x{OPTION}, whose % has the place `at`; v is what was read up to its x
 module _ (outer : Option ℕ) (at : ℕ) (v : Reading) where
@@ -175,11 +156,11 @@ module _ (outer : Option ℕ) (at : ℕ) (v : Reading) where
 
   -- what %x{ gives from this rest on: the option and the brace that closes it
   abbrev inside : Left → Result Reading SyntaxFault
-  inside rest = item_given outer at (at_rest rest v) (option_text at rest.at (quoted is_option rest.bytes) rest.bytes)
+  inside rest = item_given outer at (at_rest rest v) (option_text at rest.at rest.bytes)
 
   -- %x with a brace gives what it gives after the brace
   past_brace : (bs : List ℕ) → bs ≡ ascii.opening_brace ∷ drop 1 bs → v.rest.bytes ≡ bs → reads bs ≡ inside (after 1 v.rest)
-  past_brace bs e g = rw (e, given_past_here (option_text at (v.rest.at + 1) (quoted is_option (drop 1 bs)) (drop 1 bs)), ← g) refl
+  past_brace bs e g = rw (e, given_past_here (option_text at (v.rest.at + 1) (drop 1 bs)), ← g) refl
     where
       given_past_here : (r : Read Item) → item_given outer at v (past 1 r) ≡ item_given outer at (at_rest (after 1 v.rest) v) r
       given_past_here (Took x size) = cc (after_after 1 size v.rest)
@@ -194,33 +175,20 @@ module _ (outer : Option ℕ) (at : ℕ) (v : Reading) where
   -- where the text ends in a backslash within %x{, the directive is not closed
   pub option_hung : (rest : Left) (u : Reading) → quoted_to [] (at_rest rest v) (quoted is_option rest.bytes) ≡ (None, u)
       → inside rest ≡ Err (Unclosed (open_at outer at))
-  option_hung rest u e = quoted_hung outer (at_rest rest v) u
-      (λ x l. record { rest = l; parts = item_written at x l.at v.parts }) (quoted is_option rest.bytes)
-      (λ q. option_text at rest.at q rest.bytes)
-      (λ i. at) (λ size. refl) e
+  option_hung rest u e = quoted_hung outer (at_rest rest v) u (λ x l. record { rest = l; parts = item_written at x l.at v.parts })
+      (λ m. Ends at) (λ word m bs. option_end at word m bs) (quoted is_option rest.bytes) e
 
   -- what the end of %x{..} gives after these bytes
   abbrev option_left : Reading → List ℕ → List ℕ → Result Reading SyntaxFault
   option_left u w bs = given outer u.rest (λ x l. record { rest = l; parts = item_written at x l.at v.parts })
-      (option_end at u.rest.at w 0 bs)
+      (option_end at w u.rest.at bs)
 
   -- once the run of bytes in %x{ is read, the directive gives what its end gives
   pub option_word : (rest : Left) (u : Reading) (word : List ℕ) → quoted_to [] (at_rest rest v) (quoted is_option rest.bytes)
       ≡ (Some word, u)
       → inside rest ≡ option_left u word u.rest.bytes
-  option_word rest u word e =
-      quoted_took outer (at_rest rest v) u (λ x l. record { rest = l; parts = item_written at x l.at v.parts })
-      (quoted is_option rest.bytes) word
-      (λ q. option_text at rest.at q rest.bytes) (λ w size bs. option_end at rest.at w size bs) (λ w size. refl)
-      (λ w size bs. option_shift outer rest (λ x l. record { rest = l; parts = item_written at x l.at v.parts }) at rest.at w size bs) e
-      ∙ by word u.rest.bytes
-    where
-      by : (w bs : List ℕ)
-          → given outer u.rest (λ x l. record { rest = l; parts = item_written at x l.at v.parts }) (option_end at rest.at w 0 bs)
-          ≡ option_left u w bs
-      by w [] = refl
-      by [] (b ∷ bs) = refl
-      by (x ∷ w) (b ∷ bs) = refl
+  option_word rest u word e = quoted_took outer (at_rest rest v) u (λ x l. record { rest = l; parts = item_written at x l.at v.parts })
+      (λ m. Ends at) (λ word m bs. option_end at word m bs) (quoted is_option rest.bytes) word e
 
   -- where the text ends after the bytes in %x{, the directive is not closed
   pub option_end_cut : (u : Reading) (word : List ℕ) → None ≡ first_of u.rest.bytes
@@ -248,28 +216,17 @@ quoted_parts v u (Hangs size) e = ap (λ (z : Option (List ℕ) × Reading). z.1
 
 -- %e and %n
 
--- the end of %e and %n gives the same, whether the bytes of their text are counted with it or already taken
-saying_shift : {Z : Type 0} (outer : Option ℕ) (rest : Left) (g : Item → Left → Z) (kind : SayKind) (w : List ℕ) (size : ℕ) (bs : List ℕ)
-    → given outer rest g (saying_end kind w size bs) ≡ given outer (after size rest) g (saying_end kind w 0 bs)
-saying_shift outer rest g kind w size [] = took_none outer g rest size (said kind w)
-saying_shift outer rest g kind w size (b ∷ bs) = by (b == ascii.newline)
-  where
-    by : (t : Bool) → given outer rest g (if t then Took (said kind w) (size + 1) else Took (said kind w) size)
-        ≡ given outer (after size rest) g (if t then Took (said kind w) (0 + 1) else Took (said kind w) 0)
-    by true = took_more outer g rest size (said kind w)
-    by false = took_none outer g rest size (said kind w)
-
 -- after the text of %e or %n, a newline that follows is taken too
 saying_ends : {Z : Type 0} (outer : Option ℕ) (rest : Left) (g : Item → Left → Z) (kind : SayKind) (w : List ℕ)
-    → given outer rest g (saying_end kind w 0 rest.bytes) ≡ Ok (g (said kind w) (past_byte ascii.newline rest))
+    → given outer rest g (saying_end kind w rest.bytes) ≡ Ok (g (said kind w) (past_byte ascii.newline rest))
 saying_ends outer rest g kind w = by rest.bytes
   where
-    at_byte : (t : Bool) → given outer rest g (if t then Took (said kind w) (0 + 1) else Took (said kind w) 0)
+    at_byte : (t : Bool) → given outer rest g (if t then Took (said kind w) 1 else Took (said kind w) 0)
         ≡ Ok (g (said kind w) (if t then after 1 rest else rest))
     at_byte true = refl
     at_byte false = ap (λ (l : Left). Ok (g (said kind w) l)) (after_none rest)
 
-    by : (bs : List ℕ) → given outer rest g (saying_end kind w 0 bs) ≡ Ok
+    by : (bs : List ℕ) → given outer rest g (saying_end kind w bs) ≡ Ok
         (g (said kind w) (if begins_with ascii.newline bs then after 1 rest else rest))
     by [] = ap (λ (l : Left). Ok (g (said kind w) l)) (after_none rest)
     by (b ∷ bs) = at_byte (b == ascii.newline)
@@ -283,8 +240,8 @@ module _ (outer : Option ℕ) (list : Kind) (kind : SayKind) (at : ℕ) (v : Rea
   -- where the text ends in a backslash within %e or %n, the directive is not closed
   pub saying_hung : (u : Reading) → quoted_to [] v (quoted (is_said list) v.rest.bytes) ≡ (None, u)
       → item_given outer at v (saying list kind v.rest.at v.rest.bytes) ≡ Err (Unclosed (open_at outer u.rest.at))
-  saying_hung u e = quoted_hung outer v u said_at (quoted (is_said list) v.rest.bytes) (λ q. saying_text kind v.rest.at q v.rest.bytes)
-      (λ i. i) (λ size. refl) e
+  saying_hung u e = quoted_hung outer v u said_at (λ m. Ends m) (λ word m rest. saying_end kind word rest)
+      (quoted (is_said list) v.rest.bytes) e
 
   -- %e and %n write one token, with their text as its label, up to the end of the text or past its newline
   pub saying_done : (u : Reading) (word : List ℕ) (end : Left) → quoted_to [] v (quoted (is_said list) v.rest.bytes) ≡ (Some word, u)
@@ -292,8 +249,7 @@ module _ (outer : Option ℕ) (list : Kind) (kind : SayKind) (at : ℕ) (v : Rea
       → item_given outer at v (saying list kind v.rest.at v.rest.bytes)
       ≡ Ok (leaf_here (said_kind kind) (word_label word) at (at_rest end u))
   saying_done u word end e g =
-      quoted_took outer v u said_at (quoted (is_said list) v.rest.bytes) word (λ q. saying_text kind v.rest.at q v.rest.bytes)
-      (λ w size bs. saying_end kind w size bs) (λ w size. refl) (λ w size bs. saying_shift outer v.rest said_at kind w size bs) e
+      quoted_took outer v u said_at (λ m. Ends m) (λ word m rest. saying_end kind word rest) (quoted (is_said list) v.rest.bytes) word e
       ∙ saying_ends outer u.rest said_at kind word
       ∙ ap (λ (l : Left). Ok (said_at (said kind word) l)) (sym g)
       ∙ ap (λ (z : Parts). Ok (record { rest = end; parts = item_written at (said kind word) end.at z }))
@@ -308,24 +264,6 @@ module _ (outer : Option ℕ) (list : Kind) (kind : SayKind) (at : ℕ) (v : Rea
 
 -- patterns
 
--- the end of a pattern gives the same, whether the bytes of its word are counted with it or already taken
-pattern_shift : {Z : Type 0} (outer : Option ℕ) (rest : Left) (g : Pattern → Left → Z) (at n : ℕ) (w : List ℕ) (size : ℕ) (bs : List ℕ)
-    → given outer rest g (pattern_end at n w size bs) ≡ given outer (after size rest) g (pattern_end at n w 0 bs)
-pattern_shift outer rest g at n [] size [] = refl
-pattern_shift outer rest g at n (x ∷ w) size [] = took_none outer g rest size (pattern (x ∷ w) false)
-pattern_shift outer rest g at n [] size (b ∷ bs) = by (b == ascii.asterisk)
-  where
-    by : (t : Bool) → given outer rest g (if t then Took (pattern [] true) (size + 1) else Stops (n + size) (EmptyTest at))
-        ≡ given outer (after size rest) g (if t then Took (pattern [] true) (0 + 1) else Stops (n + 0) (EmptyTest at))
-    by true = took_more outer g rest size (pattern [] true)
-    by false = refl
-pattern_shift outer rest g at n (x ∷ w) size (b ∷ bs) = by (b == ascii.asterisk)
-  where
-    by : (t : Bool) → given outer rest g (if t then Took (pattern (x ∷ w) true) (size + 1) else Took (pattern (x ∷ w) false) size)
-        ≡ given outer (after size rest) g (if t then Took (pattern (x ∷ w) true) (0 + 1) else Took (pattern (x ∷ w) false) 0)
-    by true = took_more outer g rest size (pattern (x ∷ w) true)
-    by false = took_none outer g rest size (pattern (x ∷ w) false)
-
 -- what is made of whether a star follows, or the fault
 abbrev star_then : {Z : Type 0} → Result Bool SyntaxFault → (Bool → Z) → Result Z SyntaxFault
 star_then (Ok star) f = Ok (f star)
@@ -333,22 +271,22 @@ star_then (Err fault) f = Err fault
 
 -- after its word, a pattern gives what the code decides by the next byte: a star belongs to it, and without a word it needs one
 pattern_ends : {Z : Type 0} (outer : Option ℕ) (rest : Left) (g : Pattern → Left → Z) (at n : ℕ) (word : List ℕ)
-    → given outer rest g (pattern_end at n word 0 rest.bytes)
+    → given outer rest g (pattern_end at word n rest.bytes)
     ≡ star_then (star_after outer at (is_empty word) (first_of rest.bytes)) (λ star. g (pattern word star) (past_byte ascii.asterisk rest))
 pattern_ends outer rest g at n word = by word rest.bytes
   where
-    empty : (t : Bool) → given outer rest g (if t then Took (pattern [] true) (0 + 1) else Stops (n + 0) (EmptyTest at))
+    empty : (t : Bool) → given outer rest g (if t then Took (pattern [] true) 1 else Stops n (EmptyTest at))
         ≡ star_then (if t then Ok true else Err (EmptyTest at)) (λ star. g (pattern [] star) (if t then after 1 rest else rest))
     empty true = refl
     empty false = refl
 
     some : (x : ℕ) (w : List ℕ) (t : Bool)
-        → given outer rest g (if t then Took (pattern (x ∷ w) true) (0 + 1) else Took (pattern (x ∷ w) false) 0)
+        → given outer rest g (if t then Took (pattern (x ∷ w) true) 1 else Took (pattern (x ∷ w) false) 0)
         ≡ star_then (if t then Ok true else Ok false) (λ star. g (pattern (x ∷ w) star) (if t then after 1 rest else rest))
     some x w true = refl
     some x w false = ap (λ (l : Left). Ok (g (pattern (x ∷ w) false) l)) (after_none rest)
 
-    by : (w bs : List ℕ) → given outer rest g (pattern_end at n w 0 bs)
+    by : (w bs : List ℕ) → given outer rest g (pattern_end at w n bs)
         ≡ star_then (star_after outer at (is_empty w) (first_of bs))
         (λ star. g (pattern w star) (if begins_with ascii.asterisk bs then after 1 rest else rest))
     by [] [] = refl
@@ -365,8 +303,8 @@ module _ (outer : Option ℕ) (at : ℕ) (v : Reading) where
   -- where the text ends in a backslash within a pattern, the directive is not closed
   pub pattern_hung : (u : Reading) → quoted_to [] v (quoted is_word v.rest.bytes) ≡ (None, u)
       → pattern_given outer v (pattern_at at v.rest.at v.rest.bytes) ≡ Err (Unclosed (open_at outer at))
-  pattern_hung u e = quoted_hung outer v u as_pattern (quoted is_word v.rest.bytes) (λ q. pattern_text at v.rest.at q v.rest.bytes)
-      (λ i. at) (λ size. refl) e
+  pattern_hung u e = quoted_hung outer v u as_pattern (λ m. Ends at) (λ word m rest. pattern_end at word m rest)
+      (quoted is_word v.rest.bytes) e
 
   -- once its word is read, a pattern gives what the code's `star_after` decides; it leaves what follows the word and its star
   pub pattern_by : (u : Reading) (word : List ℕ) → quoted_to [] v (quoted is_word v.rest.bytes) ≡ (Some word, u)
@@ -374,10 +312,8 @@ module _ (outer : Option ℕ) (at : ℕ) (v : Reading) where
       ≡ star_then (star_after outer at (is_empty word) (first_of u.rest.bytes))
       (λ star. (pattern word star, at_rest (past_byte ascii.asterisk u.rest) u))
   pattern_by u word e =
-      quoted_took outer v u as_pattern (quoted is_word v.rest.bytes) word (λ q. pattern_text at v.rest.at q v.rest.bytes)
-      (λ w size bs. pattern_end at v.rest.at w size bs) (λ w size. refl)
-      (λ w size bs. pattern_shift outer v.rest as_pattern at v.rest.at w size bs) e
-      ∙ pattern_ends outer u.rest as_pattern at v.rest.at word
+      quoted_took outer v u as_pattern (λ m. Ends at) (λ word m rest. pattern_end at word m rest) (quoted is_word v.rest.bytes) word e
+      ∙ pattern_ends outer u.rest as_pattern at u.rest.at word
       ∙ ap (λ (z : Parts). star_then (star_after outer at (is_empty word) (first_of u.rest.bytes))
       (λ star. (pattern word star, record { rest = past_byte ascii.asterisk u.rest; parts = z })))
       (quoted_parts v u (quoted is_word v.rest.bytes) e)
@@ -395,6 +331,14 @@ hidden_done outer at v u word star h =
     (given_parts outer v u (pattern word star) (pattern_at at v.rest.at v.rest.bytes) h)
     ∙ ap (λ (z : Parts). Ok (record { rest = u.rest; parts = z })) (leaf_is kinds.Hide (part_label word star false asking.Switch) at
     u.rest.at u.parts)
+
+-- the fault of its pattern is that of %< and %>
+pub hidden_stops : (outer : Option ℕ) (at : ℕ) (v : Reading) (fault : SyntaxFault)
+    → pattern_given outer v (pattern_at at v.rest.at v.rest.bytes) ≡ Err fault
+    → item_given outer at v (hidden at v.rest.at v.rest.bytes) ≡ Err fault
+hidden_stops outer at v fault h =
+    given_stops outer v.rest (λ p l. (p, at_rest l v)) (λ x l. record { rest = l; parts = item_written at x l.at v.parts })
+    (pattern_at at v.rest.at v.rest.bytes) (λ p size. Took (Hide p) size) fault h
 
 -- what the code has of a run
 

@@ -1,5 +1,5 @@
 use Rattle.drv_syntax.proofs.GivenParts.{given_parts, given_then, ok_same}
-use Rattle.drv_syntax.proofs.Writing.{after_after, leaf_is}
+use Rattle.drv_syntax.proofs.Writing.{after_after, given_past, leaf_is}
 use Rattle.drv_syntax.proofs.Wrote.{closed_is, list_wrote, wrote_both, wrote_none}
 use Rattle.drv_syntax.specs.Code.Left.{Left, after}
 use Rattle.drv_syntax.specs.Code.Lists.{around, brace_given, brace_kind, choice_written, choices_written, closed_at, closed_here}
@@ -7,7 +7,7 @@ use Rattle.drv_syntax.specs.Code.Lists.{list_written, listed_given, tail_at}
 use Rattle.drv_syntax.specs.Code.Tests.{opened, patterns_written}
 use Rattle.drv_syntax.specs.Code.Writing.{Parts, Reading, given, item_given, item_written, leafed, named_given, open_at, wrote}
 use Rattle.drv_syntax.specs.Contexts.{ListContext, in_arguments}
-use Rattle.drv_syntax.specs.Descent.{Ends, Lists, Read, Stops, Took, call, call_in, function_from, levels, then_read, within}
+use Rattle.drv_syntax.specs.Descent.{Ends, Lists, Read, Stops, Took, arguments_of, call, call_in, function_from, levels, then_read, within}
 use Rattle.drv_syntax.specs.Directives.{braced}
 use Rattle.drv_syntax.specs.Labels.{choice_nodes, no_label, no_node, node, nodes_of, pattern_label, pattern_nodes, word_label}
 use Rattle.drv_syntax.specs.Stars.{choices_have_star, has_star, tests_have_star}
@@ -52,32 +52,18 @@ module _ (outer : Option ℕ) (at : ℕ) (lists : Lists) (c : ListContext) (v : 
   abbrev as_item : Item → Left → Reading
   as_item x l = record { rest = l; parts = item_written at x l.at v.parts }
 
-  -- what the arguments of this name give, with the parenthesis that closes them
-  abbrev arguments : List ℕ → ℕ → List ℕ → Read Item
-  arguments name n text = then_read (lists (in_arguments c) n text) (λ list size. Took (Function name list.0) (size + 1))
-
-  -- after k bytes of the name and its parenthesis come the arguments
-  arguments_at : (name : List ℕ) (k : ℕ)
-      → given (Some (open_at outer at)) v.rest as_item (call_in lists c v.rest.at v.rest.bytes name k)
-      ≡ given (Some (open_at outer at)) (after k v.rest) as_item (arguments name (v.rest.at + k) (drop k v.rest.bytes))
-  arguments_at name k = by (lists (in_arguments c) (v.rest.at + k) (drop k v.rest.bytes))
-    where
-      by : (r : Read (Items × ℕ))
-          → given (Some (open_at outer at)) v.rest as_item (then_read r (λ list size. Took (Function name list.0) (k + (size + 1))))
-          ≡ given (Some (open_at outer at)) (after k v.rest) as_item (then_read r (λ list size. Took (Function name list.0) (size + 1)))
-      by (Took list size) = ap (λ (l : Left). Ok (as_item (Function name list.0) l)) (after_after k (size + 1) v.rest)
-      by (Ends n) = refl
-      by (Stops n fault) = refl
-
   -- once its name is read, a call gives its arguments
   call_named : (name : List ℕ) (u : Reading)
       → named_given (Some (open_at outer at)) v (function_from at v.rest.at [] v.rest.bytes) ≡ Ok (name, u)
       → item_given outer at v (call lists c at v.rest.at v.rest.bytes)
-      ≡ given (Some (open_at outer at)) u.rest as_item (arguments name u.rest.at u.rest.bytes)
+      ≡ given (Some (open_at outer at)) u.rest as_item (arguments_of Function lists c name u.rest.at u.rest.bytes)
   call_named name u h =
-      given_within outer at v.rest as_item (then_read (function_from at v.rest.at [] v.rest.bytes) (call_in lists c v.rest.at v.rest.bytes))
+      given_within outer at v.rest as_item (then_read (function_from at v.rest.at [] v.rest.bytes)
+      (call_in Function lists c v.rest.at v.rest.bytes))
       ∙ given_then (Some (open_at outer at)) v u name as_item (function_from at v.rest.at [] v.rest.bytes)
-      (call_in lists c v.rest.at v.rest.bytes) (λ x n text. arguments x n text) (λ x k. arguments_at x k) h
+      (call_in Function lists c v.rest.at v.rest.bytes) (λ x n bs. arguments_of Function lists c x n bs)
+      (λ x k. given_past (Some (open_at outer at)) v.rest as_item k (arguments_of Function lists c x (v.rest.at + k) (drop k
+      v.rest.bytes))) h
 
   -- once a function's name and its arguments are read, the code's open token, the arguments and the closed token are the item of the call
   pub call_done : (name : List ℕ) (u w : Reading) (part : Open) (x : Reading) (tail : Tail) (end : Left)

@@ -226,7 +226,7 @@ module _ (k : ℕ) (q : List ℕ) where
         let z = function_stops n (n + 1 + 1) q i in
         byte_fails n b (last ++ q) al (ap (λ (x : Directive). by_byte n (last ++ q) x) e
         ∙ nest_is lists deep c n (n + 1) (d.call lists c n (n + 1 + 1) (last ++ q)) f
-        ∙ ap (λ r. d.within n (then_read r (d.call_in lists c (n + 1 + 1) (last ++ q)))) z.2
+        ∙ ap (λ r. d.within n (then_read r (d.call_in Function lists c (n + 1 + 1) (last ++ q)))) z.2
         ∙ stops_at (λ x. UnknownFunction x) (omega (arith, place, z.1)) (omega (arith, place, p)))
     item_fails n (r.hides_nothing {n = m} {b = b} {x = x} p al e i) place =
         byte_fails n b (x ∷ q) al (ap (λ (y : Directive). by_byte n (x ∷ q) y) e

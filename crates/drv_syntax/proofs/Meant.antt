@@ -123,6 +123,13 @@ module _ {X : Type 0} (l : Looks) (n k : ℕ) (text : List ℕ) (m : Step text k
       (g (n + length text) (drop k text) (near_self (drop k text)) place e))
   meant_past (meant_stops {k = i} {fault} s) f g h = meant_stops (breaks_past i fault s h)
 
+-- a part of so many bytes, and of none more, is meant where it is taken
+pub took_here : {X : Type 0} {l : Looks} {n : ℕ} {text : List ℕ} {Is : ℕ → List ℕ → X → List ℕ → Type 0} {Cuts : ℕ → List ℕ → Type 0}
+    {Bad : ℕ → List ℕ → SyntaxFault → Type 0} {x : X} {size : ℕ} → Takes l n text Is x size → Meant l n text Is Cuts Bad (Took x (size + 0))
+took_here {l = l} {n} {text} {Is} {Cuts} {Bad} {x} {size} t =
+    let same_size : size ≡ size + 0 = omega arith in
+    subst (λ (i : ℕ). Meant l n text Is Cuts Bad (Took x i)) same_size (meant_took t)
+
 -- where a part is meant, and what goes on from it is meant too, both in a row are
 pub meant_then : {X Y : Type 0} {o l : Looks} {n : ℕ} {text : List ℕ} {First : ℕ → List ℕ → X → List ℕ → Type 0}
     {Ending : ℕ → List ℕ → Type 0} {Stopping : ℕ → List ℕ → SyntaxFault → Type 0} {Is : ℕ → List ℕ → Y → List ℕ → Type 0}

@@ -98,7 +98,7 @@ module _ {X : Type 0} (make : List ℕ → Items → X) (g : ListContext) (inner
 
   -- the arguments of a call, with the parenthesis that closes them, are what the grammar says
   arguments_meant : (called : List ℕ) (n : ℕ) (text : List ℕ)
-      → ArgsMeant called n text (then_read (lists (in_arguments g) n text) (λ list size. Took (make called list.0) (size + 1)))
+      → ArgsMeant called n text (d.arguments_of make lists g called n text)
   arguments_meant called n text = meant_then (λ list size. Took (make called list.0) (size + 1)) (meets n text) closed
       (λ total t place near i. i) (λ total t fault place near i. (i.1, i.2, i.3, i.4))
     where
@@ -119,20 +119,15 @@ module _ {X : Type 0} (make : List ℕ → Items → X) (g : ListContext) (inner
 
   -- a function's name with its parenthesis and its arguments, in a list or in a test, are what the grammar says
   pub call_meant : (n : ℕ) (text : List ℕ) (around : ℕ) → CallMeant n text
-      (d.within around (then_read (d.function_from at n [] text) (λ called k.
-      then_read (lists (in_arguments g) (n + k) (drop k text)) (λ list size. Took (make called list.0) (k + (size + 1))))))
-  call_meant n text around = meant_within around (meant_then (λ called k.
-      then_read (lists (in_arguments g) (n + k) (drop k text)) (λ list size. Took (make called list.0) (k + (size + 1))))
-      (function_meant at n [] text refl) goes (λ total t place near i. cuts.in_function inner i)
+      (d.within around (then_read (d.function_from at n [] text) (d.call_in make lists g n text)))
+  call_meant n text around = meant_within around (meant_then (d.call_in make lists g n text) (function_meant at n [] text refl) goes
+      (λ total t place near i. cuts.in_function inner i)
       (λ total t fault place near i. subst (λ (f : SyntaxFault). CallBad g at total t f) (sym i.1) (no_function i.0)))
     where
       goes : (called : List ℕ) (k : ℕ) → Takes AtByte n text (NameIs []) called k
-          → CallMeant n text (then_read (lists (in_arguments g) (n + k) (drop k text))
-          (λ list size. Took (make called list.0) (k + (size + 1))))
+          → CallMeant n text (d.call_in make lists g n text called k)
       goes called k t =
-          subst (λ (r : Read X). CallMeant n text r)
-          (past_then k (lists (in_arguments g) (n + k) (drop k text)) (λ list size. Took (make called list.0) (size + 1)))
-          (meant_past AtByte n k text t.step _ _ _ (arguments_meant called (n + k) (drop k text)) (λ total u x q near place i.
+          meant_past AtByte n k text t.step _ _ _ (arguments_meant called (n + k) (drop k text)) (λ total u x q near place i.
           let name = t.is total u near (moved total u place) in
           (called, i.0, i.1, subst (λ (v : List ℕ). IsCall total g v called i.0 q) (sym name.0) (s.call inner name.1 i.2)))
           (λ total u near place i.
@@ -140,7 +135,7 @@ module _ {X : Type 0} (make : List ℕ → Items → X) (g : ListContext) (inner
           subst (λ (v : List ℕ). CutsCall total g v) (sym name.0) (cuts.in_function_arguments called inner name.1 i))
           (λ total u fault near place i.
           let name = t.is total u near (moved total u place) in
-          subst (λ (v : List ℕ). CallBad g at total v fault) (sym name.0) (in_list called name.1 i.2 i.3)))
+          subst (λ (v : List ℕ). CallBad g at total v fault) (sym name.0) (in_list called name.1 i.2 i.3))
         where
           moved : (total : ℕ) (u : List ℕ) → At total (n + k) u → At total n (t.step.front u)
           moved total u place = omega (arith, place, t.step.sized u)

@@ -1,30 +1,29 @@
 use Rattle.drv_words.specs.Bytes as ascii
 use Rattle.drv_syntax.proofs.Leads.{differs, le_true, same}
-use Rattle.drv_syntax.proofs.Meant as meant
 use Rattle.drv_syntax.proofs.Meant.{Meant, PastPercent, breaks_after, breaks_here, choose, meant_ends, meant_past, meant_stops, meant_then}
-use Rattle.drv_syntax.proofs.Meant.{meant_as, meant_took}
-use Rattle.drv_syntax.proofs.MeantRuns.{QuotedRun, Quotes, empty_run, pattern_meant, quotes, runs}
+use Rattle.drv_syntax.proofs.Meant.{meant_took, took_here}
+use Rattle.drv_syntax.proofs.MeantRuns.{QuotedRun, empty_run, meant_worded, pattern_meant, runs}
 use Rattle.drv_syntax.proofs.Steps.{Far, Near, byte_step, far_end, far_more, far_other, near_far, near_stops, no_step, same_byte, steps}
-use Rattle.drv_syntax.proofs.Steps.{then_byte}
+use Rattle.drv_syntax.proofs.Steps.{Step, both_end, then_byte}
 use Rattle.drv_syntax.specs.Bytes.{is_name_byte, is_option, is_suffix}
 use Rattle.drv_syntax.specs.Contexts.{ListContext, is_said}
 use Rattle.drv_syntax.specs.Descent as d
-use Rattle.drv_syntax.specs.Descent.{Hangs, Quoted, Read, Run, Took, quoted}
+use Rattle.drv_syntax.specs.Descent.{Read, Took, past}
 use Rattle.drv_syntax.specs.Fronts as cuts
 use Rattle.drv_syntax.specs.Fronts.{CutsDirective}
 use Rattle.drv_syntax.specs.Refusals as r
 use Rattle.drv_syntax.specs.Refusals.{Breaks, Due, Empty, IsNoFunction, ReachesIn, Refuses}
 use Rattle.drv_syntax.specs.Spelling as s
 use Rattle.drv_syntax.specs.Spelling.{IsDirective, IsRun, IsSuffix}
-use Rattle.drv_syntax.specs.Tree.{Hide, Item, NamedText, TempName}
+use Rattle.drv_syntax.specs.Tree.{Hide, Item, TempName}
 use Rattle.drv_syntax.specs.declared.directives.Directive.TheVariants.{WithCall, WithName, WithOption, WithPattern, WithSaying, WithSuffix}
 use Rattle.drv_syntax.specs.declared.directives.Directive.{Directive}
 use Rattle.drv_syntax.specs.declared.directives.SayKind.{SayKind}
 use Rattle.drv_syntax.specs.declared.fault.SyntaxFault.TheVariants.{BadDirective, EmptyTest, UnknownFunction}
 use Rattle.drv_syntax.specs.declared.fault.SyntaxFault.{SyntaxFault}
 use Rattle.drv_syntax.specs.declared.token.TempKind.{TempKind}
-use Rattle.std.proofs.Common.{◌≡◌, ◌≤◌, ◌∙◌, ◌+◌, ◌++◌, Bool, false, true, if◌then◌else◌, List, [], ◌∷◌, ap, append-nil, append_assoc}
-use Rattle.std.proofs.Common.{arith, drop, drop-drop, length, length-append, refl, subst, sym, ℕ}
+use Rattle.std.proofs.Common.{◌≡◌, ◌≤◌, ◌∙◌, ◌+◌, Bool, false, true, if◌then◌else◌, List, [], ◌∷◌, ap, arith, drop, drop-drop, length, refl}
+use Rattle.std.proofs.Common.{subst, suc, sym, take, zero, ℕ}
 use Rattle.std.proofs.lemmas.Bool.Decides.{nat_tests}
 use Rattle.std.specs.List.{prefix_len}
 use Rattle.std.specs.Prelude.{◌==◌, nat_le}
@@ -80,12 +79,38 @@ percent_suffix : {p b : ℕ} {u q : List ℕ} → Far (p ∷ b ∷ u) q → p �
 percent_suffix (far_other e) g h = differs (sym (ap (λ (y : ℕ). y == ascii.percent) g) ∙ e)
 percent_suffix (far_more {q = q} n) g h = subst (λ (y : ℕ). IsSuffix (y ∷ q) [] (y ∷ q)) (sym g) (near_first n h)
 
--- the name of a named text that breaks off, after so much of it
-data NamedBad (at : ℕ) (name : List ℕ) (total : ℕ) : List ℕ → SyntaxFault → Type 0 where
-  nameless : {b : ℕ} → name ≡ [] → is_name_byte b ≡ false → NamedBad at name total (b ∷ []) (BadDirective at)
-  not_closed : {b : ℕ} {t w : List ℕ} → IsRun is_name_byte t w (b ∷ []) → length (name ++ w) ≤ 255
-      → (b == ascii.closing_parenthesis) ≡ false → NamedBad at name total t (BadDirective at)
-  too_long : {t w : List ℕ} → IsRun is_name_byte t w [] → length (name ++ w) ≡ 256 → NamedBad at name total t (BadDirective at)
+-- names
+
+-- after a run of bytes of the class f no more of them follow
+run_rest : {f : ℕ → Bool} {t w u : List ℕ} → IsRun f t w u → s.Stops f u
+run_rest (s.run_ends h) = h
+run_rest (s.run_goes e i) = run_rest i
+
+-- a run without a byte takes none
+run_none : {f : ℕ → Bool} {t u : List ℕ} → IsRun f t [] u → t ≡ u
+run_none (s.run_ends h) = refl
+
+-- where f doesn't allow the first byte that follows, the test fails for it
+first : {f : ℕ → Bool} {b : ℕ} {rest : List ℕ} → s.Stops f (b ∷ rest) → f b ≡ false
+first (s.at_byte e) = e
+
+-- the first bytes of a run, so many, are a run by themselves
+run_cut : (f : ℕ → Bool) (i : ℕ) (text : List ℕ) → i ≤ prefix_len f text
+    → IsRun f (take i text) (take i text) [] × (length (take i text) ≡ i)
+run_cut f zero text h = (s.run_ends s.at_end, refl)
+run_cut f (suc i) [] h = absurd (omega (arith, h))
+run_cut f (suc i) (b ∷ text) h = by (f b) refl h (run_cut f i text)
+  where
+    by : (z : Bool) → f b ≡ z → suc i ≤ (if z then 1 + prefix_len f text else 0)
+        → (i ≤ prefix_len f text → IsRun f (take i text) (take i text) [] × (length (take i text) ≡ i))
+        → IsRun f (b ∷ take i text) (b ∷ take i text) [] × (length (b ∷ take i text) ≡ suc i)
+    by true e g more = let m = more (omega (arith, g)) in (s.run_goes e m.0, omega (arith, m.1))
+    by false e g more = absurd (omega (arith, g))
+
+-- a text begins like its first bytes
+near_cut : (i : ℕ) (text : List ℕ) → Near text (take (suc i) text)
+near_cut i [] = both_end
+near_cut i (b ∷ text) = same_byte
 
 -- a directive that holds no list, whose % has the place `at`, in a list with the context c
 module _ (c : ListContext) (at : ℕ) where
@@ -137,7 +162,7 @@ module _ (c : ListContext) (at : ℕ) where
 
   -- after its bytes, %x{ needs its brace, and is refused if it has no byte, as the grammar says
   option_end_meant : (n : ℕ) (text word : List ℕ) (size : ℕ) → QuotedRun is_option text word size → (rest : List ℕ)
-      → drop size text ≡ rest → OptionMeant n text (d.option_end at n word size rest)
+      → drop size text ≡ rest → OptionMeant n text (past size (d.option_end at word (n + size) rest))
   option_end_meant n text [] size r [] e = meant_ends (cuts.cut_option_text (r.out e))
   option_end_meant n text (x ∷ word) size r [] e = meant_ends (cuts.cut_option_text (r.out e))
   option_end_meant n text [] size q (b ∷ rest) e =
@@ -154,22 +179,17 @@ module _ (c : ListContext) (at : ℕ) where
         is = λ total u far place. s.add_option (q.is (125 ∷ u) (subst (λ (t : List ℕ). Near t (125 ∷ u)) (sym f) same_byte));
       })
 
-  -- the text after %x{ is what the grammar says
-  option_text_meant : (n : ℕ) (text : List ℕ) → OptionMeant n text (d.option_text at n (quoted is_option text) text)
-  option_text_meant n text = by (quoted is_option text) (quotes is_option text)
-    where
-      by : (q : Quoted) → Quotes is_option text q → OptionMeant n text (d.option_text at n q text)
-      by (Hangs size) o = meant_ends (cuts.cut_option_text o)
-      by (Run word size) q = option_end_meant n text word size q (drop size text) refl
-
   -- %x{OPTION} is what the grammar says
   pub option_meant : (n : ℕ) (text : List ℕ) → DirMeant c at WithOption n text (d.option at n text)
   option_meant n [] = meant_ends cuts.cut_option
   option_meant n (b ∷ text) =
       choose (DirMeant c at WithOption n (b ∷ text)) (b == ascii.opening_brace) _ _
-      (λ e. subst (λ (x : ℕ). DirMeant c at WithOption n (x ∷ text) (d.past 1 (d.option_text at (n + 1) (quoted is_option text) text)))
+      (λ e. subst (λ (x : ℕ). DirMeant c at WithOption n (x ∷ text) (past 1 (d.option_text at (n + 1) text)))
       (sym (same b 123 e)) (meant_past PastPercent n 1 (123 ∷ text) (byte_step 123 text) (DirIs c WithOption) (DirCuts c WithOption)
-      (DirBad c at WithOption) (option_text_meant (n + 1) text) (λ total t x q near place i. i) (λ total t near place i. i)
+      (DirBad c at WithOption) (meant_worded is_option (λ m. d.Ends at)
+      (λ word m rest. d.option_end at word m rest) (λ o m. meant_ends (cuts.cut_option_text o))
+      (λ word size q. option_end_meant (n + 1) text word size q (drop size text) refl)) (λ total t x q near place i. i) (λ total t near
+      place i. i)
       (λ total t fault near place i. i)))
       (λ e. meant_stops (breaks_here n b text (DirBad c at WithOption) (BadDirective at) (breaks (r.no_option e))))
 
@@ -177,19 +197,19 @@ module _ (c : ListContext) (at : ℕ) where
 
   -- after the text of %e or %n, a newline belongs to it and nothing else does, as the grammar says
   saying_end_meant : (kind : SayKind) (n : ℕ) (text word : List ℕ) (size : ℕ) → QuotedRun (is_said c.kind) text word size
-      → (rest : List ℕ) → drop size text ≡ rest → DirMeant c at (WithSaying kind) n text (d.saying_end kind word size rest)
-  saying_end_meant kind n text word size q [] e = meant_took (record {
+      → (rest : List ℕ) → drop size text ≡ rest → DirMeant c at (WithSaying kind) n text (past size (d.saying_end kind word rest))
+  saying_end_meant kind n text word size q [] e = took_here (record {
     step = q.step;
     is = λ total u far place. s.saying (q.is u (near_far far))
         (s.by_other (near_stops (near_far far) (subst (λ (t : List ℕ). s.Stops (λ x. x == ascii.newline) t) (sym e) s.at_end)));
   })
   saying_end_meant kind n text word size q (b ∷ rest) e =
-      choose (DirMeant c at (WithSaying kind) n text) (b == ascii.newline) _ _
+      choose (λ z. DirMeant c at (WithSaying kind) n text (past size z)) (b == ascii.newline) _ _
       (λ g. let f : drop size text ≡ 10 ∷ rest = e ∙ ap (λ (y : ℕ). y ∷ rest) (same b 10 g) in
       meant_took (record {
         step = then_byte size q.step 10 rest f;
         is = λ total u far place. s.saying (q.is (10 ∷ u) (subst (λ (t : List ℕ). Near t (10 ∷ u)) (sym f) same_byte)) s.by_newline;
-      })) (λ g. meant_took (record {
+      })) (λ g. took_here (record {
         step = q.step;
         is = λ total u far place. s.saying (q.is u (near_far far))
             (s.by_other (near_stops (near_far far) (subst (λ (t : List ℕ). s.Stops (λ x. x == ascii.newline) t) (sym e) (s.at_byte g))));
@@ -197,11 +217,8 @@ module _ (c : ListContext) (at : ℕ) where
 
   -- the text of %e and %n is what the grammar says
   pub saying_meant : (kind : SayKind) (n : ℕ) (text : List ℕ) → DirMeant c at (WithSaying kind) n text (d.saying c.kind kind n text)
-  saying_meant kind n text = by (quoted (is_said c.kind) text) (quotes (is_said c.kind) text)
-    where
-      by : (q : Quoted) → Quotes (is_said c.kind) text q → DirMeant c at (WithSaying kind) n text (d.saying_text kind n q text)
-      by (Hangs size) o = meant_ends (cuts.cut_saying o)
-      by (Run word size) q = saying_end_meant kind n text word size q (drop size text) refl
+  saying_meant kind n text = meant_worded (is_said c.kind) (λ m. d.Ends m) (λ word m rest. d.saying_end kind word rest)
+      (λ o m. meant_ends (cuts.cut_saying o)) (λ word size q. saying_end_meant kind n text word size q (drop size text) refl)
 
   -- %<PATTERN
 
@@ -215,102 +232,46 @@ module _ (c : ListContext) (at : ℕ) where
       (λ total t fault place near i. subst (λ (f : SyntaxFault). Bursts c at total WithPattern t f) (sym i.3)
       (subst (λ (u : List ℕ). Bursts c at total WithPattern u (EmptyTest at)) (sym i.1) (hides i.2)))
 
-  -- %(NAME), after so much of the name
+  -- %(NAME)
 
-  -- the text is the rest w of a name and its bracket, and x is the named text of the whole name
-  abbrev NamedIs : List ℕ → ℕ → List ℕ → Item → List ℕ → Type 0
-  NamedIs name total t x q = (b : ℕ) × (w : List ℕ) × (all : List ℕ) × (x ≡ NamedText (b ∷ all)) × (name ++ w ≡ b ∷ all)
-      × IsRun is_name_byte t w (ascii.closing_parenthesis ∷ q) × (length (name ++ w) ≤ 255)
-
-  -- the text is the rest of a name of at most 255 bytes, without its bracket
-  abbrev NamedCuts : List ℕ → ℕ → List ℕ → Type 0
-  NamedCuts name total t = (w : List ℕ) × IsRun is_name_byte t w [] × (length (name ++ w) ≤ 255)
-
-  -- what Descent makes of the text after this front of a name is what the grammar says
-  abbrev NamedMeant : ℕ → List ℕ → List ℕ → Read Item → Type 0
-  NamedMeant n name text x = Meant PastPercent n text (NamedIs name) (NamedCuts name) (NamedBad at name) x
-
-  -- after its bytes, a named text needs its bracket, and is refused if it has no byte, as the grammar says
-  name_end_meant : (n : ℕ) (name : List ℕ) (b : ℕ) (text : List ℕ) → length name ≤ 255 → is_name_byte b ≡ false
-      → NamedMeant n name (b ∷ text) (d.name_end at n name 0 (b ∷ text))
-  name_end_meant n [] b text h e = meant_stops (at_first (breaks_here n b text (NamedBad at []) (BadDirective at) (nameless refl e)))
-    where
-      at_first : meant.Breaks n (b ∷ text) (NamedBad at []) n (BadDirective at)
-          → meant.Breaks n (b ∷ text) (NamedBad at []) (n + 0) (BadDirective at)
-      at_first z = let f : n ≡ n + 0 = omega arith in
-          subst (λ (i : ℕ). meant.Breaks n (b ∷ text) (NamedBad at []) i (BadDirective at)) f z
-  name_end_meant n (x ∷ name) b text h e =
-      choose (NamedMeant n (x ∷ name) (b ∷ text)) (b == ascii.closing_parenthesis) _ _ (λ g. meant_took (record {
-        step = byte_step b text;
-        is = λ total q far place. (
-          x,
-          [],
-          name,
-          refl,
-          append-nil (x ∷ name),
-          subst (λ (y : ℕ). IsRun is_name_byte (b ∷ q) [] (y ∷ q)) (same b 41 g) (s.run_ends (s.at_byte e)),
-          subst (λ (t : List ℕ). length t ≤ 255) (sym (append-nil (x ∷ name))) h,
-        );
+  -- after at most 255 bytes of its name, %( needs a byte of it and its bracket, as the grammar says
+  name_end_meant : (n k : ℕ) (text name rest : List ℕ) (m : Step text k)
+      → ((q : List ℕ) → Near rest q → IsRun is_name_byte (m.front q) name q) → length name ≤ 255 → drop k text ≡ rest
+      → DirMeant c at WithName n text (past k (d.name_end at (n + k) name rest))
+  name_end_meant n k text name [] m is l e = meant_ends (subst (λ (t : List ℕ). CutsDirective (n + length text) c WithName t)
+      (ap m.front (sym e) ∙ m.whole) (cuts.cut_name (is [] both_end) l))
+  name_end_meant n k text [] (b ∷ rest) m is l e =
+      let i = is (b ∷ []) same_byte in
+      meant_stops (breaks_after n k text m b rest e (DirBad c at WithName) (BadDirective at)
+      (subst (λ (t : List ℕ). Bursts c at (n + k + 1) WithName t (BadDirective at)) (sym (run_none i))
+      (breaks (r.no_name (first (run_rest i))))))
+  name_end_meant n k text (x ∷ name) (b ∷ rest) m is l e =
+      choose (λ z. DirMeant c at WithName n text (past k z)) (b == ascii.closing_parenthesis) _ _
+      (λ g. meant_took (record {
+        step = then_byte k m 41 rest (e ∙ ap (λ (y : ℕ). y ∷ rest) (same b 41 g));
+        is = λ total q far place. s.named_text (is (41 ∷ q) (subst (λ (y : ℕ). Near (y ∷ rest) (41 ∷ q)) (sym (same b 41 g)) same_byte)) l;
       }))
-      (λ g. let f : n ≡ n + 0 = omega arith in
-      meant_stops (subst (λ (i : ℕ). meant.Breaks n (b ∷ text) (NamedBad at (x ∷ name)) i (BadDirective at)) f
-      (breaks_here n b text (NamedBad at (x ∷ name)) (BadDirective at) (not_closed (s.run_ends (s.at_byte e))
-      (subst (λ (t : List ℕ). length t ≤ 255) (sym (append-nil (x ∷ name))) h) g))))
-
-  -- a number that the test doesn't find at most another is more than that
-  le_false : (i j : ℕ) → nat_le i j ≡ false → j + 1 ≤ i
-  le_false i j h = grind (arith, nat_tests)
-
-  -- a name of a named text, and a byte that goes on with it
-  module _ (name : List ℕ) (b : ℕ) (e : is_name_byte b ≡ true) where
-    -- a byte added to a name, and then w, are the name and then the byte and w
-    regrouped : (w : List ℕ) → (name ++ b ∷ []) ++ w ≡ name ++ b ∷ w
-    regrouped w = append_assoc name (b ∷ []) w
-
-    -- a byte that doesn't fit after one byte more of a name doesn't fit after the name
-    further_bad : {total : ℕ} {t : List ℕ} {fault : SyntaxFault} → NamedBad at (name ++ b ∷ []) total t fault
-        → NamedBad at name total (b ∷ t) fault
-    further_bad (nameless z g) = absurd (let f : length (name ++ b ∷ []) ≡ 0 = ap length z in omega (arith, length-append name (b ∷ []), f))
-    further_bad (not_closed {w = w} q l g) = not_closed (s.run_goes e q) (subst (λ (v : List ℕ). length v ≤ 255) (regrouped w) l) g
-    further_bad (too_long {w = w} q l) = too_long (s.run_goes e q) (subst (λ (v : List ℕ). length v ≡ 256) (regrouped w) l)
-
-    -- one more byte of the name of a named text, and then the rest of it, are what the grammar says
-    further : (n : ℕ) (text : List ℕ) → NamedMeant (n + 1) (name ++ b ∷ []) text (d.name_from at (n + 1) (name ++ b ∷ []) text)
-        → NamedMeant n name (b ∷ text) (d.past 1 (d.name_from at (n + 1) (name ++ b ∷ []) text))
-    further n text z = meant_past PastPercent n 1 (b ∷ text) (byte_step b text) (NamedIs name) (NamedCuts name) (NamedBad at name) z
-        (λ total t x q near place i. (
-          i.0,
-          b ∷ i.1,
-          i.2,
-          i.3,
-          sym (regrouped i.1) ∙ i.4,
-          s.run_goes e i.5,
-          subst (λ (v : List ℕ). length v ≤ 255) (regrouped i.1) i.6,
-        ))
-        (λ total t near place i. (b ∷ i.0, s.run_goes e i.1, subst (λ (v : List ℕ). length v ≤ 255) (regrouped i.0) i.2))
-        (λ total t fault near place i. further_bad i)
-
-  -- after a front of its name, %(NAME) is what the grammar says
-  named_meant : (text name : List ℕ) (n : ℕ) → length name ≤ 255 → NamedMeant n name text (d.name_from at n name text)
-  named_meant [] name n h = meant_ends ([], s.run_ends s.at_end, subst (λ (v : List ℕ). length v ≤ 255) (sym (append-nil name)) h)
-  named_meant (b ∷ text) name n h =
-      choose (NamedMeant n name (b ∷ text)) (is_name_byte b) _ _
-      (λ e. choose (NamedMeant n name (b ∷ text)) (nat_le (length (name ++ b ∷ [])) 255) _ _
-      (λ g. further name b e n text (named_meant text (name ++ b ∷ []) (n + 1) (le_true g)))
-      (λ g. meant_stops (breaks_here n b text (NamedBad at name) (BadDirective at) (too_long (s.run_goes e (s.run_ends s.at_end))
-      (let f : 255 + 1 ≤ length (name ++ b ∷ []) = le_false (length (name ++ b ∷ [])) 255 g in
-      omega (arith, length-append name (b ∷ []), f, h))))))
-      (λ e. name_end_meant n name b text h e)
-
-  -- a byte that doesn't fit in a name doesn't fit in %(
-  name_bad : {total : ℕ} {t : List ℕ} {fault : SyntaxFault} → NamedBad at [] total t fault → Bursts c at total WithName t fault
-  name_bad (nameless z e) = breaks (r.no_name e)
-  name_bad (not_closed q l g) = breaks (r.open_name q l g)
-  name_bad (too_long q l) = breaks (r.long_name q l)
+      (λ g. meant_stops (breaks_after n k text m b rest e (DirBad c at WithName) (BadDirective at)
+      (breaks (r.open_name (is (b ∷ []) same_byte) l g))))
 
   -- %(NAME) is what the grammar says
-  pub name_meant : (n : ℕ) (text : List ℕ) → DirMeant c at WithName n text (d.name_from at n [] text)
-  name_meant n text = meant_as (named_meant text [] n (omega arith))
-      (λ total t x q place near i. subst (λ (y : Item). IsDirective total c WithName t y q) (sym i.3)
-      (s.named_text (subst (λ (v : List ℕ). IsRun is_name_byte t v (41 ∷ q)) i.4 i.5) (subst (λ (v : List ℕ). length v ≤ 255) i.4 i.6)))
-      (λ total t place near i. cuts.cut_name i.1 i.2) (λ total t fault place near i. name_bad i)
+  pub name_meant : (n : ℕ) (text : List ℕ) → DirMeant c at WithName n text (d.named at n text)
+  name_meant n text =
+      choose (DirMeant c at WithName n text) (nat_le (prefix_len is_name_byte text) 255) _ _
+      (λ e. let m = runs is_name_byte text in
+      name_end_meant n (prefix_len is_name_byte text) text (take (prefix_len is_name_byte text) text)
+      (drop (prefix_len is_name_byte text) text) m.0 m.1 (short (le_true e)) refl)
+      (λ e. let m = run_cut is_name_byte 256 text (long e) in
+      meant_stops (record {
+        cut = take 256 text;
+        near = near_cut 255 text;
+        taken = ap (λ (i : ℕ). take i text) (sym m.1);
+        place = omega (arith, m.1);
+        bad = breaks (r.long_name m.0 m.1);
+      }))
+    where
+      short : prefix_len is_name_byte text ≤ 255 → length (take (prefix_len is_name_byte text) text) ≤ 255
+      short h = omega (arith, h, (run_cut is_name_byte (prefix_len is_name_byte text) text (omega arith)).1)
+
+      long : nat_le (prefix_len is_name_byte text) 255 ≡ false → 256 ≤ prefix_len is_name_byte text
+      long h = grind (arith, nat_tests)

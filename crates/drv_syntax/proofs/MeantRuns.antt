@@ -1,6 +1,7 @@
 use Rattle.drv_words.specs.Bytes as ascii
 use Rattle.drv_syntax.proofs.Leads.{same}
 use Rattle.drv_syntax.proofs.Meant.{AtByte, Meant, breaks_after, breaks_here, choose, meant_ends, meant_past, meant_stops, meant_took}
+use Rattle.drv_syntax.proofs.Meant.{Looks, took_here}
 use Rattle.drv_syntax.proofs.Steps.{Near, Step, both_end, byte_step, near_stops, no_step, same_byte, steps, then_byte}
 use Rattle.drv_syntax.specs.Bytes.{is_function, is_function_front, is_white, is_word}
 use Rattle.drv_syntax.specs.Descent as d
@@ -109,6 +110,19 @@ quotes f (b ∷ c ∷ text) =
     (quoted f (c ∷ text))
     (quotes f (c ∷ text))) (λ g. no_run f b (c ∷ text) e g))
 
+-- where what a word that is cut short gives, and what goes on from a whole one, are meant, both in a row are
+pub meant_worded : {X : Type 0} {l : Looks} {n : ℕ} {text : List ℕ} {Is : ℕ → List ℕ → X → List ℕ → Type 0} {Cuts : ℕ → List ℕ → Type 0}
+    {Bad : ℕ → List ℕ → SyntaxFault → Type 0} (f : ℕ → Bool) (hangs : ℕ → d.Read X) (goes : List ℕ → ℕ → List ℕ → d.Read X)
+    → (RunsOut f text → (m : ℕ) → Meant l n text Is Cuts Bad (hangs m))
+    → ((word : List ℕ) (size : ℕ) → QuotedRun f text word size
+    → Meant l n text Is Cuts Bad (d.past size (goes word (n + size) (drop size text))))
+    → Meant l n text Is Cuts Bad (d.worded hangs goes n (quoted f text) text)
+meant_worded {l = l} {n} {text} {Is} {Cuts} {Bad} f hangs goes h g = by (quoted f text) (quotes f text)
+  where
+    by : (q : Quoted) → Quotes f text q → Meant l n text Is Cuts Bad (d.worded hangs goes n q text)
+    by (Hangs size) o = h o (n + size)
+    by (Run word size) q = g word size q
+
 -- white space
 
 -- the first bytes of the text, so many, are white space, and no more follows
@@ -185,8 +199,8 @@ module _ (at n : ℕ) (text : List ℕ) where
 
   -- a word that no star follows is a pattern without one
   unstarred_meant : (x : ℕ) (word : List ℕ) (size : ℕ) → QuotedRun is_word text (x ∷ word) size
-      → s.Stops (λ b. b == ascii.asterisk) (drop size text) → PatternMeant (d.Took (pattern (x ∷ word) false) size)
-  unstarred_meant x word size r h = meant_took (record {
+      → s.Stops (λ b. b == ascii.asterisk) (drop size text) → PatternMeant (d.Took (pattern (x ∷ word) false) (size + 0))
+  unstarred_meant x word size r h = took_here (record {
     step = r.step;
     is = λ total q near place. s.unstarred (r.is q near)
         (near_stops near h);
@@ -194,12 +208,12 @@ module _ (at n : ℕ) (text : List ℕ) where
 
   -- what follows the word of a pattern is what the grammar says: a star, another byte, or the end of the text
   end_meant : (word : List ℕ) (size : ℕ) → QuotedRun is_word text word size → (rest : List ℕ) → drop size text ≡ rest
-      → PatternMeant (d.pattern_end at n word size rest)
+      → PatternMeant (d.past size (d.pattern_end at word (n + size) rest))
   end_meant [] size r [] e = meant_ends (r.out e)
   end_meant (x ∷ word) size r [] e = unstarred_meant x word size r (subst (λ (t : List ℕ). s.Stops (λ b. b == ascii.asterisk) t) (sym e)
       s.at_end)
   end_meant [] size r (b ∷ rest) e =
-      choose PatternMeant (b == ascii.asterisk) _ _ (λ h. starred_meant [] size b rest r e h)
+      choose (λ z. PatternMeant (d.past size z)) (b == ascii.asterisk) _ _ (λ h. starred_meant [] size b rest r e h)
       (λ h. meant_stops (breaks_after n size text r.step b rest e (PatternBad at) (EmptyTest at) (
         b,
         empty_run (r.is (b ∷ []) (subst (λ (t : List ℕ). Near t (b ∷ [])) (sym e) same_byte)),
@@ -215,16 +229,13 @@ module _ (at n : ℕ) (text : List ℕ) where
       first : {f : ℕ → Bool} → s.Stops f (b ∷ rest) → f b ≡ false
       first (s.at_byte g) = g
   end_meant (x ∷ word) size r (b ∷ rest) e =
-      choose PatternMeant (b == ascii.asterisk) _ _ (λ h. starred_meant (x ∷ word) size b rest r e h)
+      choose (λ z. PatternMeant (d.past size z)) (b == ascii.asterisk) _ _ (λ h. starred_meant (x ∷ word) size b rest r e h)
       (λ h. unstarred_meant x word size r (subst (λ (t : List ℕ). s.Stops (λ x. x == ascii.asterisk) t) (sym e) (s.at_byte h)))
 
   -- a pattern, which is a word, a word with a star or a star alone, is what the grammar says
   pub pattern_meant : PatternMeant (d.pattern_at at n text)
-  pattern_meant = by (quoted is_word text) (quotes is_word text)
-    where
-      by : (q : Quoted) → Quotes is_word text q → PatternMeant (d.pattern_text at n q text)
-      by (Hangs size) r = meant_ends r
-      by (Run word size) r = end_meant word size r (drop size text) refl
+  pattern_meant = meant_worded is_word (λ m. d.Ends at) (λ word m rest. d.pattern_end at word m rest) (λ o m. meant_ends o)
+      (λ word size r. end_meant word size r (drop size text) refl)
 
 -- names of functions
 

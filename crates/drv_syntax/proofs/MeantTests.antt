@@ -1,14 +1,15 @@
+use Rattle.drv_syntax.proofs.PartsRead.{past_none}
 use Rattle.drv_words.specs.Bytes as ascii
 use Rattle.drv_syntax.proofs.Leads.{differs, each, other, same}
 use Rattle.drv_syntax.proofs.Meant.{AtByte, Meant, breaks_after, breaks_here, choose, meant_as, meant_ends, meant_past, meant_stops}
-use Rattle.drv_syntax.proofs.Meant.{meant_then, meant_took}
+use Rattle.drv_syntax.proofs.Meant.{meant_then, meant_took, took_here}
 use Rattle.drv_syntax.proofs.MeantCalls.{CallBad, CallMeant, ListMeant, call_meant, in_list, no_function}
-use Rattle.drv_syntax.proofs.MeantRuns.{QuotedRun, Quotes, Spaced, empty_run, pattern_meant, quotes, spaces}
+use Rattle.drv_syntax.proofs.MeantRuns.{QuotedRun, Spaced, empty_run, meant_worded, pattern_meant, spaces}
 use Rattle.drv_syntax.proofs.Steps.{Near, byte_step, near_self, near_stops, no_step, resized, same_byte, then_byte}
 use Rattle.drv_syntax.specs.Bytes.{is_mark, is_of, is_white, is_word}
 use Rattle.drv_syntax.specs.Contexts.{ListContext, in_arguments, in_braces}
 use Rattle.drv_syntax.specs.Descent as d
-use Rattle.drv_syntax.specs.Descent.{Ends, Hangs, Lists, Operand, Quoted, Read, Run, Stops, Took, Tried, past, quoted, then_read}
+use Rattle.drv_syntax.specs.Descent.{Ends, Lists, Operand, Read, Stops, Took, Tried, past, then_read}
 use Rattle.drv_syntax.specs.Fronts as cuts
 use Rattle.drv_syntax.specs.Fronts.{CutsAsked, CutsPatterns, CutsTests}
 use Rattle.drv_syntax.specs.Refusals as r
@@ -20,7 +21,7 @@ use Rattle.drv_syntax.specs.Tree.{Asked, HasLanguage, HasResult, HasSuffix, HasS
 use Rattle.drv_syntax.specs.declared.fault.SyntaxFault.TheVariants.{BadDirective, EmptyTest, TooNested}
 use Rattle.drv_syntax.specs.declared.fault.SyntaxFault.{SyntaxFault}
 use Rattle.std.proofs.Common.{◌≡◌, ◌∙◌, ◌+◌, ◌⊎◌, Bool, false, true, if◌then◌else◌, List, [], ◌∷◌, ap, arith, drop, inl, inr, refl, subst}
-use Rattle.std.proofs.Common.{sym, ℕ}
+use Rattle.std.proofs.Common.{length, sym, ℕ}
 use Rattle.std.specs.List.{prefix_len}
 use Rattle.std.specs.Prelude.{◌-◌, ◌==◌}
 
@@ -153,42 +154,47 @@ module _ (deep : Lists) (c : ListContext) (outer : (c.levels == 0) ≡ false)
           (λ k. meant_stops (breaks_here n b rest (λ total t fault. Bad total (mark ∷ t) fault) (EmptyTest at)
           (mark_bad h is (mark_pattern is f g e) k (rw (i, j) refl)))))))
 
-      -- a run of no bytes
-      run_none : {n size b : ℕ} {text rest : List ℕ} {x : Read Operand} → QuotedRun is_word text [] size → drop size text ≡ b ∷ rest
-          → ((b == ascii.backslash) ≡ false → is_word b ≡ false → MarkMeant n (b ∷ rest) x) → MarkMeant n text x
-      run_none {n} {size} {b} {text} {rest} {x} q e k =
+      -- after a run of no bytes comes what comes at the front of the text
+      run_none : {n size b : ℕ} {text rest : List ℕ} (x : ℕ → Read Operand) → QuotedRun is_word text [] size → drop size text ≡ b ∷ rest
+          → ((b == ascii.backslash) ≡ false → is_word b ≡ false → MarkMeant n (b ∷ rest) (x n))
+          → MarkMeant n text (past size (x (n + size)))
+      run_none {n} {size} {b} {text} {rest} x q e k =
           let none = empty_run (q.is (drop size text) (near_self (drop size text))) in
-          subst (λ (t : List ℕ). MarkMeant n t x) (sym (sym q.step.whole ∙ none ∙ e))
-          (k (first (subst (λ (t : List ℕ). s.Stops (λ y. y == ascii.backslash) t) e q.plain))
-          (first (subst (λ (t : List ℕ). s.Stops is_word t) e
-          q.stops)))
+          let whole : text ≡ drop size text = sym q.step.whole ∙ none in
+          let zero : size ≡ 0 = omega (arith, ap length whole, ap length q.step.whole, q.step.sized (drop size text)) in
+          let same_place : n + size ≡ n = omega (arith, zero) in
+          subst (λ (t : List ℕ). MarkMeant n t (past size (x (n + size)))) (sym (whole ∙ e))
+          (subst (λ (r : Read Operand). MarkMeant n (b ∷ rest) r) (sym (ap (λ (i : ℕ). past i (x (n + size))) zero
+          ∙ past_none (x (n + size))
+          ∙ ap x same_place)) (k (first (subst (λ (t : List ℕ). s.Stops (λ y. y == ascii.backslash) t) e q.plain))
+          (first (subst (λ (t : List ℕ). s.Stops is_word t) e q.stops))))
 
       -- a mark and its word that no star follows are a test or a pattern, as the grammar says
       marked_took : (n x size : ℕ) (text word : List ℕ) → QuotedRun is_word text (x ∷ word) size
-          → s.Stops (λ y. y == ascii.asterisk) (drop size text) → MarkMeant n text (Took (d.marked_operand mark (x ∷ word)) size)
-      marked_took n x size text word q h = meant_took (record {
+          → s.Stops (λ y. y == ascii.asterisk) (drop size text) → MarkMeant n text (Took (d.marked_operand mark (x ∷ word)) (size + 0))
+      marked_took n x size text word q h = took_here (record {
         step = q.step;
         is = λ total u near place. by_mark is (q.is u near) (near_stops near h);
       })
 
       -- after a mark and its word, Descent takes what the grammar says
       mark_end_meant : (n size : ℕ) (text word : List ℕ) → QuotedRun is_word text word size → (rest : List ℕ) → drop size text ≡ rest
-          → (emits : Bool) → may_emit order negated ≡ emits → MarkMeant n text (d.mark_end at emits mark n word size rest)
+          → (emits : Bool) → may_emit order negated ≡ emits → MarkMeant n text (past size (d.mark_end at emits mark word (n + size) rest))
       mark_end_meant n size text [] q [] e emits h = meant_ends (cuts.cut_marked is (q.out e))
       mark_end_meant n size text (x ∷ word) q [] e emits h = marked_took n x size text word q
           (subst (λ (t : List ℕ). s.Stops (λ y. y == ascii.asterisk) t) (sym e) s.at_end)
-      mark_end_meant n size text [] q (b ∷ rest) e true h = run_none q e (λ f g. bare_meant n b rest h f g)
-      mark_end_meant n size text [] q (b ∷ rest) e false h = run_none q e (λ f g. meant_stops (breaks_here n b rest
-          (λ total t fault. Bad total (mark ∷ t) fault) (EmptyTest at) (asked_bad (r.word_due h is) (r.no_word f g))))
+      mark_end_meant n size text [] q (b ∷ rest) e true h = run_none (λ m. d.bare_end at mark m b) q e (λ f g. bare_meant n b rest h f g)
+      mark_end_meant n size text [] q (b ∷ rest) e false h = run_none (λ m. Stops m (EmptyTest at)) q e (λ f g. meant_stops
+          (breaks_here n b rest (λ total t fault. Bad total (mark ∷ t) fault) (EmptyTest at) (asked_bad (r.word_due h is) (r.no_word f g))))
       mark_end_meant n size text (x ∷ word) q (b ∷ rest) e true h =
-          choose (MarkMeant n text) (b == ascii.asterisk) _ _
+          choose (λ z. MarkMeant n text (past size z)) (b == ascii.asterisk) _ _
           (λ i. let f : drop size text ≡ 42 ∷ rest = e ∙ ap (λ (y : ℕ). y ∷ rest) (same b 42 i) in
           meant_took (record {
             step = then_byte size q.step 42 rest f;
             is = λ total u near place. by_star h is (q.is (42 ∷ u) (subst (λ (t : List ℕ). Near t (42 ∷ u)) (sym f) same_byte));
           })) (λ i. marked_took n x size text word q (subst (λ (t : List ℕ). s.Stops (λ y. y == ascii.asterisk) t) (sym e) (s.at_byte i)))
       mark_end_meant n size text (x ∷ word) q (b ∷ rest) e false h =
-          choose (MarkMeant n text) (b == ascii.asterisk) _ _
+          choose (λ z. MarkMeant n text (past size z)) (b == ascii.asterisk) _ _
           (λ i. let f : drop size text ≡ 42 ∷ rest = e ∙ ap (λ (y : ℕ). y ∷ rest) (same b 42 i) in
           meant_stops (breaks_after n size text q.step 42 rest f (λ total t fault. Bad total (mark ∷ t) fault) (BadDirective at)
           (asked_bad (r.test_ends h (asked_marked is (q.is (42 ∷ []) (subst (λ (t : List ℕ). Near t (42 ∷ []))
@@ -197,12 +203,10 @@ module _ (deep : Lists) (c : ListContext) (outer : (c.levels == 0) ≡ false)
           (λ i. marked_took n x size text word q (subst (λ (t : List ℕ). s.Stops (λ y. y == ascii.asterisk) t) (sym e) (s.at_byte i)))
 
       -- what follows the mark of a test is what the grammar says
-      mark_meant : (n : ℕ) (text : List ℕ) → MarkMeant n text (d.mark_text at (may_emit order negated) mark n (quoted is_word text) text)
-      mark_meant n text = by (quoted is_word text) (quotes is_word text)
-        where
-          by : (q : Quoted) → Quotes is_word text q → MarkMeant n text (d.mark_text at (may_emit order negated) mark n q text)
-          by (Hangs size) o = meant_ends (cuts.cut_marked is o)
-          by (Run word size) q = mark_end_meant n size text word q (drop size text) refl (may_emit order negated) refl
+      mark_meant : (n : ℕ) (text : List ℕ) → MarkMeant n text (d.mark_text at (may_emit order negated) mark n text)
+      mark_meant n text = meant_worded is_word (λ m. Ends at) (λ word m rest. d.mark_end at (may_emit order negated) mark word m rest)
+          (λ o m. meant_ends (cuts.cut_marked is o))
+          (λ word size q. mark_end_meant n size text word q (drop size text) refl (may_emit order negated) refl)
 
     -- a function's result
 
@@ -218,7 +222,7 @@ module _ (deep : Lists) (c : ListContext) (outer : (c.levels == 0) ≡ false)
     result_meant n (b ∷ text) e =
         choose (λ x. AskedMeant n (37 ∷ b ∷ text) (past 1 x)) (b == ascii.colon) _ _
         (λ f. subst (λ (y : ℕ). AskedMeant n (37 ∷ y ∷ text) (past 1 (past 1 (d.within at (then_read (d.function_from n (n + 2) [] text)
-        (d.result_in deep c (n + 2) text)))))) (sym (same b 58 f)) inside)
+        (d.call_in d.result_operand deep (in_braces c) (n + 2) text)))))) (sym (same b 58 f)) inside)
         (λ f. meant_stops (breaks_after n 1 (37 ∷ b ∷ text) (byte_step 37 (b ∷ text)) b text refl Bad (BadDirective n)
         (asked_bad r.asked_due (r.no_call (omega arith) e f))))
       where
@@ -226,11 +230,11 @@ module _ (deep : Lists) (c : ListContext) (outer : (c.levels == 0) ≡ false)
         two = omega arith
 
         inside : AskedMeant n (37 ∷ 58 ∷ text) (past 1 (past 1 (d.within at (then_read (d.function_from n (n + 2) [] text)
-            (d.result_in deep c (n + 2) text)))))
+            (d.call_in d.result_operand deep (in_braces c) (n + 2) text)))))
         inside = meant_past AtByte n 1 (37 ∷ 58 ∷ text) (byte_step 37 (58 ∷ text)) _ _ _
             (meant_past AtByte (n + 1) 1 (58 ∷ text) (byte_step 58 text) _ _ _
             (subst (λ (i : ℕ). CallMeant d.result_operand (in_braces c) e deep (meets e) n i text
-            (d.within at (then_read (d.function_from n (n + 2) [] text) (d.result_in deep c (n + 2) text)))) two
+            (d.within at (then_read (d.function_from n (n + 2) [] text) (d.call_in d.result_operand deep (in_braces c) (n + 2) text)))) two
             (call_meant d.result_operand (in_braces c) e deep (meets e) n (n + 2) text at))
             (λ total t x q near place i. subst (λ (o : Operand). AskedIs total (37 ∷ 58 ∷ t) o q) (sym i.2) (by_result i.3))
             (λ total t near place i. cuts.cut_result i)

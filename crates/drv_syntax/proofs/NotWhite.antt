@@ -1,10 +1,11 @@
+use Rattle.std.specs.List.{prefix_len}
 use Rattle.drv_syntax.proofs.Meant.{choose}
 use Rattle.drv_words.specs.Bytes as ascii
 use Rattle.drv_syntax.specs.Bytes.{is_name_byte, is_option, is_suffix}
 use Rattle.drv_syntax.specs.Code.Lists.{is_white_item}
 use Rattle.drv_syntax.specs.Contexts.{Kind, ListContext, Mixed, Nobody, Owner, Starred, in_arguments, is_said}
 use Rattle.drv_syntax.specs.Descent as d
-use Rattle.drv_syntax.specs.Descent.{Ends, Hangs, Lists, Quoted, Read, Run, Stops, Took, past, quoted, then_read, within}
+use Rattle.drv_syntax.specs.Descent.{Ends, Hangs, Lists, Quoted, Read, Run, Stops, Took, past, quoted, then_read, within, worded}
 use Rattle.drv_syntax.specs.Refusals.{AtFront}
 use Rattle.drv_syntax.specs.Directives.{braced, directive_of, is_allowed, said}
 use Rattle.drv_syntax.specs.Tree.{Brace, Function, Hide, Item}
@@ -15,7 +16,7 @@ use Rattle.drv_syntax.specs.declared.directives.Directive.{Directive}
 use Rattle.drv_syntax.specs.declared.directives.SayKind.TheVariants.{AsError, AsNotice}
 use Rattle.drv_syntax.specs.declared.directives.SayKind.{SayKind}
 use Rattle.drv_syntax.specs.declared.token.TempKind.{TempKind}
-use Rattle.std.proofs.Common.{◌≡◌, ◌+◌, ◌++◌, false, List, [], ◌∷◌, drop, length, refl, ℕ}
+use Rattle.std.proofs.Common.{◌≡◌, ◌+◌, false, List, [], ◌∷◌, drop, refl, ℕ, take}
 use Rattle.std.specs.Prelude.{◌==◌, nat_le}
 
 -- A directive is no white space. It serves the reader's `items`, which leaves white space out at the end of an X, and so moves the tail of
@@ -55,49 +56,49 @@ suffix_white kind n (b ∷ text) = choose NotWhite (is_suffix b) _ _ (λ e. refl
     object (c ∷ bs) = choose NotWhite (b == ascii.percent) _ _
         (λ e. choose NotWhite (c == ascii.capital_o) _ _ (λ f. refl) (λ f. refl)) (λ e. refl)
 
+-- a part that begins with a word is no white space if what goes on from the word isn't
+worded_white : (hangs : ℕ → Read Item) (goes : List ℕ → ℕ → List ℕ → Read Item) (n : ℕ) (q : Quoted) (text : List ℕ)
+    → ((m : ℕ) → NotWhite (hangs m)) → ((word : List ℕ) (m : ℕ) (rest : List ℕ) → NotWhite (goes word m rest))
+    → NotWhite (worded hangs goes n q text)
+worded_white hangs goes n (Run word size) text h g = past_white size (goes word (n + size) (drop size text)) (g word (n + size) (drop size
+    text))
+worded_white hangs goes n (Hangs size) text h g = h (n + size)
+
 -- %x{OPTION} is no white space
 option_white : (at n : ℕ) (text : List ℕ) → NotWhite (d.option at n text)
 option_white at n [] = tt
-option_white at n (b ∷ text) = choose NotWhite (b == ascii.opening_brace) _ _
-    (λ e. past_white 1 (d.option_text at (n + 1) (quoted is_option text) text) (inside (quoted is_option text))) (λ e. tt)
+option_white at n (b ∷ text) = choose NotWhite (b == ascii.opening_brace) _ _ (λ e. past_white 1 (d.option_text at (n + 1) text)
+    (worded_white (λ m. Ends at) (λ word m rest. d.option_end at word m rest) (n + 1) (quoted is_option text) text (λ m. tt) ended)) (λ e.
+    tt)
   where
-    ended : (m : ℕ) (word : List ℕ) (size : ℕ) (bs : List ℕ) → NotWhite (d.option_end at m word size bs)
-    ended m word size [] = tt
-    ended m [] size (c ∷ bs) = tt
-    ended m (x ∷ word) size (c ∷ bs) = refl
-
-    inside : (q : Quoted) → NotWhite (d.option_text at (n + 1) q text)
-    inside (Hangs size) = tt
-    inside (Run word size) = ended (n + 1) word size (drop size text)
+    ended : (word : List ℕ) (m : ℕ) (rest : List ℕ) → NotWhite (d.option_end at word m rest)
+    ended word m [] = tt
+    ended [] m (c ∷ rest) = tt
+    ended (x ∷ word) m (c ∷ rest) = refl
 
 -- %e and %n are no white space
 saying_white : (list : Kind) (kind : SayKind) (n : ℕ) (text : List ℕ) → NotWhite (d.saying list kind n text)
-saying_white list kind n text = by (quoted (is_said list) text)
+saying_white list kind n text =
+    worded_white (λ m. Ends m) (λ word m rest. d.saying_end kind word rest) n (quoted (is_said list) text) text (λ m. tt) ended
   where
     said_white : (k : SayKind) (word : List ℕ) → is_white_item (said k word) ≡ false
     said_white AsError word = refl
     said_white AsNotice word = refl
 
-    ended : (word : List ℕ) (size : ℕ) (bs : List ℕ) → NotWhite (d.saying_end kind word size bs)
-    ended word size [] = said_white kind word
-    ended word size (b ∷ bs) =
-        choose NotWhite (b == ascii.newline) _ _ (λ e. said_white kind word) (λ e. said_white kind word)
-
-    by : (q : Quoted) → NotWhite (d.saying_text kind n q text)
-    by (Hangs size) = tt
-    by (Run word size) = ended word size (drop size text)
+    ended : (word : List ℕ) (m : ℕ) (rest : List ℕ) → NotWhite (d.saying_end kind word rest)
+    ended word m [] = said_white kind word
+    ended word m (b ∷ rest) = choose NotWhite (b == ascii.newline) _ _ (λ e. said_white kind word) (λ e. said_white kind word)
 
 -- %(NAME) is no white space
-name_white : (at n : ℕ) (name text : List ℕ) → NotWhite (d.name_from at n name text)
-name_white at n name [] = tt
-name_white at n name (b ∷ text) = choose NotWhite (is_name_byte b) _ _
-    (λ e. choose NotWhite (nat_le (length (name ++ b ∷ [])) 255) _ _
-    (λ f. past_white 1 (d.name_from at (n + 1) (name ++ b ∷ []) text) (name_white at (n + 1) (name ++ b ∷ []) text)) (λ f. tt))
-    (λ e. ended name)
+name_white : (at n size : ℕ) (text : List ℕ) → NotWhite (d.named_of at n size text)
+name_white at n size text = choose NotWhite (nat_le size 255) _ _
+    (λ e. past_white size (d.name_end at (n + size) (take size text) (drop size text)) (ended (n + size) (take size text) (drop size text)))
+    (λ e. tt)
   where
-    ended : (q : List ℕ) → NotWhite (d.name_end at n q 0 (b ∷ text))
-    ended [] = tt
-    ended (x ∷ q) = choose NotWhite (b == ascii.closing_parenthesis) _ _ (λ e. refl) (λ e. tt)
+    ended : (m : ℕ) (name rest : List ℕ) → NotWhite (d.name_end at m name rest)
+    ended m name [] = tt
+    ended m [] (b ∷ rest) = tt
+    ended m (x ∷ name) (b ∷ rest) = choose NotWhite (b == ascii.closing_parenthesis) _ _ (λ e. refl) (λ e. tt)
 
 -- a directive whose % has the place `at`, in a list with the context c
 module _ (lists deep : Lists) (c : ListContext) (at : ℕ) where
@@ -135,14 +136,14 @@ module _ (lists deep : Lists) (c : ListContext) (at : ℕ) where
   by_white n (directives.WithSuffix kind) text = suffix_white kind (n + 1) text
   by_white n directives.WithOption text = option_white at (n + 1) text
   by_white n (directives.WithSaying kind) text = saying_white c.kind kind (n + 1) text
-  by_white n directives.WithName text = name_white at (n + 1) [] text
+  by_white n directives.WithName text = name_white at (n + 1) (prefix_len is_name_byte text) text
   by_white n directives.WithPattern text = then_white (d.pattern_at at (n + 1) text) (λ p size. Took (Hide p) size) (λ p size. refl)
   by_white n directives.OfStar text = star_white n c.owner
   by_white n directives.WithCall text = nested_white n (d.call lists c at (n + 1) text)
-      (within_white at (then_read (d.function_from at (n + 1) [] text) (d.call_in lists c (n + 1) text))
-      (then_white (d.function_from at (n + 1) [] text) (d.call_in lists c (n + 1) text) (λ called k.
-      then_white (lists (in_arguments c) (n + 1 + k) (drop k text)) (λ list size. Took (Function called list.0) (k + (size + 1)))
-      (λ list size. refl))))
+      (within_white at (then_read (d.function_from at (n + 1) [] text) (d.call_in Function lists c (n + 1) text))
+      (then_white (d.function_from at (n + 1) [] text) (d.call_in Function lists c (n + 1) text) (λ name k. past_white k
+      (d.arguments_of Function lists c name (n + 1 + k) (drop k text)) (then_white (lists (in_arguments c) (n + 1 + k) (drop k text))
+      (λ list size. Took (Function name list.0) (size + 1)) (λ list size. refl)))))
   by_white n directives.WithBraces text = nested_white n (d.braces lists deep c at InPlace (n + 1) text) (braced_white InPlace (n + 1) text)
   by_white n (directives.WithMarkedBraces kind) text = nested_white n (d.marked_braces lists deep c at kind (n + 1) text)
       (marked_white kind (n + 1) text)

@@ -3,7 +3,7 @@ use Rattle.drv_syntax.proofs.Names.{bracket_ends, function_front}
 use Rattle.drv_syntax.specs.Bytes.{is_function, is_function_front, is_name_byte, is_option, is_suffix, is_white}
 use Rattle.drv_syntax.specs.Contexts.{Kind, is_said}
 use Rattle.drv_syntax.specs.Descent as d
-use Rattle.drv_syntax.specs.Descent.{Quoted, Read, Run, Took, past, quoted, then_read, with_byte}
+use Rattle.drv_syntax.specs.Descent.{Ends, Quoted, Read, Run, Took, past, quoted, then_read, with_byte, worded}
 use Rattle.drv_syntax.specs.Directives.{said}
 use Rattle.drv_syntax.specs.declared.directives.SayKind.{SayKind}
 use Rattle.drv_syntax.specs.declared.token.TempKind.{TempKind}
@@ -11,7 +11,7 @@ use Rattle.drv_syntax.specs.Spelling as s
 use Rattle.drv_syntax.specs.Spelling.{AreSpaces, IsPattern, IsQuoted, IsRun, IsSuffix}
 use Rattle.drv_syntax.specs.Tree.{AddOption, NamedText, Pattern, TempName, pattern}
 use Rattle.std.proofs.Common.{◌≡◌, ◌≤◌, ◌∙◌, ◌+◌, ◌++◌, Bool, false, true, List, [], ◌∷◌, ap, append-nil, append_assoc, arith, drop}
-use Rattle.std.proofs.Common.{drop-drop, length, length-append, refl, subst, suc, sym, take, zero, ℕ}
+use Rattle.std.proofs.Common.{drop-drop, length, refl, subst, suc, sym, take, zero, ℕ}
 use Rattle.std.proofs.lemmas.Bool.Decides.{nat_tests}
 use Rattle.std.specs.List.{prefix_len}
 use Rattle.std.specs.Prelude.{◌==◌, nat_le}
@@ -55,6 +55,14 @@ pub reads_after : {X Y : Type 0} {r : Read X} {text mid rest : List ℕ} {x : X}
 reads_after {text = text} {rest = rest} {x} {y} goes m k =
     reads_then (λ x k. past k (goes x k (drop k text))) m
     (subst (λ (t : List ℕ). Reads (past m.size (goes x m.size t)) text y rest) (sym m.left) (reads_past m.size text m.left m.fits k))
+
+-- a part without a byte of the text is read, and all is left
+pub reads_none : {X : Type 0} {r : Read X} {x : X} (text : List ℕ) → r ≡ Took x 0 → Reads r text x text
+reads_none text e = record { size = 0; is = e; left = refl; fits = omega arith }
+
+-- a part of one byte is read, and what follows that byte is left
+pub reads_byte : {X : Type 0} {r : Read X} {x : X} (b : ℕ) (rest : List ℕ) → r ≡ Took x 1 → Reads r (b ∷ rest) x rest
+reads_byte b rest e = record { size = 1; is = e; left = refl; fits = omega arith }
 
 -- a result that equals one that reads a part reads this part
 pub reads_as : {X : Type 0} {r o : Read X} {x : X} {text rest : List ℕ} → r ≡ o → Reads o text x rest → Reads r text x rest
@@ -113,21 +121,21 @@ pub none_quoted : (f : ℕ → Bool) {b : ℕ} (q : List ℕ) → (b == ascii.ba
 none_quoted f [] e g = rw (e, g) refl
 none_quoted f (c ∷ q) e g = rw (e, g) refl
 
--- a run of bytes and escapes by the grammar is the one that `quoted` of Descent takes
-pub runs_to : {f : ℕ → Bool} {text word rest : List ℕ} → IsQuoted f text word rest → RunsTo f text word rest
-runs_to s.quoted_end = record { size = 0; is = refl; left = refl; fits = omega arith }
-runs_to {f} (s.quoted_stop {b} {rest} e g) = record { size = 0; is = none_quoted f rest e g; left = refl; fits = omega arith }
-runs_to {f} (s.quoted_escape {b} {text} i) =
-    let m = runs_to i in
-    record {
-      size = 2 + m.size;
-      is = ap (λ (q : Quoted). with_byte b 2 q) m.is;
-      left = sym (drop-drop m.size 2 (92 ∷ b ∷ text)) ∙ m.left;
-      fits = omega (arith, m.fits);
-    }
-runs_to {f} (s.quoted_byte {b} {text} {run} {rest} e g i) = by text (runs_to i)
+-- an escape before a run is one more byte of its word
+pub run_escape : {f : ℕ → Bool} {text word rest : List ℕ} (b : ℕ) → RunsTo f text word rest → RunsTo f (92 ∷ b ∷ text) (b ∷ word) rest
+run_escape {text = text} b m = record {
+  size = 2 + m.size;
+  is = ap (λ (q : Quoted). with_byte b 2 q) m.is;
+  left = sym (drop-drop m.size 2 (92 ∷ b ∷ text)) ∙ m.left;
+  fits = omega (arith, m.fits);
+}
+
+-- a byte that f allows, before a run, is one more byte of its word
+pub run_byte : {f : ℕ → Bool} {text word rest : List ℕ} {b : ℕ} → (b == ascii.backslash) ≡ false → f b ≡ true → RunsTo f text word rest
+    → RunsTo f (b ∷ text) (b ∷ word) rest
+run_byte {f} {text} {word} {rest} {b} e g m = by text m
   where
-    by : (text : List ℕ) → RunsTo f text run rest → RunsTo f (b ∷ text) (b ∷ run) rest
+    by : (text : List ℕ) → RunsTo f text word rest → RunsTo f (b ∷ text) (b ∷ word) rest
     by [] m =
         let same = run_word m.is in
         record {
@@ -143,6 +151,20 @@ runs_to {f} (s.quoted_byte {b} {text} {run} {rest} e g i) = by text (runs_to i)
       fits = omega (arith, m.fits);
     }
 
+-- a run of bytes and escapes by the grammar is the one that `quoted` of Descent takes
+pub runs_to : {f : ℕ → Bool} {text word rest : List ℕ} → IsQuoted f text word rest → RunsTo f text word rest
+runs_to s.quoted_end = record { size = 0; is = refl; left = refl; fits = omega arith }
+runs_to {f} (s.quoted_stop {b} {rest} e g) = record { size = 0; is = none_quoted f rest e g; left = refl; fits = omega arith }
+runs_to (s.quoted_escape {b} i) = run_escape b (runs_to i)
+runs_to (s.quoted_byte e g i) = run_byte e g (runs_to i)
+
+-- a word by the grammar and what goes on from it are read
+pub worded_reads : {X : Type 0} {f : ℕ → Bool} {text word mid rest : List ℕ} {x : X} (n : ℕ) (hangs : ℕ → Read X)
+    (goes : List ℕ → ℕ → List ℕ → Read X) (m : RunsTo f text word mid) → Reads (goes word (n + m.size) mid) mid x rest
+    → Reads (worded hangs goes n (quoted f text) text) text x rest
+worded_reads {text = text} {word} n hangs goes m k = reads_as (ap (λ q. worded hangs goes n q text) m.is
+    ∙ ap (λ (t : List ℕ). past m.size (goes word (n + m.size) t)) m.left) (reads_past m.size text m.left m.fits k)
+
 -- white space by the grammar, which no more follows, is what Descent skips
 pub spaces_to : {text rest : List ℕ} → AreSpaces text rest → s.Stops is_white rest
     → (drop (prefix_len is_white text) text ≡ rest) × (length text ≡ prefix_len is_white text + length rest)
@@ -157,33 +179,21 @@ spaces_to (s.space {b} {text} {rest} e i) h = by (spaces_to i h)
 
 -- a pattern by the grammar is read
 pub pattern_reads : {text rest : List ℕ} {p : Pattern} (at n : ℕ) → IsPattern text p rest → Reads (d.pattern_at at n text) text p rest
-pattern_reads {text} {rest} at n (s.unstarred {b} {word = word} i e) =
+pattern_reads {rest = rest} at n (s.unstarred {b} {word = word} i e) =
     let m = runs_to i in
-    record {
-      size = m.size;
-      is = ap (λ (q : Quoted). d.pattern_text at n q text) m.is ∙ ap (λ (t : List ℕ). d.pattern_end at n (b ∷ word) m.size t) m.left
-          ∙ ended m.size rest e;
-      left = m.left;
-      fits = m.fits;
-    }
+    worded_reads n (λ m. Ends at) (λ word m rest. d.pattern_end at word m rest) m (reads_none rest (ended (n + m.size) rest e))
   where
-    ended : (size : ℕ) (rest : List ℕ) → s.Stops (λ c. c == ascii.asterisk) rest
-        → d.pattern_end at n (b ∷ word) size rest ≡ Took (pattern (b ∷ word) false) size
-    ended size [] h = refl
-    ended size (c ∷ rest) (s.at_byte h) = rw h refl
-pattern_reads {text} {rest} at n (s.starred {word = word} i) =
+    ended : (m : ℕ) (rest : List ℕ) → s.Stops (λ c. c == ascii.asterisk) rest
+        → d.pattern_end at (b ∷ word) m rest ≡ Took (pattern (b ∷ word) false) 0
+    ended m [] h = refl
+    ended m (c ∷ rest) (s.at_byte h) = rw h refl
+pattern_reads {rest = rest} at n (s.starred {word = word} i) =
     let m = runs_to i in
-    record {
-      size = m.size + 1;
-      is = ap (λ (q : Quoted). d.pattern_text at n q text) m.is ∙ ap (λ (t : List ℕ). d.pattern_end at n word m.size t) m.left
-          ∙ ended m.size word;
-      left = sym (drop-drop 1 m.size text) ∙ ap (λ (t : List ℕ). drop 1 t) m.left;
-      fits = omega (arith, m.fits);
-    }
+    worded_reads n (λ m. Ends at) (λ word m rest. d.pattern_end at word m rest) m (reads_byte 42 rest (ended (n + m.size) word))
   where
-    ended : (size : ℕ) (word : List ℕ) → d.pattern_end at n word size (42 ∷ rest) ≡ Took (pattern word true) (size + 1)
-    ended size [] = refl
-    ended size (x ∷ word) = refl
+    ended : (m : ℕ) (word : List ℕ) → d.pattern_end at word m (42 ∷ rest) ≡ Took (pattern word true) 1
+    ended m [] = refl
+    ended m (x ∷ word) = refl
 
 -- a run of bytes by the grammar is the one that Descent counts at the front of the text
 pub run_to : {f : ℕ → Bool} {text run rest : List ℕ} → IsRun f text run rest
@@ -226,70 +236,42 @@ suffix_reads kind n (s.suffix_other {b} {rest} e g) = record { size = 0; is = rw
     other (c ∷ rest) = rw g refl
 suffix_reads kind n (s.suffix_directive {b} {rest} e) = record { size = 0; is = rw e refl; left = refl; fits = omega arith }
 
--- where a byte ends a run and is taken with it, the rest is what follows that byte
-pub ended_reads : {f : ℕ → Bool} {text word rest : List ℕ} {b : ℕ} (m : RunsTo f text word (b ∷ rest))
-    → (drop (m.size + 1) text ≡ rest) × (length text ≡ m.size + 1 + length rest)
-ended_reads {text = text} m = (sym (drop-drop 1 m.size text) ∙ ap (λ (t : List ℕ). drop 1 t) m.left, omega (arith, m.fits))
-
 -- %x{OPTION} by the grammar is read
 pub option_reads : {text option rest : List ℕ} {b : ℕ} (at n : ℕ) → IsQuoted is_option text (b ∷ option) (125 ∷ rest)
     → Reads (d.option at n (123 ∷ text)) (123 ∷ text) (AddOption (b ∷ option)) rest
-option_reads {text} {option} {rest} {b} at n i =
-    let m = runs_to i in
-    let e = ended_reads m in
-    reads_past 1 (123 ∷ text) refl (omega arith) (record {
-      size = m.size + 1;
-      is = ap (λ (q : Quoted). d.option_text at (n + 1) q text) m.is
-          ∙ ap (λ (t : List ℕ). d.option_end at (n + 1) (b ∷ option) m.size t) m.left;
-      left = e.0;
-      fits = e.1;
-    })
+option_reads {text} {rest = rest} at n i =
+    reads_past 1 (123 ∷ text) refl (omega arith)
+    (worded_reads (n + 1) (λ m. Ends at) (λ word m rest. d.option_end at word m rest) (runs_to i) (reads_byte 125 rest refl))
 
 -- the text of %e and %n by the grammar is read
 pub saying_reads : {text words mid rest : List ℕ} (list : Kind) (kind : SayKind) (n : ℕ) → IsQuoted (is_said list) text words mid
     → s.EndsSaying mid rest → Reads (d.saying list kind n text) text (said kind words) rest
-saying_reads {text} {words} list kind n i s.by_newline =
-    let m = runs_to i in
-    let e = ended_reads m in
-    record {
-      size = m.size + 1;
-      is = ap (λ (q : Quoted). d.saying_text kind n q text) m.is ∙ ap (λ (t : List ℕ). d.saying_end kind words m.size t) m.left;
-      left = e.0;
-      fits = e.1;
-    }
-saying_reads {text} {words} {rest = rest} list kind n i (s.by_other h) =
-    let m = runs_to i in
-    record {
-      size = m.size;
-      is = ap (λ (q : Quoted). d.saying_text kind n q text) m.is ∙ ap (λ (t : List ℕ). d.saying_end kind words m.size t) m.left
-          ∙ ended m.size rest h;
-      left = m.left;
-      fits = m.fits;
-    }
+saying_reads {words = words} list kind n i h =
+    worded_reads n (λ m. Ends m) (λ word m rest. d.saying_end kind word rest) (runs_to i) (ended h)
   where
-    ended : (size : ℕ) (rest : List ℕ) → s.Stops (λ b. b == ascii.newline) rest → d.saying_end kind words size rest
-        ≡ Took (said kind words) size
-    ended size [] h = refl
-    ended size (b ∷ rest) (s.at_byte e) = rw e refl
+    ended : {mid rest : List ℕ} → s.EndsSaying mid rest → Reads (d.saying_end kind words mid) mid (said kind words) rest
+    ended (s.by_newline {rest}) = reads_byte 10 rest refl
+    ended (s.by_other s.at_end) = reads_none [] refl
+    ended (s.by_other (s.at_byte {b} {rest} e)) = reads_none (b ∷ rest) (rw e refl)
 
--- the rest of the name of a named text by the grammar, with its bracket, is read
-pub name_reads : {text w rest : List ℕ} (at n : ℕ) (name : List ℕ) (b : ℕ) (all : List ℕ) → IsRun is_name_byte text w (41 ∷ rest)
-    → length (name ++ w) ≤ 255 → name ++ w ≡ b ∷ all → Reads (d.name_from at n name text) text (NamedText (b ∷ all)) rest
-name_reads {rest = rest} at n [] b all (s.run_ends h) l e = absurd cc
-name_reads {rest = rest} at n (x ∷ name) b all (s.run_ends h) l e =
-    let f : x ∷ name ≡ b ∷ all = sym (append-nil (x ∷ name)) ∙ e in
-    record {
-      size = 1;
-      is = ap (λ (v : List ℕ). Took (NamedText v) 1) f;
-      left = refl;
-      fits = omega arith;
-    }
-name_reads at n name b all (s.run_goes {b = c} {text} {run} g i) l e =
-    let regrouped = append_assoc name (c ∷ []) run in
-    let short : length (name ++ c ∷ []) ≤ 255 = omega (arith, l, length-append name (c ∷ run), length-append name (c ∷ [])) in
-    let fits : nat_le (length (name ++ c ∷ [])) 255 ≡ true = grind (arith, nat_tests) in
-    rw (g, fits) (reads_past 1 (c ∷ text) refl (omega arith)
-    (name_reads at (n + 1) (name ++ c ∷ []) b all i (subst (λ (v : List ℕ). length v ≤ 255) (sym regrouped) l) (regrouped ∙ e)))
+-- a text is as long as the run that it begins with and what follows
+pub run_length : {f : ℕ → Bool} {t w u : List ℕ} → IsRun f t w u → length t ≡ length w + length u
+run_length (s.run_ends {rest} h) = omega arith
+run_length (s.run_goes e i) = omega (arith, run_length i)
+
+-- a name of at most 255 bytes is counted as one
+pub name_fits : {t w u : List ℕ} → IsRun is_name_byte t w u → length w ≤ 255 → nat_le (prefix_len is_name_byte t) 255 ≡ true
+name_fits {t} i l =
+    let short : prefix_len is_name_byte t ≤ 255 = omega (arith, l, run_length i, (run_to i).2) in
+    grind (arith, nat_tests)
+
+-- a named text by the grammar, with its bracket, is read
+pub name_reads : {text name rest : List ℕ} (at n b : ℕ) → IsRun is_name_byte text (b ∷ name) (41 ∷ rest) → length (b ∷ name) ≤ 255
+    → Reads (d.named at n text) text (NamedText (b ∷ name)) rest
+name_reads {text} at n b i l =
+    let m = run_to i in
+    rw (name_fits i l, m.0, m.1) (reads_past (prefix_len is_name_byte text) text m.1 m.2
+    (record { size = 1; is = refl; left = refl; fits = omega arith }))
 
 -- the rest of the name of a function, with its parenthesis, is read
 pub function_reads : (at n : ℕ) (done w rest : List ℕ) → is_function (done ++ w) ≡ true

@@ -1,4 +1,4 @@
-use Rattle.drv_syntax.proofs.Failing.{AtEnd, EndsOut, Failure, HangsOut, failed, past_fails, runs_out, then_fails}
+use Rattle.drv_syntax.proofs.Failing.{AtEnd, Failure, failed, past_fails, pattern_cut, then_fails}
 use Rattle.drv_syntax.proofs.Heads.{no_white, out_head, pattern_head}
 use Rattle.drv_syntax.proofs.PartsRead.{Reads, beyond, byte_next, pattern_reads, reads_after, reads_as, reads_past, skipped, spaces_to}
 use Rattle.drv_syntax.specs.Bytes.{is_white, is_word}
@@ -136,12 +136,11 @@ module _ (at : ℕ) where
 
   -- where the text ends in the word of a pattern, the braces are not closed
   pattern_ends : {u : List ℕ} (n : ℕ) → RunsOut is_word u → there n u ≡ Ends at
-  pattern_ends {u} n o = by (runs_out o)
+  pattern_ends {u} n o = by (pattern_cut at n o)
     where
-      by : HangsOut is_word u ⊎ EndsOut is_word u → there n u ≡ Ends at
-      by (inl h) = ap (λ q. then_read (d.pattern_text at n q u) (λ p k. past k (byte_after (span n (n + k), p) (drop k u)))) h.1
-      by (inr ([], size, e, l, k)) = cc (e, l)
-      by (inr (b ∷ word, size, e, l, k)) = cc (e, l)
+      by : (d.pattern_at at n u ≡ Ends at) ⊎ ((p : Pattern) × Reads (d.pattern_at at n u) u p []) → there n u ≡ Ends at
+      by (inl e) = cc (e)
+      by (inr m) = cc (m.1.is, m.1.left)
 
   -- where the text ends in patterns, the braces are not closed
   pub patterns_end : {t : List ℕ} (n : ℕ) → CutsPatterns t → d.patterns at n 0 t ≡ Ends at

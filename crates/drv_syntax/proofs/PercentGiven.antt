@@ -70,7 +70,7 @@ module _ (lists : Lists × Lists) (c : ListContext) (outer : Option ℕ) (v : Re
   simple_at r (directives.WithSuffix kind) e s = ap (λ (n : ℕ). given outer r as_item (d.suffix kind n r.bytes)) (sym e)
   simple_at r directives.WithOption e s = ap (λ (n : ℕ). given outer r as_item (d.option at n r.bytes)) (sym e)
   simple_at r (directives.WithSaying kind) e s = ap (λ (n : ℕ). given outer r as_item (d.saying c.kind kind n r.bytes)) (sym e)
-  simple_at r directives.WithName e s = ap (λ (n : ℕ). given outer r as_item (d.name_from at n [] r.bytes)) (sym e)
+  simple_at r directives.WithName e s = ap (λ (n : ℕ). given outer r as_item (d.named at n r.bytes)) (sym e)
   simple_at r directives.WithPattern e s = cc (e)
   simple_at r directives.OfStar e s = star_goes r c.owner
   simple_at r directives.WithCall e s = absurd cc

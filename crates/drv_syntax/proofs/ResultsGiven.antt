@@ -11,7 +11,7 @@ use Rattle.drv_syntax.specs.Code.Writing.{Reading, at_rest, open_at}
 use Rattle.drv_syntax.specs.Contexts.{ListContext, in_arguments, in_braces, top}
 use Rattle.drv_syntax.specs.Descent as d
 use Rattle.drv_syntax.specs.Descent.{Ends, Lists, Operand, Read, Stops, Took, Tried, asked_from, end_byte, ended, function_from, no_lists}
-use Rattle.drv_syntax.specs.Descent.{one_test, past, result, result_in, signed, then_read, within}
+use Rattle.drv_syntax.specs.Descent.{call_in, one_test, past, result, signed, then_read, within}
 use Rattle.drv_syntax.specs.Refusals.{Order, may_emit}
 use Rattle.drv_syntax.specs.Spelling.{span}
 use Rattle.drv_syntax.specs.Tree.{Asked, HasResult, Items, Pattern, Span}
@@ -82,18 +82,19 @@ module _ (deep : Lists) (c : ListContext) (at : ℕ) where
   result_asks n (b ∷ text) = by (b == ascii.colon)
     where
       listed : (called : List ℕ) (k : ℕ) (r : Read (Items × ℕ))
-          → AsksResult (past 1 (within at (then_read r (λ list size. Took (d.result_operand called list.0) (k + (size + 1))))))
+          → AsksResult (past 1 (within at (past k (then_read r (λ list size. Took (d.result_operand called list.0) (size + 1))))))
       listed called k (Took list size) = record { asked = HasResult called list.0; is = refl; no_pattern = refl }
       listed called k (Ends m) = tt
       listed called k (Stops m fault) = tt
 
-      named : (r : Read (List ℕ)) → AsksResult (past 1 (within at (then_read r (result_in deep c (n + 2) text))))
+      named : (r : Read (List ℕ)) → AsksResult (past 1 (within at (then_read r (call_in d.result_operand deep (in_braces c) (n + 2) text))))
       named (Took called k) = listed called k (deep (in_arguments (in_braces c)) (n + 2 + k) (drop k text))
       named (Ends m) = tt
       named (Stops m fault) = tt
 
       by : (t : Bool)
-          → AsksResult (if t then past 1 (within at (then_read (function_from n (n + 2) [] text) (result_in deep c (n + 2) text)))
+          → AsksResult (if t then past 1 (within at (then_read (function_from n (n + 2) [] text) (call_in d.result_operand deep (in_braces
+          c) (n + 2) text)))
           else Stops (n + 1) (BadDirective n))
       by true = named (function_from n (n + 2) [] text)
       by false = tt

@@ -1,24 +1,24 @@
 use Rattle.drv_words.specs.Bytes as ascii
 use Rattle.drv_syntax.proofs.CallsRead.{ListReads, result_fails}
 use Rattle.drv_syntax.proofs.EmitsRead.{emit_fails, follows, operates, starred_operates}
-use Rattle.drv_syntax.proofs.Failing.{AtEnd, EndsOut, HangsOut, past_fails, runs_out, then_fails}
+use Rattle.drv_syntax.proofs.Failing.{AtEnd, past_fails, pattern_cut, then_fails, worded_out}
 use Rattle.drv_syntax.proofs.Heads.{NoHead, asked_head, no_percent, no_sign, no_white, out_head, pattern_head, unstarred_end}
 use Rattle.drv_syntax.proofs.Leads.{differs}
 use Rattle.drv_syntax.proofs.MeantTests.{mark_word}
 use Rattle.drv_syntax.proofs.Names.{front_front}
-use Rattle.drv_syntax.proofs.PartsRead.{Reads, byte_next, reads_as, reads_past}
+use Rattle.drv_syntax.proofs.PartsRead.{Reads, byte_next, reads_as, reads_none, reads_past, reads_then}
 use Rattle.drv_syntax.proofs.PatternsRead.{patterns_end}
 use Rattle.drv_syntax.proofs.TestsRead.{asked_reads, asking, from_ends, mark_is, next_goes, test_goes, tests_fail}
 use Rattle.drv_syntax.specs.Bytes.{is_function_front, is_mark, is_white, is_word}
 use Rattle.drv_syntax.specs.Contexts.{ListContext, in_arguments, in_braces}
 use Rattle.drv_syntax.specs.Descent as d
-use Rattle.drv_syntax.specs.Descent.{Ends, Lists, Operand, Quoted, Took, past, quoted, then_read}
+use Rattle.drv_syntax.specs.Descent.{Ends, Lists, Operand, Took, past, then_read}
 use Rattle.drv_syntax.specs.Fronts as cuts
 use Rattle.drv_syntax.specs.Fronts.{AreFrontItems, CutsAsked, CutsPatterns, CutsTests, RunsOut}
 use Rattle.drv_syntax.specs.Refusals.{AtBar, AtFront, Order, may_emit}
 use Rattle.drv_syntax.specs.Spelling as s
 use Rattle.drv_syntax.specs.Spelling.{AreSpaces, At, IsPattern, IsQuoted, IsSign, span}
-use Rattle.drv_syntax.specs.Tree.{Pattern, pattern}
+use Rattle.drv_syntax.specs.Tree.{Pattern}
 use Rattle.std.proofs.Common.{◌≡◌, ◌∙◌, ◌+◌, ◌++◌, ◌⊎◌, Bool, false, true, List, [], ◌∷◌, ap, append_assoc, arith, drop, inl, inr, length}
 use Rattle.std.proofs.Common.{refl, subst, suc, sym, ℕ}
 use Rattle.std.specs.Prelude.{◌-◌, ◌==◌}
@@ -69,49 +69,35 @@ module _ (deep : Lists) (c : ListContext) (at : ℕ) where
 
   -- where the text ends in the word after a mark, Descent ends there, or has read a test up to the end
   marked_out : (emits : Bool) (n mark : ℕ) {t : List ℕ} → is_mark mark ≡ true → RunsOut is_word t → Out emits n (mark ∷ t)
-  marked_out emits n mark {t} h o = by (runs_out o)
+  marked_out emits n mark {t} h o = by (worded_out (n + 1) (λ m. Ends at) (λ word m rest. d.mark_end at emits mark word m rest)
+      (λ m e. refl) ended o)
     where
-      by : HangsOut is_word t ⊎ EndsOut is_word t → Out emits n (mark ∷ t)
-      by (inl g) = inl (mark_is deep c at emits n mark t h ∙ ap (λ (q : Quoted). past 1 (d.mark_text at emits mark (n + 1) q t)) g.1)
-      by (inr ([], size, e, l, k)) =
-          inl (mark_is deep c at emits n mark t h ∙ ap (λ (q : Quoted). past 1 (d.mark_text at emits mark (n + 1) q t)) e
-          ∙ ap (λ (x : List ℕ). past 1 (d.mark_end at emits mark (n + 1) [] size x)) l)
-      by (inr (b ∷ word, size, e, l, k)) = inr (
-        d.marked_operand mark (b ∷ word),
-        reads_as (mark_is deep c at emits n mark t h)
-            (reads_past 1 (mark ∷ t) refl (omega arith) (record {
-              size = size;
-              is = ap (λ (q : Quoted). d.mark_text at emits mark (n + 1) q t) e
-                  ∙ ap (λ (x : List ℕ). d.mark_end at emits mark (n + 1) (b ∷ word) size x) l;
-              left = l;
-              fits = omega (arith, k);
-            })),
-      )
+      ended : (word : List ℕ) (m : ℕ) → (d.mark_end at emits mark word m [] ≡ Ends at)
+          ⊎ ((o : Operand) × Reads (d.mark_end at emits mark word m []) [] o [])
+      ended [] m = inl refl
+      ended (b ∷ word) m = inr (d.marked_operand mark (b ∷ word), reads_none [] refl)
+
+      by : (d.mark_text at emits mark (n + 1) t ≡ Ends at) ⊎ ((o : Operand) × Reads (d.mark_text at emits mark (n + 1) t) t o [])
+          → Out emits n (mark ∷ t)
+      by (inl e) = inl (mark_is deep c at emits n mark t h ∙ ap (λ r. past 1 r) e)
+      by (inr m) = inr (m.0, reads_as (mark_is deep c at emits n mark t h) (reads_past 1 (mark ∷ t) refl (omega arith) m.1))
 
   -- where the text ends in the word of a switch, Descent ends there, or has read a test up to the end
   switch_out : (emits : Bool) (n : ℕ) (u : List ℕ) → s.Stops is_mark u → RunsOut is_word u → Out emits n u
   switch_out emits n [] h o = inl refl
-  switch_out emits n (b ∷ t) (s.at_byte g) o = by (runs_out o) (out_head no_percent o)
+  switch_out emits n (b ∷ t) (s.at_byte g) o = by (pattern_cut at n o) (out_head no_percent o)
     where
-      opens : (b == ascii.percent) ≡ false → d.asked deep c at emits n (b ∷ t)
-          ≡ then_read (d.pattern_text at n (quoted is_word (b ∷ t)) (b ∷ t)) (λ p size. Took (d.switch_operand p) size)
-      opens e = rw (g, e) refl
-
-      by : HangsOut is_word (b ∷ t) ⊎ EndsOut is_word (b ∷ t) → s.Stops (λ x. x == ascii.percent) (b ∷ t) → Out emits n (b ∷ t)
-      by (inl h) (s.at_byte e) = inl (opens e ∙ ap (λ (q : Quoted). then_read (d.pattern_text at n q (b ∷ t))
-          (λ p size. Took (d.switch_operand p) size)) h.1)
-      by (inr ([], size, f, l, k)) (s.at_byte e) =
-          inl (opens e ∙ ap (λ (q : Quoted). then_read (d.pattern_text at n q (b ∷ t)) (λ p size. Took (d.switch_operand p) size)) f
-          ∙ ap (λ (x : List ℕ). then_read (d.pattern_end at n [] size x) (λ p size. Took (d.switch_operand p) size)) l)
-      by (inr (x ∷ word, size, f, l, k)) (s.at_byte e) = inr (
-        d.switch_operand (pattern (x ∷ word) false),
-        record {
-          size = size;
-          is = opens e ∙ ap (λ (q : Quoted). then_read (d.pattern_text at n q (b ∷ t)) (λ p size. Took (d.switch_operand p) size)) f
-              ∙ ap (λ (y : List ℕ). then_read (d.pattern_end at n (x ∷ word) size y) (λ p size. Took (d.switch_operand p) size)) l;
-          left = l;
-          fits = omega (arith, k);
-        },
+      by : (d.pattern_at at n (b ∷ t) ≡ Ends at) ⊎ ((p : Pattern) × Reads (d.pattern_at at n (b ∷ t)) (b ∷ t) p [])
+          → s.Stops (λ x. x == ascii.percent) (b ∷ t) → Out emits n (b ∷ t)
+      by (inl h) (s.at_byte e) = inl (rw (g, e) (ap (λ r. then_read r (λ p size. Took (d.switch_operand p) size)) h))
+      by (inr m) (s.at_byte e) = inr (
+        d.switch_operand m.0,
+        rw (g, e) (reads_then (λ p size. Took (d.switch_operand p) size) m.1 (record {
+          size = m.1.size;
+          is = refl;
+          left = m.1.left;
+          fits = m.1.fits;
+        })),
       )
 
   -- where the text ends in a word, with a mark before it or without, Descent ends there, or has read a test up to the end
@@ -166,7 +152,8 @@ module _ (deep : Lists) (c : ListContext) (at : ℕ) where
     asked_out emits n (cuts.cut_marked {b} h o) place = marked_out emits n b h o
     asked_out emits n (cuts.cut_call e) place = inl (rw e refl)
     asked_out emits n (cuts.cut_result (cuts.in_function {text = t} e h)) place =
-        inl (rw e (ap (λ r. past 1 (past 1 (d.within at (then_read r (d.result_in deep c (n + 2) t))))) (name_ends n (n + 2) [] t h)))
+        inl (rw e (ap (λ r. past 1 (past 1 (d.within at (then_read r (d.call_in d.result_operand deep (in_braces c) (n + 2) t)))))
+        (name_ends n (n + 2) [] t h)))
     asked_out emits n (cuts.cut_result (cuts.in_function_arguments {text = t} name e is l)) place =
         inl (result_fails deep c at emits (AtEnd 0) n name t e is (λ m p. ends e m t l (omega (arith, place, p))))
 

@@ -1,3 +1,4 @@
+use Rattle.drv_words.specs.Bytes as ascii
 use Rattle.drv_syntax.proofs.CallsRead.{ListReads, result_fails, result_reads}
 use Rattle.drv_syntax.proofs.DirectivesFail.{function_stops, pattern_stops, stops_at}
 use Rattle.drv_syntax.proofs.EmitsRead.{bare_mark, emit_fails, starred_mark}
@@ -15,10 +16,10 @@ use Rattle.drv_syntax.proofs.TestsRead.{tests_go}
 use Rattle.drv_syntax.specs.Bytes.{is_mark, is_of, is_white, is_word}
 use Rattle.drv_syntax.specs.Contexts.{ListContext, in_arguments, in_braces}
 use Rattle.drv_syntax.specs.Descent as d
-use Rattle.drv_syntax.specs.Descent.{Lists, Operand, Quoted, Stops, Took, Tried, past, then_read}
+use Rattle.drv_syntax.specs.Descent.{Lists, Operand, Stops, Took, Tried, past, then_read}
 use Rattle.drv_syntax.specs.Refusals as r
-use Rattle.drv_syntax.specs.Refusals.{AnEnd, AtBar, AtFront, Due, Empty, Order, Reaches, ReachesAsked, ReachesEmits, ReachesPatterns}
-use Rattle.drv_syntax.specs.Refusals.{ReachesTests, Refuses, ends_either, ends_pattern, ends_test, may_emit}
+use Rattle.drv_syntax.specs.Refusals.{AnEnd, AtFront, Due, Empty, Order, Reaches, ReachesAsked, ReachesEmits, ReachesPatterns, ReachesTests}
+use Rattle.drv_syntax.specs.Refusals.{Refuses, ends_either, ends_pattern, ends_test, may_emit}
 use Rattle.drv_syntax.specs.Spelling as s
 use Rattle.drv_syntax.specs.Spelling.{AreSpaces, At, IsAsked, IsPattern, IsQuoted, IsSign, span}
 use Rattle.drv_syntax.specs.Tree.{Asked, HasResult, Items, Pattern, Span, pattern}
@@ -195,6 +196,14 @@ module _ (k : ℕ) (q : List ℕ) where
         (s.space white (spaces_longer q spaces)) w fails
         (omega (arith, place, length-append t q))
 
+    -- after a mark, a byte that begins neither a word nor an end of a pattern is refused
+    alone_stops : (b mark n : ℕ) → (b == ascii.backslash) ≡ false → is_word b ≡ false → (b == ascii.asterisk) ≡ false
+        → (b == ascii.closing_brace) ≡ false → (b == ascii.ampersand) ≡ false → is_white b ≡ false
+        → past 1 (d.mark_text at true mark n (b ∷ q)) ≡ Stops (n + 0) (EmptyTest at)
+    alone_stops b mark n e g star brace and w =
+        ap (λ z. past 1 (d.worded (λ m. d.Ends at) (λ word m rest. d.mark_end at true mark word m rest) n z (b ∷ q)))
+        (none_quoted is_word q e g) ∙ (rw (star, brace, and, w) refl)
+
     -- in braces that are patterns or may still be, Descent stops at the byte that doesn't fit
     pub emits_fail : {due : Due} {t last : List ℕ} {fault : SyntaxFault} (n : ℕ) → ReachesEmits at t due last
         → Refuses (k + 1) due last fault → At (k + 1) n t → d.tests deep c at AtFront n 0 (t ++ q) ≡ Stops k fault
@@ -205,9 +214,8 @@ module _ (k : ℕ) (q : List ℕ) where
         asking_stops AtFront n (spaces_longer q sp) (s.plain_sign (s.at_byte (other is_mark mark 33 is refl)))
         (s.at_byte (no_white.word mark (mark_word mark is)))
         (λ m p. mark_is deep c at true m mark (b ∷ q) is
-        ∙ ap (λ (z : Quoted). past 1 (d.mark_text at true mark (m + 1) z (b ∷ q))) (none_quoted is_word q y.0 y.1)
-        ∙ (rw (y.2, x.0, (not_of 38 [] b x.1).0, w) refl)
-        ∙ (let z : m + 1 ≡ k = omega (arith, p, place, length-append t q) in ap (λ (i : ℕ). Stops i (EmptyTest at)) z))
+        ∙ alone_stops b mark (m + 1) y.0 y.1 y.2 x.0 (not_of 38 [] b x.1).0 w
+        ∙ (let z : m + 1 + 0 ≡ k = omega (arith, p, place, length-append t q) in ap (λ (i : ℕ). Stops i (EmptyTest at)) z))
     emits_fail n (r.past_mark {mark = mark} sp is white z) (r.mark_is_no_test {b = b} e) place =
         past_fails_so n sp is white z (r.mark_is_no_test e) place b refl (not_white b e)
         (λ place. bare_is_no_test at AtFront place false (d.bare_operand mark) b e refl refl)
@@ -246,7 +254,8 @@ module _ (k : ℕ) (q : List ℕ) where
           let z = function_stops m (m + 2) q h in
           let i : z.0 ≡ k = omega (arith, place, z.1) in
           let j : m ≡ n = omega (arith, place, p) in
-          (rw e (ap (λ r. past 1 (past 1 (d.within at (then_read r (d.result_in deep c (m + 2) (last ++ q)))))) z.2))
+          (rw e (ap (λ r. past 1 (past 1 (d.within at (then_read r (d.call_in d.result_operand deep (in_braces c) (m + 2) (last
+          ++ q)))))) z.2))
           ∙ stops_at (λ x. UnknownFunction x) i j
       due_fails {order} {negated} m (r.no_test_there {b = b} h w e f) place =
           let i : m + 0 ≡ k = omega (arith, place) in
@@ -353,9 +362,10 @@ module _ (k : ℕ) (q : List ℕ) where
       asked_fails {order} {t} {negated = negated} n sp sign (r.word_due {mark = mark} e is) (r.no_word {b = b} f g) place =
           asking_stops order n (spaces_longer q sp) (sign_longer q sign tt) (s.at_byte (no_white.word mark (mark_word mark is)))
           (λ m p. mark_is deep c at (may_emit order negated) m mark (b ∷ q) is
-          ∙ ap (λ (z : Quoted). past 1 (d.mark_text at (may_emit order negated) mark (m + 1) z (b ∷ q))) (none_quoted is_word q f g)
-          ∙ ap (λ (z : Bool). past 1 (d.mark_end at z mark (m + 1) [] 0 (b ∷ q))) e
-          ∙ (let z : m + 1 ≡ k = omega (arith, p, place, length-append t q) in ap (λ (i : ℕ). Stops i (EmptyTest at)) z))
+          ∙ ap (λ z. past 1 (d.worded (λ m. d.Ends at) (λ word m rest. d.mark_end at (may_emit order negated) mark word m rest) (m + 1) z
+          (b ∷ q))) (none_quoted is_word q f g)
+          ∙ ap (λ (z : Bool). past 1 (past 0 (d.mark_end at z mark [] (m + 1 + 0) (b ∷ q)))) e
+          ∙ (let z : m + 1 + 0 ≡ k = omega (arith, p, place, length-append t q) in ap (λ (i : ℕ). Stops i (EmptyTest at)) z))
       asked_fails {order} {t} {u} {last = last} {negated} {due} {fault} n sp sign (r.in_function {text = text} name e is o) h place =
           let g = append_assoc name (40 ∷ text) q in
           asking_stops order n (spaces_longer q sp)

@@ -1,6 +1,6 @@
 use Rattle.drv_words.specs.Bytes as ascii
-use Rattle.drv_syntax.proofs.GivenParts.{given_stops, ok_same, quoted_parts, some_left}
-use Rattle.drv_syntax.proofs.Writing.{after_after, after_none, given_past}
+use Rattle.drv_syntax.proofs.GivenParts.{given_stops, none_left, ok_same, quoted_hung, quoted_parts, some_left}
+use Rattle.drv_syntax.proofs.Writing.{after_after, after_none, given_past, quoted_took}
 use Rattle.drv_syntax.specs.Bytes.{is_mark, is_white, is_word}
 use Rattle.drv_syntax.specs.Code.Left.{Left, after, begins_with, first_of, past_byte}
 use Rattle.drv_syntax.specs.Code.Tests.{after_given, mark_form, marked_as, operand_given, operand_of, pattern_given, spaced, tried_given}
@@ -8,8 +8,8 @@ use Rattle.drv_syntax.specs.Code.Tests.{tried_seen}
 use Rattle.drv_syntax.specs.Code.Writing.{Parts, Reading, at_rest, given, is_empty, open_at, quoted_to}
 use Rattle.drv_syntax.specs.Contexts.{ListContext}
 use Rattle.drv_syntax.specs.Descent as d
-use Rattle.drv_syntax.specs.Descent.{Ends, Hangs, Lists, Operand, Quoted, Read, Run, Stops, Took, mark_end, mark_text, past}
-use Rattle.drv_syntax.specs.Descent.{pattern_at, quoted, switch_operand, then_read, with_byte}
+use Rattle.drv_syntax.specs.Descent.{Ends, Lists, Operand, Read, Stops, Took, mark_end, mark_text, past, pattern_at, quoted, switch_operand}
+use Rattle.drv_syntax.specs.Descent.{then_read}
 use Rattle.drv_syntax.specs.Refusals.{Order, may_emit}
 use Rattle.drv_syntax.specs.Spelling.{span}
 use Rattle.drv_syntax.specs.declared.descent.parts.Choice.{Choice}
@@ -28,30 +28,6 @@ use Rattle.std.specs.Prelude.{◌==◌, Err, None, Ok, Option, Result, Some}
 -- that the braces may still hold patterns. `outer` is the place of the outermost directive that is open, if one is, and `at` that of the %
 -- of the directive here.
 
--- a run without a word takes no byte of the text
-quoted_none : (f : ℕ → Bool) (text : List ℕ) (size : ℕ) → quoted f text ≡ Run [] size → size ≡ 0
-quoted_none f [] size e =
-    let p : 0 ≡ size = cc in
-    sym p
-quoted_none f (b ∷ []) size e = by (b == ascii.backslash) (f b) e
-  where
-    by : (t u : Bool) → (if t then Hangs 0 else if u then Run (b ∷ []) 1 else Run [] 0) ≡ Run [] size → size ≡ 0
-    by true u g = absurd cc
-    by false true g = absurd cc
-    by false false g =
-        let p : 0 ≡ size = cc in
-        sym p
-quoted_none f (b ∷ c ∷ text) size e = by (b == ascii.backslash) (f b) (quoted f text) (quoted f (c ∷ text)) e
-  where
-    by : (t u : Bool) (q r : Quoted) → (if t then with_byte c 2 q else if u then with_byte b 1 r else Run [] 0) ≡ Run [] size → size ≡ 0
-    by true u (Run w k) r g = absurd cc
-    by true u (Hangs k) r g = absurd cc
-    by false true q (Run w k) g = absurd cc
-    by false true q (Hangs k) g = absurd cc
-    by false false q r g =
-        let p : 0 ≡ size = cc in
-        sym p
-
 -- after a mark
 
 -- what is made of the form of a test with a mark, or the fault
@@ -67,47 +43,11 @@ module _ (outer : Option ℕ) (at : ℕ) (emits : Bool) (mark : ℕ) (v : Readin
 
   -- what a test with this mark gives after the mark
   abbrev marked_reads : Result (Operand × Reading) SyntaxFault
-  marked_reads = operand_given outer v (mark_text at emits mark v.rest.at (quoted is_word v.rest.bytes) v.rest.bytes)
-
-  -- the end of a word after a mark gives the same, whether the bytes of the word are counted with it or already taken
-  mark_shift : (n : ℕ) (rest : Left) (w : List ℕ) (size : ℕ) (bs : List ℕ) → (w ≡ [] → size ≡ 0)
-      → given outer rest as_operand (mark_end at emits mark n w size bs)
-      ≡ given outer (after size rest) as_operand (mark_end at emits mark n w 0 bs)
-  mark_shift n rest [] size [] h = refl
-  mark_shift n rest (x ∷ w) size [] h = cc (after_none (after size rest))
-  mark_shift n rest [] size (b ∷ bs) h =
-      let zero : size ≡ 0 = h refl in
-      cc (after_none rest, zero)
-  mark_shift n rest (x ∷ w) size (b ∷ bs) h = by (b == ascii.asterisk) emits
-    where
-      by : (t u : Bool)
-          → given outer rest as_operand
-          (if t then (if u then Took (d.starred_operand mark (x ∷ w)) (size + 1) else Stops (n + size) (BadDirective at))
-          else Took (d.marked_operand mark (x ∷ w)) size)
-          ≡ given outer (after size rest) as_operand
-          (if t then (if u then Took (d.starred_operand mark (x ∷ w)) (0 + 1) else Stops (n + 0) (BadDirective at))
-          else Took (d.marked_operand mark (x ∷ w)) 0)
-      by true true = ap (λ (r : Left). Ok (as_operand (d.starred_operand mark (x ∷ w)) r)) (after_after size 1 rest)
-      by true false = refl
-      by false u = ap (λ (r : Left). Ok (as_operand (d.marked_operand mark (x ∷ w)) r)) (sym (after_none (after size rest)))
-
-  -- once the word after a mark is read, the test gives what its end gives
-  mark_took : (u : Reading) (q : Quoted) (word : List ℕ) → ((w : List ℕ) (size : ℕ) → q ≡ Run w size → w ≡ [] → size ≡ 0)
-      → quoted_to [] v q ≡ (Some word, u)
-      → operand_given outer v (mark_text at emits mark v.rest.at q v.rest.bytes)
-      ≡ given outer u.rest as_operand (mark_end at emits mark v.rest.at word 0 u.rest.bytes)
-  mark_took u (Run w size) word full e =
-      let p : Some w ≡ Some word = ap (λ (z : Option (List ℕ) × Reading). z.0) e in
-      let same : w ≡ word = cc in
-      let r : after size v.rest ≡ u.rest = ap (λ (z : Option (List ℕ) × Reading). z.1.rest) e in
-      cc (mark_shift v.rest.at v.rest w size (drop size v.rest.bytes) (full w size refl), same, r)
-  mark_took u (Hangs size) word full e =
-      let n : None ≡ Some word = ap (λ (z : Option (List ℕ) × Reading). z.0) e in
-      absurd cc
+  marked_reads = operand_given outer v (mark_text at emits mark v.rest.at v.rest.bytes)
 
   -- after the word, the test gives what the code's `mark_form` decides by the next byte
   mark_ends : (n : ℕ) (rest : Left) (word : List ℕ)
-      → given outer rest as_operand (mark_end at emits mark n word 0 rest.bytes)
+      → given outer rest as_operand (mark_end at emits mark word n rest.bytes)
       ≡ form_then (mark_form outer at emits (is_empty word) (first_of rest.bytes))
       (λ form. as_operand (operand_of (marked_as form mark) word) (past_byte ascii.asterisk rest))
   mark_ends n rest word = by word rest.bytes
@@ -129,7 +69,7 @@ module _ (outer : Option ℕ) (at : ℕ) (emits : Bool) (mark : ℕ) (v : Readin
 
       some : (x : ℕ) (w : List ℕ) (t e : Bool)
           → given outer rest as_operand
-          (if t then (if e then Took (d.starred_operand mark (x ∷ w)) (0 + 1) else Stops (n + 0) (BadDirective at))
+          (if t then (if e then Took (d.starred_operand mark (x ∷ w)) 1 else Stops n (BadDirective at))
           else Took (d.marked_operand mark (x ∷ w)) 0)
           ≡ form_then (if t then (if e then Ok marks.Star else Err (BadDirective at)) else Ok marks.Word)
           (λ form. as_operand (operand_of (marked_as form mark) (x ∷ w)) (if t then after 1 rest else rest))
@@ -137,7 +77,7 @@ module _ (outer : Option ℕ) (at : ℕ) (emits : Bool) (mark : ℕ) (v : Readin
       some x w true false = refl
       some x w false e = ap (λ (r : Left). Ok (as_operand (d.marked_operand mark (x ∷ w)) r)) (after_none rest)
 
-      by : (w bs : List ℕ) → given outer rest as_operand (mark_end at emits mark n w 0 bs)
+      by : (w bs : List ℕ) → given outer rest as_operand (mark_end at emits mark w n bs)
           ≡ form_then (mark_form outer at emits (is_empty w) (first_of bs))
           (λ form. as_operand (operand_of (marked_as form mark) w) (if begins_with ascii.asterisk bs then after 1 rest else rest))
       by [] [] = refl
@@ -148,22 +88,17 @@ module _ (outer : Option ℕ) (at : ℕ) (emits : Bool) (mark : ℕ) (v : Readin
   -- where the text ends in a backslash within the word after a mark, the braces are not closed
   pub marked_hung : (u : Reading) → quoted_to [] v (quoted is_word v.rest.bytes) ≡ (None, u)
       → marked_reads ≡ Err (Unclosed (open_at outer at))
-  marked_hung u e = by (quoted is_word v.rest.bytes) e
-    where
-      by : (q : Quoted) → quoted_to [] v q ≡ (None, u) → operand_given outer v (mark_text at emits mark v.rest.at q v.rest.bytes)
-          ≡ Err (Unclosed (open_at outer at))
-      by (Hangs size) g = refl
-      by (Run w size) g =
-          let n : Some w ≡ None = ap (λ (z : Option (List ℕ) × Reading). z.0) g in
-          absurd cc
+  marked_hung u e = quoted_hung outer v u as_operand (λ m. Ends at) (λ word m rest. mark_end at emits mark word m rest)
+      (quoted is_word v.rest.bytes) e
 
   -- a test with a mark gives what the code's `mark_form` decides by its word and the byte after it, and leaves what follows its star
   pub marked_by : (u : Reading) (word : List ℕ) → quoted_to [] v (quoted is_word v.rest.bytes) ≡ (Some word, u)
       → marked_reads ≡ form_then (mark_form outer at emits (is_empty word) (first_of u.rest.bytes))
       (λ form. (operand_of (marked_as form mark) word, at_rest (past_byte ascii.asterisk u.rest) u))
   marked_by u word q =
-      mark_took u (quoted is_word v.rest.bytes) word (λ w size e z. quoted_none is_word v.rest.bytes size (e ∙ ap (λ x. Run x size) z)) q
-      ∙ mark_ends v.rest.at u.rest word
+      quoted_took outer v u as_operand (λ m. Ends at) (λ word m rest. mark_end at emits mark word m rest) (quoted is_word v.rest.bytes)
+      word q
+      ∙ mark_ends u.rest.at u.rest word
       ∙ ap (λ (z : Parts). form_then (mark_form outer at emits (is_empty word) (first_of u.rest.bytes))
       (λ form. (operand_of (marked_as form mark) word, record { rest = past_byte ascii.asterisk u.rest; parts = z })))
       (quoted_parts v u (quoted is_word v.rest.bytes) q)
@@ -180,13 +115,13 @@ module _ (deep : Lists) (c : ListContext) (outer : Option ℕ) (at : ℕ) (emits
   -- a test that begins with a mark gives what the word after the mark gives
   pub asked_mark : (rest : Left) → is_mark b ≡ true → rest ≡ after 1 v.rest
       → asked_reads v.rest.bytes ≡ operand_given outer (at_rest rest v)
-      (mark_text at emits b rest.at (quoted is_word rest.bytes) rest.bytes)
+      (mark_text at emits b rest.at rest.bytes)
   asked_mark rest e g =
       ap (λ bs. asked_reads bs) (some_left v.rest.bytes b (sym is))
       ∙ rw e refl
       ∙ given_past outer v.rest (λ o l. (o, at_rest l v)) 1
-      (mark_text at emits b (v.rest.at + 1) (quoted is_word (drop 1 v.rest.bytes)) (drop 1 v.rest.bytes))
-      ∙ ap (λ (r : Left). operand_given outer (at_rest r v) (mark_text at emits b r.at (quoted is_word r.bytes) r.bytes)) (sym g)
+      (mark_text at emits b (v.rest.at + 1) (drop 1 v.rest.bytes))
+      ∙ ap (λ (r : Left). operand_given outer (at_rest r v) (mark_text at emits b r.at r.bytes)) (sym g)
 
   -- a test with neither a mark nor a percent sign at its front gives a test of a switch by its pattern
   asked_switch : is_mark b ≡ false → (b == ascii.percent) ≡ false
@@ -251,3 +186,14 @@ module _ (deep : Lists) (c : ListContext) (outer : Option ℕ) (at : ℕ) (order
       ∙ ap (λ (bs : List ℕ). tried_at o u bs) (ap (λ (r : Left). r.bytes) (sym g) ∙ some_left rest.bytes b f)
       ∙ ap (λ (r : Left). after_given so_far (at_rest r u) (d.after at order (tried_seen start u.rest.at negated o b))) (sym g)
       ∙ ap (λ (i : ℕ). after_given so_far (at_rest rest u) (d.after at order (tried_seen start i negated o b))) (sym k)
+
+  -- where the text ends after a test and white space, the braces are not closed
+  pub tried_none : (emits : Bool) (o : Operand) (u : Reading) (rest : Left) → emits ≡ may_emit order negated
+      → operand_given outer v (d.asked deep c at emits v.rest.at v.rest.bytes) ≡ Ok (o, u) → rest ≡ spaced u.rest
+      → None ≡ first_of rest.bytes
+      → tried_given outer at order so_far v (d.asked_from deep c at order start negated v.rest.at v.rest.bytes)
+      ≡ Err (Unclosed (open_at outer at))
+  tried_none emits o u rest e h g f =
+      tried_from o u (d.asked deep c at (may_emit order negated) v.rest.at v.rest.bytes)
+      (ap (λ (t : Bool). operand_given outer v (d.asked deep c at t v.rest.at v.rest.bytes)) (sym e) ∙ h)
+      ∙ ap (λ (bs : List ℕ). tried_at o u bs) (ap (λ (r : Left). r.bytes) (sym g) ∙ none_left rest.bytes f)

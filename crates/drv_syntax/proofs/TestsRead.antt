@@ -3,11 +3,11 @@ use Rattle.drv_syntax.proofs.CallsRead.{ListReads, result_reads}
 use Rattle.drv_syntax.proofs.Failing.{Failure, failed, then_fails}
 use Rattle.drv_syntax.proofs.Heads.{asked_head, no_white, pattern_head, no_percent, sign_white, unstarred_spaces}
 use Rattle.drv_syntax.proofs.PartsRead.{Reads, beyond, byte_next, past_none, past_past, pattern_reads, reads_after, reads_as, reads_past}
-use Rattle.drv_syntax.proofs.PartsRead.{reads_then, runs_to, skipped, spaces_to}
+use Rattle.drv_syntax.proofs.PartsRead.{reads_none, reads_then, runs_to, skipped, spaces_to, worded_reads}
 use Rattle.drv_syntax.specs.Bytes.{is_mark, is_white, is_word}
 use Rattle.drv_syntax.specs.Contexts.{ListContext, in_arguments, in_braces}
 use Rattle.drv_syntax.specs.Descent as d
-use Rattle.drv_syntax.specs.Descent.{Alternative, Ends, Form, Lists, Operand, Patterns, Quoted, Read, Took, Tried, past, quoted, then_read}
+use Rattle.drv_syntax.specs.Descent.{Alternative, Ends, Form, Lists, Operand, Patterns, Read, Took, Tried, past, then_read}
 use Rattle.drv_syntax.specs.Refusals.{AtBar, Order, may_emit}
 use Rattle.drv_syntax.specs.Spelling as s
 use Rattle.drv_syntax.specs.Spelling.{AreSpaces, AreTests, At, IsAsked, IsCall, IsPattern, IsQuoted, IsSign, span}
@@ -25,22 +25,15 @@ use Rattle.std.specs.Prelude.{◌-◌, ◌==◌, Some}
 -- after a mark, a word by the grammar that no star follows is read, for a suffix, a language or a pattern
 pub mark_reads : {text word rest : List ℕ} {x : ℕ} (at n : ℕ) (emits : Bool) (mark : ℕ) → IsQuoted is_word text (x ∷ word) rest
     → s.Stops (λ b. b == ascii.asterisk) rest
-    → Reads (d.mark_text at emits mark n (quoted is_word text) text) text (d.marked_operand mark (x ∷ word)) rest
-mark_reads {text} {word} {rest} {x} at n emits mark i h =
+    → Reads (d.mark_text at emits mark n text) text (d.marked_operand mark (x ∷ word)) rest
+mark_reads {word = word} {rest} {x} at n emits mark i h =
     let m = runs_to i in
-    record {
-      size = m.size;
-      is = ap (λ (q : Quoted). d.mark_text at emits mark n q text) m.is
-          ∙ ap (λ (t : List ℕ). d.mark_end at emits mark n (x ∷ word) m.size t) m.left
-          ∙ ended m.size rest h;
-      left = m.left;
-      fits = m.fits;
-    }
+    worded_reads n (λ m. Ends at) (λ word m rest. d.mark_end at emits mark word m rest) m (reads_none rest (ended (n + m.size) rest h))
   where
-    ended : (size : ℕ) (rest : List ℕ) → s.Stops (λ b. b == ascii.asterisk) rest
-        → d.mark_end at emits mark n (x ∷ word) size rest ≡ Took (d.marked_operand mark (x ∷ word)) size
-    ended size [] h = refl
-    ended size (b ∷ rest) (s.at_byte e) = rw e refl
+    ended : (m : ℕ) (rest : List ℕ) → s.Stops (λ b. b == ascii.asterisk) rest
+        → d.mark_end at emits mark (x ∷ word) m rest ≡ Took (d.marked_operand mark (x ∷ word)) 0
+    ended m [] h = refl
+    ended m (b ∷ rest) (s.at_byte e) = rw e refl
 
 -- white space after a test, and the byte after it, are read
 pub end_reads : {w q : List ℕ} {b : ℕ} (at : ℕ) (place : Span) (negated : Bool) (o : Operand) → AreSpaces w (b ∷ q) → is_white b ≡ false
@@ -94,7 +87,7 @@ one_more place negated a (s.next_test sp x sign i y z o) = refl
 module _ (deep : Lists) (c : ListContext) (at : ℕ) where
   -- what begins with a mark is read by the word after the mark
   pub mark_is : (emits : Bool) (n mark : ℕ) (t : List ℕ) → is_mark mark ≡ true
-      → d.asked deep c at emits n (mark ∷ t) ≡ past 1 (d.mark_text at emits mark (n + 1) (quoted is_word t) t)
+      → d.asked deep c at emits n (mark ∷ t) ≡ past 1 (d.mark_text at emits mark (n + 1) t)
   mark_is emits n mark t h = rw h refl
 
   -- a pattern by the grammar that begins with no mark is read as a test of a switch

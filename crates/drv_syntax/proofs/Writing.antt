@@ -5,7 +5,7 @@ use Rattle.drv_syntax.specs.Bytes.{is_name_byte}
 use Rattle.drv_syntax.specs.Code.Left.{Left, after, begins_with, first_of, second_of}
 use Rattle.drv_syntax.specs.Code.Writing.{Parts, Reading, at_rest, given, in_class, item_given, item_written, leaf_here, leafed, open_at}
 use Rattle.drv_syntax.specs.Code.Writing.{quoted_to, runs_in, wrote}
-use Rattle.drv_syntax.specs.Descent.{Ends, Hangs, Quoted, Read, Run, Stops, Took, name_end, name_from, past, quoted, with_byte}
+use Rattle.drv_syntax.specs.Descent.{Ends, Hangs, Quoted, Read, Run, Stops, Took, name_end, named, past, quoted, with_byte, worded}
 use Rattle.drv_syntax.specs.Labels.{Label, no_node, node, word_label}
 use Rattle.drv_syntax.specs.Spelling.{span}
 use Rattle.drv_syntax.specs.Tree.{Item}
@@ -16,7 +16,7 @@ use Rattle.drv_syntax.specs.declared.token.Token.{Token}
 use Rattle.drv_syntax.specs.declared.token.TokenKind.TheVariants as kinds
 use Rattle.drv_syntax.specs.declared.token.TokenKind.{TokenKind}
 use Rattle.std.proofs.Common.{◌≡◌, ◌∙◌, ◌+◌, ◌++◌, ◌<◌, ◌≤◌, Bool, false, true, if◌then◌else◌, List, [], ◌∷◌, ap, append-nil, append_assoc}
-use Rattle.std.proofs.Common.{arith, drop, drop-drop, length, length-append, refl, subst, suc, sym, take, zero, ℕ}
+use Rattle.std.proofs.Common.{arith, drop, drop-drop, length, refl, subst, suc, sym, take, zero, ℕ}
 use Rattle.std.proofs.lemmas.Bool.Decides.{nat_tests}
 use Rattle.std.specs.List.{prefix_len}
 use Rattle.std.specs.Prelude.{◌==◌, ◌||◌, Err, None, Ok, Option, Result, Some, nat_le}
@@ -227,90 +227,26 @@ plain_kept class w more v rest b whole f g h i j k = cc (i, j, by v.rest.bytes r
 within : (n m : ℕ) → n ≤ m → nat_le n m ≡ true
 within n m h = grind (arith, nat_tests)
 
--- the name of a named text that is longer than 255 bytes is refused
-name_long_from : {Y : Type 0} (outer : Option ℕ) (rest : Left) (f : Item → Left → Y) (at n : ℕ) (p text : List ℕ) → length p ≤ 255
-    → 255 < length p + prefix_len is_name_byte text → given outer rest f (name_from at n p text) ≡ Err (BadDirective at)
-name_long_from outer rest f at n p [] h g = absurd (omega (arith, h, g))
-name_long_from outer rest f at n p (b ∷ text) h g =
-    by (is_name_byte b) (nat_le (length (p ++ b ∷ [])) 255) refl refl g
-    (λ i j. name_long_from outer (after 1 rest) f at (n + 1) (p ++ b ∷ []) text i j)
-  where
-    by : (t u : Bool) → is_name_byte b ≡ t → nat_le (length (p ++ b ∷ [])) 255 ≡ u
-        → 255 < length p + (if t then 1 + prefix_len is_name_byte text else 0)
-        → (length (p ++ b ∷ []) ≤ 255 → 255 < length (p ++ b ∷ []) + prefix_len is_name_byte text
-        → given outer (after 1 rest) f (name_from at (n + 1) (p ++ b ∷ []) text) ≡ Err (BadDirective at))
-        → given outer rest f (if t then (if u then past 1 (name_from at (n + 1) (p ++ b ∷ []) text) else Stops n (BadDirective at)) else
-        name_end at n p 0 (b ∷ text)) ≡ Err (BadDirective at)
-    by false u e d x ih = absurd (omega (arith, h, x))
-    by true false e d x ih = refl
-    by true true e d x ih =
-        let l : length (p ++ b ∷ []) ≤ 255 = grind (arith, nat_tests) in
-        cc (given_past outer rest f 1 (name_from at (n + 1) (p ++ b ∷ []) text), ih l (omega (arith, x, length-append p (b ∷ []))))
-
--- a name of at most 255 bytes, read byte by byte, is what the code takes at once
-name_short_from : {Y : Type 0} (outer : Option ℕ) (rest : Left) (f : Item → Left → Y) (at n : ℕ) (p text : List ℕ)
-    → length p + prefix_len is_name_byte text ≤ 255
-    → given outer rest f (name_from at n p text)
-    ≡ given outer (after (prefix_len is_name_byte text) rest) f
-    (name_end at (n + prefix_len is_name_byte text) (p ++ take (prefix_len is_name_byte text) text) 0
-    (drop (prefix_len is_name_byte text) text))
-name_short_from outer rest f at n p [] h = refl
-name_short_from outer rest f at n p (b ∷ text) h =
-    by (is_name_byte b) (nat_le (length (p ++ b ∷ [])) 255) refl refl h
-    (λ i. name_short_from outer (after 1 rest) f at (n + 1) (p ++ b ∷ []) text i)
-  where
-    k : ℕ
-    k = prefix_len is_name_byte text
-
-    by : (t u : Bool) → is_name_byte b ≡ t → nat_le (length (p ++ b ∷ [])) 255 ≡ u
-        → length p + (if t then 1 + k else 0) ≤ 255
-        → (length (p ++ b ∷ []) + k ≤ 255
-        → given outer (after 1 rest) f (name_from at (n + 1) (p ++ b ∷ []) text)
-        ≡ given outer (after k (after 1 rest)) f (name_end at (n + 1 + k) ((p ++ b ∷ []) ++ take k text) 0 (drop k text)))
-        → given outer rest f (if t then (if u then past 1 (name_from at (n + 1) (p ++ b ∷ []) text) else Stops n (BadDirective at)) else
-        name_end at n p 0 (b ∷ text))
-        ≡ given outer (after (if t then 1 + k else 0) rest) f
-        (name_end at (n + (if t then 1 + k else 0)) (p ++ take (if t then 1 + k else 0) (b ∷ text)) 0
-        (drop (if t then 1 + k else 0) (b ∷ text)))
-    by false u e d x ih =
-        let i : n ≡ n + 0 = omega arith in
-        cc (i, append-nil p, after_none rest)
-    by true false e d x ih =
-        let l : nat_le (length (p ++ b ∷ [])) 255 ≡ true = within (length (p ++ b ∷ [])) 255 (omega (arith, x, length-append p (b ∷ []))) in
-        absurd cc
-    by true true e d x ih =
-        let i : n + 1 + k ≡ n + (1 + k) = omega arith in
-        cc (
-          given_past outer rest f 1 (name_from at (n + 1) (p ++ b ∷ []) text),
-          ih (omega (arith, x, length-append p (b ∷ []))),
-          after_after 1 k rest,
-          i,
-          append_assoc p (b ∷ []) (take k text),
-          one_more k,
-        )
-
 -- the item is written up to this rest
 abbrev item_to : ℕ → Item → Left → Reading → Reading
 item_to start x r v = record { rest = r; parts = item_written start x r.at v.parts }
 
 -- where the code counts more than 255 bytes of a name, the directive is refused
 pub name_long : (outer : Option ℕ) (at start : ℕ) (v : Reading) (k : ℕ) → k ≡ prefix_len is_name_byte v.rest.bytes → 255 < k
-    → item_given outer start v (name_from at v.rest.at [] v.rest.bytes) ≡ Err (BadDirective at)
-name_long outer at start v k e h = name_long_from outer v.rest (λ x r. item_to start x r v) at v.rest.at [] v.rest.bytes (omega arith)
-    (omega (arith, e, h))
+    → item_given outer start v (named at v.rest.at v.rest.bytes) ≡ Err (BadDirective at)
+name_long outer at start v k e h =
+    let long : nat_le k 255 ≡ false = grind (arith, nat_tests) in
+    rw (← e, long) refl
 
 -- where the code counts at most 255 bytes of a name, the directive gives what its end after the name gives
 pub name_short : (outer : Option ℕ) (at start : ℕ) (v : Reading) (k : ℕ) (name : List ℕ) (rest : Left)
     → k ≡ prefix_len is_name_byte v.rest.bytes → k ≤ 255 → rest ≡ after k v.rest → name ≡ take k v.rest.bytes
-    → item_given outer start v (name_from at v.rest.at [] v.rest.bytes)
-    ≡ item_given outer start (at_rest rest v) (name_end at rest.at name 0 rest.bytes)
+    → item_given outer start v (named at v.rest.at v.rest.bytes)
+    ≡ item_given outer start (at_rest rest v) (name_end at rest.at name rest.bytes)
 name_short outer at start v k name rest e h f g =
-    name_short_from outer v.rest (λ x r. item_to start x r v) at v.rest.at [] v.rest.bytes (omega (arith, e, h))
-    ∙ ap (λ (i : ℕ). item_given outer start (at_rest (after i v.rest) v)
-    (name_end at (v.rest.at + i) (take i v.rest.bytes) 0 (drop i v.rest.bytes))) (sym e)
-    ∙ ap (λ (q : List ℕ). item_given outer start (at_rest (after k v.rest) v) (name_end at (v.rest.at + k) q 0 (drop k v.rest.bytes)))
-    (sym g)
-    ∙ ap (λ (r : Left). item_given outer start (at_rest r v) (name_end at r.at name 0 r.bytes)) (sym f)
+    let short : nat_le k 255 ≡ true = within k 255 h in
+    rw (← e, short, f, g) (given_past outer v.rest (λ x r. item_to start x r v) k
+    (name_end at (v.rest.at + k) (take k v.rest.bytes) (drop k v.rest.bytes)))
 
 -- an item without parts inside it
 
@@ -338,10 +274,10 @@ module _ (outer : Option ℕ) (at start : ℕ) (v : Reading) (k : ℕ) (name : L
     (short : k ≤ 255) (left : rest ≡ after k v.rest) (taken : name ≡ take k v.rest.bytes) where
   -- what the end of a named text gives after this name
   abbrev ended : List ℕ → List ℕ → Result Reading SyntaxFault
-  ended word bytes = item_given outer start (at_rest rest v) (name_end at rest.at word 0 bytes)
+  ended word bytes = item_given outer start (at_rest rest v) (name_end at rest.at word bytes)
 
   -- where the text ends after a name, the directive is not closed
-  pub name_cut : first_of rest.bytes ≡ None → item_given outer start v (name_from at v.rest.at [] v.rest.bytes)
+  pub name_cut : first_of rest.bytes ≡ None → item_given outer start v (named at v.rest.at v.rest.bytes)
       ≡ Err (Unclosed (open_at outer at))
   name_cut e = name_short outer at start v k name rest whole short left taken ∙ by rest.bytes e
     where
@@ -351,7 +287,7 @@ module _ (outer : Option ℕ) (at start : ℕ) (v : Reading) (k : ℕ) (name : L
 
   -- where another byte than a bracket follows a name, the directive is refused
   pub name_bad : (b : ℕ) → first_of rest.bytes ≡ Some b → (b ≡ ascii.closing_parenthesis → ⊥)
-      → item_given outer start v (name_from at v.rest.at [] v.rest.bytes) ≡ Err (BadDirective at)
+      → item_given outer start v (named at v.rest.at v.rest.bytes) ≡ Err (BadDirective at)
   name_bad b e g = name_short outer at start v k name rest whole short left taken ∙ by name rest.bytes e
     where
       other : (b == ascii.closing_parenthesis) ≡ false
@@ -366,7 +302,7 @@ module _ (outer : Option ℕ) (at start : ℕ) (v : Reading) (k : ℕ) (name : L
 
   -- a name with its bracket is written as one token, with the name as its label
   pub name_done : (b : ℕ) (end : Left) → end ≡ after 1 rest → first_of rest.bytes ≡ Some b → b ≡ ascii.closing_parenthesis → 0 < length name
-      → item_given outer start v (name_from at v.rest.at [] v.rest.bytes)
+      → item_given outer start v (named at v.rest.at v.rest.bytes)
       ≡ Ok (leaf_here kinds.NamedText (word_label name) start (at_rest end v))
   name_done b end i e g l = cc (name_short outer at start v k name rest whole short left taken, by name rest.bytes e l, i)
     where
@@ -393,18 +329,17 @@ word_in : Option (List ℕ) → List ℕ
 word_in None = []
 word_in (Some w) = w
 
--- once a word is read, a part that ends with it gives what its end gives from there
-pub quoted_took : {X Y : Type 0} (outer : Option ℕ) (v u : Reading) (g : X → Left → Y) (q : Quoted) (word : List ℕ)
-    (goes : Quoted → Read X) (end : List ℕ → ℕ → List ℕ → Read X)
-    → ((w : List ℕ) (size : ℕ) → goes (Run w size) ≡ end w size (drop size v.rest.bytes))
-    → ((w : List ℕ) (size : ℕ) (bs : List ℕ) → given outer v.rest g (end w size bs) ≡ given outer (after size v.rest) g (end w 0 bs))
-    → quoted_to [] v q ≡ (Some word, u)
-    → given outer v.rest g (goes q) ≡ given outer u.rest g (end word 0 u.rest.bytes)
+-- once a word is read, a part that begins with it gives what goes on from there
+pub quoted_took : {X Y : Type 0} (outer : Option ℕ) (v u : Reading) (g : X → Left → Y) (hangs : ℕ → Read X)
+    (goes : List ℕ → ℕ → List ℕ → Read X) (q : Quoted) (word : List ℕ) → quoted_to [] v q ≡ (Some word, u)
+    → given outer v.rest g (worded hangs goes v.rest.at q v.rest.bytes) ≡ given outer u.rest g (goes word u.rest.at u.rest.bytes)
 unfolding word_in
-quoted_took outer v u g (Run w size) word goes end is shift e =
+quoted_took outer v u g hangs goes (Run w size) word e =
     let p : w ≡ word = ap (λ (z : Option (List ℕ) × Reading). word_in z.0) e in
     let r : after size v.rest ≡ u.rest = ap (λ (z : Option (List ℕ) × Reading). z.1.rest) e in
-    cc (is w size, shift w size (drop size v.rest.bytes), p, r)
-quoted_took outer v u g (Hangs size) word goes end is shift e =
+    given_past outer v.rest g size (goes w (v.rest.at + size) (drop size v.rest.bytes))
+    ∙ ap (λ (x : List ℕ). given outer (after size v.rest) g (goes x (v.rest.at + size) (drop size v.rest.bytes))) p
+    ∙ ap (λ (l : Left). given outer l g (goes word l.at l.bytes)) r
+quoted_took outer v u g hangs goes (Hangs size) word e =
     let n : None ≡ Some word = ap (λ (z : Option (List ℕ) × Reading). z.0) e in
     absurd cc

@@ -5,9 +5,9 @@ use Rattle.drv_syntax.specs.Contexts.{in_braces, in_x, is_end, is_said, newline_
 use Rattle.drv_syntax.specs.Directives.{braced, directive_of, is_allowed, said, text_of}
 use Rattle.drv_syntax.specs.Refusals.{AtBar, AtFront, AtNext, Order, may_emit}
 use Rattle.drv_syntax.specs.Spelling.{span}
-use Rattle.drv_syntax.specs.Tree.{AddOption, Asked, Blank, Brace, BuiltinText, Choose, Emit, Escape, Function, HasLanguage}
-use Rattle.drv_syntax.specs.Tree.{HasResult, HasSuffix, HasSwitch, Hide, Item, Items, Leaf, NamedText, Pattern, Plain, Span, Star, TempName}
-use Rattle.drv_syntax.specs.Tree.{Tests, alternative, more, no_choice, no_test, none, pattern, test}
+use Rattle.drv_syntax.specs.Tree.{AddOption, Asked, Blank, Brace, BuiltinText, Choose, Emit, Escape, Function, HasLanguage, HasResult}
+use Rattle.drv_syntax.specs.Tree.{HasSuffix, HasSwitch, Hide, Item, Items, Leaf, NamedText, Pattern, Plain, Span, Star, TempName, Tests}
+use Rattle.drv_syntax.specs.Tree.{alternative, more, no_choice, no_test, none, pattern, test}
 use Rattle.drv_syntax.specs.declared.directives.BraceKind.TheVariants.{InPlace}
 use Rattle.drv_syntax.specs.declared.directives.BraceKind.{BraceKind}
 use Rattle.drv_syntax.specs.declared.directives.Directive.TheVariants.{Named, Nowhere, OfStar, Whole, WithBraces, WithCall}
@@ -20,8 +20,8 @@ use Rattle.drv_syntax.specs.declared.fault.SyntaxFault.TheVariants.{UnknownFunct
 use Rattle.drv_syntax.specs.declared.fault.SyntaxFault.{SyntaxFault}
 use Rattle.drv_syntax.specs.declared.token.TempKind.{TempKind}
 use Rattle.std.specs.List.{prefix_len}
-use Rattle.std.specs.Prelude.{◌+◌, ◌-◌, ◌==◌, Bool, false, true, if◌then◌else◌, List, [], ◌∷◌, ◌++◌, drop, length, nat_le, take, Option}
-use Rattle.std.specs.Prelude.{None, Some, codes, suc, zero, ℕ}
+use Rattle.std.specs.Prelude.{◌+◌, ◌-◌, ◌==◌, Bool, false, true, if◌then◌else◌, List, [], ◌∷◌, ◌++◌, drop, nat_le, take, Option, None, Some}
+use Rattle.std.specs.Prelude.{codes, suc, zero, ℕ}
 
 -- What each part of a spec text gives: the grammar as functions, each on the text from its part on (GCC manual, "Spec
 -- Files"; this project's profile). The last function, levels, gives what takes the list that a whole text is.
@@ -77,6 +77,12 @@ quoted f (b ∷ c ∷ text) =
     else if f b then with_byte b 1 (quoted f (c ∷ text))
     else Run [] 0
 
+-- goes on after a run of bytes and of escapes with its word, the place after it and what is left; or the text ends in an escape, and
+-- `hangs` says what that gives, by the place of its backslash
+abbrev pub worded : {X : Type 0} → (ℕ → Read X) → (List ℕ → ℕ → List ℕ → Read X) → ℕ → Quoted → List ℕ → Read X
+worded hangs goes n (Run word size) text = past size (goes word (n + size) (drop size text))
+worded hangs goes n (Hangs size) text = hangs (n + size)
+
 -- %g or its like without a suffix of its own, where the byte b at the place n follows: %O for the suffix of objects, or none
 abbrev pub suffix_object : TempKind → ℕ → ℕ → List ℕ → Read Item
 suffix_object kind n b [] = if b == ascii.percent then Ends n else Took (TempName kind []) 0
@@ -92,67 +98,55 @@ suffix kind n (b ∷ text) =
     kind n b text
 
 -- the brace that closes %x{OPTION}, after this word: an option without bytes doesn't fit
-abbrev pub option_end : ℕ → ℕ → List ℕ → ℕ → List ℕ → Read Item
-option_end at n word size [] = Ends at
-option_end at n [] size (b ∷ rest) = Stops (n + size) (BadDirective at)
-option_end at n (x ∷ word) size (b ∷ rest) = Took (AddOption (x ∷ word)) (size + 1)
+abbrev pub option_end : ℕ → List ℕ → ℕ → List ℕ → Read Item
+option_end at word n [] = Ends at
+option_end at [] n (b ∷ rest) = Stops n (BadDirective at)
+option_end at (x ∷ word) n (b ∷ rest) = Took (AddOption (x ∷ word)) 1
 
 -- %x{OPTION} after its opening brace: the option's bytes and escapes, and the brace that closes it
-abbrev pub option_text : ℕ → ℕ → Quoted → List ℕ → Read Item
-option_text at n (Hangs size) text = Ends at
-option_text at n (Run word size) text = option_end at n word size (drop size text)
+abbrev pub option_text : ℕ → ℕ → List ℕ → Read Item
+option_text at n text = worded (λ m. Ends at) (λ word m rest. option_end at word m rest) n (quoted is_option text) text
 
 -- %x{OPTION} after its x: both braces and the option between them
 abbrev pub option : ℕ → ℕ → List ℕ → Read Item
 option at n [] = Ends at
-option at n (b ∷ text) = if b == ascii.opening_brace then past 1 (option_text at (n + 1) (quoted is_option text) text) else Stops n
-    (BadDirective at)
+option at n (b ∷ text) = if b == ascii.opening_brace then past 1 (option_text at (n + 1) text) else Stops n (BadDirective at)
 
 -- the end of a message: a newline after it belongs to it
-abbrev pub saying_end : SayKind → List ℕ → ℕ → List ℕ → Read Item
-saying_end kind word size [] = Took (said kind word) size
-saying_end kind word size (b ∷ rest) = if b == ascii.newline then Took (said kind word) (size + 1) else Took (said kind word) size
+abbrev pub saying_end : SayKind → List ℕ → List ℕ → Read Item
+saying_end kind word [] = Took (said kind word) 0
+saying_end kind word (b ∷ rest) = if b == ascii.newline then Took (said kind word) 1 else Took (said kind word) 0
 
--- a message and what ends it; the text may end in an escape, whose backslash is then what isn't closed
-abbrev pub saying_text : SayKind → ℕ → Quoted → List ℕ → Read Item
-saying_text kind n (Hangs size) text = Ends (n + size)
-saying_text kind n (Run word size) text = saying_end kind word size (drop size text)
-
--- %eTEXT and %nTEXT, up to the end of the line or of the X; the newline belongs to them
+-- %eTEXT and %nTEXT, up to the end of the line or of the X; the newline belongs to them, and a backslash that the text ends in isn't closed
 abbrev pub saying : Kind → SayKind → ℕ → List ℕ → Read Item
-saying list kind n text = saying_text kind n (quoted (is_said list) text) text
+saying list kind n text = worded (λ m. Ends m) (λ word m rest. saying_end kind word rest) n (quoted (is_said list) text) text
 
 -- the parenthesis that closes %(NAME), after this name: a name without bytes doesn't fit, nor does another byte
-abbrev pub name_end : ℕ → ℕ → List ℕ → ℕ → List ℕ → Read Item
-name_end at n name size [] = Ends at
-name_end at n [] size (b ∷ rest) = Stops (n + size) (BadDirective at)
-name_end at n (x ∷ name) size (b ∷ rest) = if b == ascii.closing_parenthesis then Took (NamedText (x ∷ name)) (size + 1) else Stops
-    (n + size) (BadDirective at)
+abbrev pub name_end : ℕ → ℕ → List ℕ → List ℕ → Read Item
+name_end at n name [] = Ends at
+name_end at n [] (b ∷ rest) = Stops n (BadDirective at)
+name_end at n (x ∷ name) (b ∷ rest) = if b == ascii.closing_parenthesis then Took (NamedText (x ∷ name)) 1 else Stops n (BadDirective at)
 
--- %(NAME), of at most 255 bytes, after so much of the name
-abbrev pub name_from : ℕ → ℕ → List ℕ → List ℕ → Read Item
-name_from at n name [] = Ends at
-name_from at n name (b ∷ text) =
-    if is_name_byte b then (if nat_le (length (name ++ b ∷ [])) 255 then past 1 (name_from at (n + 1) (name ++ b ∷ []) text) else Stops n
-    (BadDirective at))
-    else name_end at n name 0 (b ∷ text)
+-- %(NAME) with a name of so many bytes, of which at most 255 fit
+abbrev pub named_of : ℕ → ℕ → ℕ → List ℕ → Read Item
+named_of at n size text =
+    if nat_le size 255 then past size (name_end at (n + size) (take size text) (drop size text)) else Stops (n + 255) (BadDirective at)
+
+-- %(NAME): the longest run of bytes of a name, and what ends it
+abbrev pub named : ℕ → ℕ → List ℕ → Read Item
+named at n text = named_of at n (prefix_len is_name_byte text) text
 
 -- the star of a pattern, or none, after this word: a pattern without word and star doesn't fit
-abbrev pub pattern_end : ℕ → ℕ → List ℕ → ℕ → List ℕ → Read Pattern
-pattern_end at n [] size [] = Ends at
-pattern_end at n (x ∷ word) size [] = Took (pattern (x ∷ word) false) size
-pattern_end at n [] size (b ∷ rest) = if b == ascii.asterisk then Took (pattern [] true) (size + 1) else Stops (n + size) (EmptyTest at)
-pattern_end at n (x ∷ word) size (b ∷ rest) = if b == ascii.asterisk then Took (pattern (x ∷ word) true) (size + 1) else Took
-    (pattern (x ∷ word) false) size
-
--- the word of a pattern, with its escapes, and its star
-abbrev pub pattern_text : ℕ → ℕ → Quoted → List ℕ → Read Pattern
-pattern_text at n (Hangs size) text = Ends at
-pattern_text at n (Run word size) text = pattern_end at n word size (drop size text)
+abbrev pub pattern_end : ℕ → List ℕ → ℕ → List ℕ → Read Pattern
+pattern_end at [] n [] = Ends at
+pattern_end at (x ∷ word) n [] = Took (pattern (x ∷ word) false) 0
+pattern_end at [] n (b ∷ rest) = if b == ascii.asterisk then Took (pattern [] true) 1 else Stops n (EmptyTest at)
+pattern_end at (x ∷ word) n (b ∷ rest) =
+    if b == ascii.asterisk then Took (pattern (x ∷ word) true) 1 else Took (pattern (x ∷ word) false) 0
 
 -- a pattern: a word, a word with a star, or a star alone; in a directive whose % has the place at
 abbrev pub pattern_at : ℕ → ℕ → List ℕ → Read Pattern
-pattern_at at n text = pattern_text at n (quoted is_word text) text
+pattern_at at n text = worded (λ m. Ends at) (λ word m rest. pattern_end at word m rest) n (quoted is_word text) text
 
 -- a function's name, after so much of it, and its parenthesis
 abbrev pub function_from : ℕ → ℕ → List ℕ → List ℕ → Read (List ℕ)
@@ -206,36 +200,39 @@ bare_end at mark n b =
     else Stops n (EmptyTest at)
 
 -- after a mark and its word: a star, where the braces may still be patterns (`emits`), or whatever follows
-abbrev pub mark_end : ℕ → Bool → ℕ → ℕ → List ℕ → ℕ → List ℕ → Read Operand
-mark_end at emits mark n [] size [] = Ends at
-mark_end at emits mark n (x ∷ word) size [] = Took (marked_operand mark (x ∷ word)) size
-mark_end at emits mark n [] size (b ∷ rest) = if emits then bare_end at mark n b else Stops n (EmptyTest at)
-mark_end at emits mark n (x ∷ word) size (b ∷ rest) =
-    if b == ascii.asterisk then (if emits then Took (starred_operand mark (x ∷ word)) (size + 1) else Stops (n + size) (BadDirective at))
-    else Took (marked_operand mark (x ∷ word)) size
+abbrev pub mark_end : ℕ → Bool → ℕ → List ℕ → ℕ → List ℕ → Read Operand
+mark_end at emits mark [] n [] = Ends at
+mark_end at emits mark (x ∷ word) n [] = Took (marked_operand mark (x ∷ word)) 0
+mark_end at emits mark [] n (b ∷ rest) = if emits then bare_end at mark n b else Stops n (EmptyTest at)
+mark_end at emits mark (x ∷ word) n (b ∷ rest) =
+    if b == ascii.asterisk then (if emits then Took (starred_operand mark (x ∷ word)) 1 else Stops n (BadDirective at))
+    else Took (marked_operand mark (x ∷ word)) 0
 
 -- a mark's word, with its escapes, and what follows it
-abbrev pub mark_text : ℕ → Bool → ℕ → ℕ → Quoted → List ℕ → Read Operand
-mark_text at emits mark n (Hangs size) text = Ends at
-mark_text at emits mark n (Run word size) text = mark_end at emits mark n word size (drop size text)
+abbrev pub mark_text : ℕ → Bool → ℕ → ℕ → List ℕ → Read Operand
+mark_text at emits mark n text = worded (λ m. Ends at) (λ word m rest. mark_end at emits mark word m rest) n (quoted is_word text) text
 
--- after the name of a function that a test asks (called, of k bytes): its arguments, up to the parenthesis that closes them
-abbrev pub result_in : Lists → ListContext → ℕ → List ℕ → List ℕ → ℕ → Read Operand
-result_in deep c n text called k =
-    then_read (deep (in_arguments (in_braces c)) (n + k) (drop k text)) (λ list size. Took (result_operand called list.0) (k + (size + 1)))
+-- the arguments of a function with this name, up to the parenthesis that closes them, with what `make` makes of both
+abbrev pub arguments_of : {X : Type 0} → (List ℕ → Items → X) → Lists → ListContext → List ℕ → ℕ → List ℕ → Read X
+arguments_of make lists c name n text = then_read (lists (in_arguments c) n text) (λ list size. Took (make name list.0) (size + 1))
+
+-- a function's arguments after its name of k bytes
+abbrev pub call_in : {X : Type 0} → (List ℕ → Items → X) → Lists → ListContext → ℕ → List ℕ → List ℕ → ℕ → Read X
+call_in make lists c n text name k = past k (arguments_of make lists c name (n + k) (drop k text))
 
 -- a test %:NAME(ARGUMENTS) after its %, which has the place n; the colon must be there
 abbrev pub result : Lists → ListContext → ℕ → ℕ → List ℕ → Read Operand
 result deep c at n [] = Ends at
 result deep c at n (b ∷ text) =
-    if b == ascii.colon then past 1 (within at (then_read (function_from n (n + 2) [] text) (result_in deep c (n + 2) text))) else Stops
-    (n + 1) (BadDirective n)
+    if b == ascii.colon
+    then past 1 (within at (then_read (function_from n (n + 2) [] text) (call_in result_operand deep (in_braces c) (n + 2) text)))
+    else Stops (n + 1) (BadDirective n)
 
 -- what a test asks, in braces in a list with this context whose % has the place at, which may still be patterns
 abbrev pub asked : Lists → ListContext → ℕ → Bool → ℕ → List ℕ → Read Operand
 asked deep c at emits n [] = Ends at
 asked deep c at emits n (b ∷ text) =
-    if is_mark b then past 1 (mark_text at emits b (n + 1) (quoted is_word text) text)
+    if is_mark b then past 1 (mark_text at emits b (n + 1) text)
     else if b == ascii.percent then (if c.levels - 1 == 0 then Stops n (TooNested n) else past 1 (result deep c at n text))
     else then_read (pattern_at at n (b ∷ text)) (λ p size. Took (switch_operand p) size)
 
@@ -425,14 +422,9 @@ marked_braces lists deep c at kind n [] = Ends at
 marked_braces lists deep c at kind n (b ∷ text) = if b == ascii.opening_brace then past 1 (braces lists deep c at kind (n + 1) text) else
     Stops n (BadDirective at)
 
--- a function's arguments, up to the parenthesis that closes them, after its name of k bytes
-abbrev pub call_in : Lists → ListContext → ℕ → List ℕ → List ℕ → ℕ → Read Item
-call_in lists c n text called k = then_read (lists (in_arguments c) (n + k) (drop k text))
-    (λ list size. Took (Function called list.0) (k + (size + 1)))
-
 -- %:NAME(ARGUMENTS) after its colon, as an item: the name, the arguments, and both parentheses
 abbrev pub call : Lists → ListContext → ℕ → ℕ → List ℕ → Read Item
-call lists c at n text = within at (then_read (function_from at n [] text) (call_in lists c n text))
+call lists c at n text = within at (then_read (function_from at n [] text) (call_in Function lists c n text))
 
 -- %* in a list: it fits only in an X whose tests are all starred patterns
 abbrev pub star : ℕ → ℕ → Owner → Read Item
@@ -452,7 +444,7 @@ directive_by lists deep c at n (Named letter) text = Took (BuiltinText (text_of 
 directive_by lists deep c at n (WithSuffix kind) text = suffix kind (n + 1) text
 directive_by lists deep c at n WithOption text = option at (n + 1) text
 directive_by lists deep c at n (WithSaying kind) text = saying c.kind kind (n + 1) text
-directive_by lists deep c at n WithName text = name_from at (n + 1) [] text
+directive_by lists deep c at n WithName text = named at (n + 1) text
 directive_by lists deep c at n WithPattern text = then_read (pattern_at at (n + 1) text) (λ p size. Took (Hide p) size)
 directive_by lists deep c at n OfStar text = star at n c.owner
 directive_by lists deep c at n WithCall text = nested c.levels at n (call lists c at (n + 1) text)

@@ -20,6 +20,8 @@ use Rattle.drv_syntax.specs.declared.descent.tests.MarkForm.TheVariants as marks
 use Rattle.drv_syntax.specs.declared.descent.tests.MarkForm.{MarkForm}
 use Rattle.drv_syntax.specs.declared.descent.tests.Next.{Next}
 use Rattle.drv_syntax.specs.declared.descent.tests.Next.TheVariants as nexts
+use Rattle.drv_syntax.specs.declared.descent.tests.Opening.TheVariants as openings
+use Rattle.drv_syntax.specs.declared.descent.tests.Opening.{Opening}
 use Rattle.drv_syntax.specs.declared.descent.tests.Operand.{Operand}
 use Rattle.drv_syntax.specs.declared.descent.tests.Order.{Order}
 use Rattle.drv_syntax.specs.declared.descent.tests.Order.TheVariants as orders
@@ -36,8 +38,8 @@ use Rattle.std.specs.Prelude.{length, ℕ}
 -- What the code writes of the tests and the patterns of braces: for the clauses of src/descent/tests.rt, src/descent/patterns.rt and
 -- src/descent/parts.rt, and no law cites it. A change here needs the same change there.
 -- Names: NAME_given is what a function gives, with its value and what was read after it, or its fault. NAME_seen is a type of the code as
--- Descent or Refusals has it. `emits`: the braces may still be patterns. `so_far`: the alternative that is open. `outer` is the place of the
--- outermost directive that is open, `at` that of the innermost, `z` the parts so far, and `v` those parts and the text that is left.
+-- Descent or Refusals has it. `emits`: the braces may still be patterns. `so_far`: the alternative that is open. `outer` is the place of
+-- the outermost directive that is open, `at` that of the innermost, `z` the parts so far, and `v` those parts and the text that is left.
 
 -- a pattern that was read, with nothing written, or its fault
 abbrev pub pattern_given : Option ℕ → Reading → Read Pattern → Result (Pattern × Reading) SyntaxFault
@@ -52,11 +54,20 @@ patterns_written (p ∷ ps) z = patterns_written ps (leafed kinds.Pattern (patte
 abbrev pub patterns_given : Option ℕ → Reading → Read (List (Span × Pattern)) → Result Reading SyntaxFault
 patterns_given outer v read = given outer v.rest (λ ps rest. record { rest = after 1 rest; parts = patterns_written ps v.parts }) read
 
+-- where the tests of an alternative are in their braces, as Refusals has it
+abbrev pub opening_seen : Opening → refusals.Order
+opening_seen openings.AtFront = refusals.AtFront
+opening_seen openings.AtNext = refusals.AtNext
+
 -- the place of a test in its braces, as Refusals has it
 abbrev pub order_seen : Order → refusals.Order
-order_seen orders.AtFront = refusals.AtFront
-order_seen orders.AtNext = refusals.AtNext
-order_seen orders.AtBar = refusals.AtBar
+order_seen (orders.First opening) = opening_seen opening
+order_seen (orders.AtBar choice) = refusals.AtBar
+
+-- the alternative that is open at a test in this place, if one is
+abbrev pub alternative_of : Order → Option Choice
+alternative_of (orders.First opening) = None
+alternative_of (orders.AtBar choice) = Some choice
 
 -- what was read of a test, with this word
 abbrev pub operand_of : asked_code.Asked → List ℕ → d.Operand

@@ -72,7 +72,7 @@ pub fn option(outer: Option<u32>, at: u32, r: &mut Reader<'_>) -> Result<(), Syn
 /// `%(`, after the bracket.
 pub fn name(outer: Option<u32>, at: u32, r: &mut Reader<'_>) -> Result<(), SyntaxFault>
     ensures { Gives SyntaxFault.Memory (λ _. seen r.new) result (item_given outer at (seen r.old)
-        (descent.name_from at r.old.rest.at [] r.old.rest.bytes)) }
+        (descent.named at r.old.rest.at r.old.rest.bytes)) }
 {
     let size = run_length(RunKind::Name, r.rest.bytes());
     if size > 255 {

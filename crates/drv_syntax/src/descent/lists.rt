@@ -1,7 +1,8 @@
 //! Lists of items, and the parts that hold lists.
 
 ghost use Rattle.drv_syntax.specs.Code.Lists.{EndsAt, Opened, around, begins, brace_given, brace_kind, context_seen, directive_given, end_given, is_simple, later_given, listed_given, default_here, owner_when, result_given, tail_at, with_end, x_given};
-ghost use Rattle.drv_syntax.specs.Code.Tests.{form_given, more_given, order_seen, tried_given};
+ghost use Rattle.drv_syntax.specs.Code.Tests.{alternative_of, form_given, more_given, opening_seen, order_seen};
+ghost use Rattle.drv_syntax.specs.Code.Tests.{tried_given};
 ghost use Rattle.drv_syntax.specs.Code.Writing.{item_given, kind_seen, seen};
 ghost use Rattle.drv_syntax.specs.Contexts as contexts;
 ghost use Rattle.drv_syntax.specs.Descent as descent;
@@ -15,7 +16,9 @@ use crate::descent::parts::{Choice, close, close_choice, open, open_alternative,
 use crate::descent::patterns::patterns;
 use crate::descent::reader::{Reader, unclosed_fault};
 use crate::descent::simple::{Tail, directive, ended, item, plains};
-use crate::descent::tests::{Begun, Next, Order, begin, plain_test, result_judged};
+use crate::descent::tests::{
+    Next, Opening, Order, Test, alternative_of, begin, plain_test, result_judged,
+};
 use crate::directives::{BraceKind, Directive, allows, directive_of};
 use crate::fault::SyntaxFault;
 use crate::labels::{Naming, WORD_ALONE};
@@ -239,7 +242,7 @@ fn choices(
         (descent.choices (around c.levels).0 (around c.levels).1 (context_seen c) at
         refusals.AtFront r.old.rest.at 0 r.old.rest.bytes)) }
 {
-    let choice = match tests(outer, c, at, Order::AtFront, r)? {
+    let choice = match tests(outer, c, at, Opening::AtFront, r)? {
         Form::Patterns => return Ok(Inside::Patterns),
         Form::Tests(choice) => choice,
     };
@@ -266,7 +269,7 @@ fn later(outer: Option<u32>, c: ListContext, at: u32, r: &mut Reader<'_>) -> Res
             }
             return Ok(());
         }
-        let Form::Tests(choice) = tests(outer, c, at, Order::AtNext, r)? else {
+        let Form::Tests(choice) = tests(outer, c, at, Opening::AtNext, r)? else {
             return Err(SyntaxFault::BadDirective(at as usize));
         };
         if x(outer, c, at, choice, r)? == b'}' {
@@ -305,15 +308,15 @@ fn tests(
     outer: Option<u32>,
     c: ListContext,
     at: u32,
-    order: Order,
+    opening: Opening,
     r: &mut Reader<'_>,
 ) -> Result<Form, SyntaxFault>
     requires { 1 ≤ c.levels }
     ensures { Gives SyntaxFault.Memory (λ form. (form, seen r.new)) result
         (form_given outer (seen r.old) (descent.tests (around c.levels).1 (context_seen c) at
-        (order_seen order) r.old.rest.at 0 r.old.rest.bytes)) }
+        (opening_seen opening) r.old.rest.at 0 r.old.rest.bytes)) }
 {
-    match test(outer, c, at, order, None, r)? {
+    match test(outer, c, at, Order::First(opening), r)? {
         Next::Emits => Ok(Form::Patterns),
         Next::Joins => {
             patterns(outer, at, r)?;
@@ -340,7 +343,7 @@ fn more_tests(
 {
     let mut choice = choice;
     loop {
-        match test(outer, c, at, Order::AtBar, Some(choice), r)? {
+        match test(outer, c, at, Order::AtBar(choice), r)? {
             Next::Emits | Next::Joins => return Err(SyntaxFault::BadDirective(at as usize)),
             Next::Asks(choice) => return Ok(choice),
             Next::Bars(more) => choice = more,
@@ -356,23 +359,23 @@ fn test(
     c: ListContext,
     at: u32,
     order: Order,
-    so_far: Option<Choice>,
     r: &mut Reader<'_>,
 ) -> Result<Next, SyntaxFault>
     requires { 1 ≤ c.levels }
     ensures { Gives SyntaxFault.Memory (λ next. (next, seen r.new)) result
-        (tried_given outer at (order_seen order) so_far (seen r.old)
+        (tried_given outer at (order_seen order) (alternative_of order) (seen r.old)
         (descent.one_test (around c.levels).1 (context_seen c) at (order_seen order)
         r.old.rest.at r.old.rest.bytes)) }
 {
     let begun = begin(outer, at, r)?;
+    let test = Test { order, begun };
     if begun.byte != b'%' {
-        return plain_test(outer, at, order, so_far, begun, r);
+        return plain_test(outer, at, test, r);
     }
     if c.levels == 1 {
         return Err(SyntaxFault::TooNested(r.rest.at() as usize));
     }
-    let choice = result(outer, c, at, so_far, begun, r)?;
+    let choice = result(outer, c, at, test, r)?;
     r.rest.skip_white();
     let Some(b) = r.rest.first() else {
         return Err(unclosed_fault(outer, at));
@@ -388,14 +391,13 @@ fn result(
     outer: Option<u32>,
     c: ListContext,
     at: u32,
-    so_far: Option<Choice>,
-    begun: Begun,
+    test: Test,
     r: &mut Reader<'_>,
 ) -> Result<Choice, SyntaxFault>
     requires levels { 2 ≤ c.levels }
     requires percent { begins r.old.rest.bytes ≡ true }
     ensures { Gives SyntaxFault.Memory (λ choice. (choice, seen r.new)) result
-        (result_given outer so_far begun.start begun.negated (seen r.old)
+        (result_given outer (alternative_of test.order) test.begun.start test.begun.negated (seen r.old)
         (descent.result (around c.levels).1 (context_seen c) at r.old.rest.at
         (drop 1 r.old.rest.bytes))) }
 {
@@ -410,7 +412,8 @@ fn result(
     r.rest.take(1);
     let outer = outermost(outer, at);
     let name = function(outer, percent, r)?;
-    let choice = open_alternative(so_far, begun.start, r)?;
+    let begun = test.begun;
+    let choice = open_alternative(alternative_of(test.order), begun.start, r)?;
     let naming = Naming {
         starred: false,
         negated: begun.negated,

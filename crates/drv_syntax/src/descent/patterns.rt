@@ -8,7 +8,7 @@ ghost use Rattle.drv_syntax.specs.Tree.{pattern};
 ghost use Rattle.drv_words.specs.Gives.{Gives};
 ghost use Rattle.std.specs.Prelude.{◌≡◌, false, Ok};
 
-use crate::descent::reader::{Reader, Spelled, is_none, part_of_word, unclosed_fault};
+use crate::descent::reader::{Extent, Reader, Spelled, is_none, part_of_word, unclosed_fault};
 use crate::descent::words::{Class, quoted};
 use crate::fault::SyntaxFault;
 use crate::labels::Naming;
@@ -70,20 +70,20 @@ pub fn pattern<'a>(
     Ok(Starred { word, star })
 }
 
-/// The braces hold this pattern, from one place to another.
+/// The braces hold this pattern, which has these bytes.
 #[inline(always)]
-fn emit_pattern(start: u32, end: u32, p: Starred<'_>, r: &mut Reader<'_>) -> Result<(), SyntaxFault>
+fn emit_pattern(extent: Extent, p: Starred<'_>, r: &mut Reader<'_>) -> Result<(), SyntaxFault>
     ensures { Gives SyntaxFault.Memory (λ _. seen r.new) result (Ok (leaf_until
         TokenKind.Pattern
         (part_label (spelled p.entry.word r.old.word.items) p.entry.star false TestKind.Switch)
-        start end (seen r.old))) }
+        extent.start extent.end (seen r.old))) }
 {
     let naming = Naming {
         starred: p.star,
         negated: false,
         asks: TestKind::Switch,
     };
-    part_of_word(TokenKind::Pattern, start, end, p.word, naming, r)
+    part_of_word(TokenKind::Pattern, extent, p.word, naming, r)
 }
 
 /// Patterns after an ampersand, with the brace that closes them.
@@ -97,19 +97,20 @@ pub fn patterns(outer: Option<u32>, at: u32, r: &mut Reader<'_>) -> Result<(), S
         let start = r.rest.at();
         let p = pattern(outer, at, r)?;
         let end = r.rest.at();
+        let extent = Extent { start, end };
         r.rest.skip_white();
         let Some(b) = r.rest.first() else {
             return Err(unclosed_fault(outer, at));
         };
         if b == b'}' {
             r.rest.take(1);
-            emit_pattern(start, end, p, r)?;
+            emit_pattern(extent, p, r)?;
             return Ok(());
         }
         if b != b'&' {
             return Err(SyntaxFault::BadDirective(at as usize));
         }
         r.rest.take(1);
-        emit_pattern(start, end, p, r)?;
+        emit_pattern(extent, p, r)?;
     }
 }

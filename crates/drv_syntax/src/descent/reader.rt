@@ -26,6 +26,15 @@ pub struct Reader<'a> {
     pub word: Vec<u8>,
 }
 
+/// The bytes from one place of a text to another.
+#[derive(Clone, Copy)]
+pub struct Extent {
+    /// Where they begin.
+    pub start: u32,
+    /// Where they end.
+    pub end: u32,
+}
+
 /// A word that was read.
 #[derive(Clone, Copy)]
 pub enum Spelled<'a> {
@@ -91,21 +100,20 @@ pub fn written_here(
     }
 }
 
-/// A part from one place to another that names a word, of which this is said.
+/// A part with these bytes that names a word, of which this is said.
 #[inline(always)]
 pub fn part_of_word(
     kind: TokenKind,
-    start: u32,
-    end: u32,
+    extent: Extent,
     word: Spelled<'_>,
     naming: Naming,
     r: &mut Reader<'_>,
 ) -> Result<(), SyntaxFault>
     ensures { Gives SyntaxFault.Memory (λ _. seen r.new) result (Ok (leaf_until kind
         (part_label (spelled word.entry r.old.word.items) naming.starred naming.negated
-        naming.asks) start end (seen r.old))) }
+        naming.asks) extent.start extent.end (seen r.old))) }
 {
-    r.tokens.push(kind, start, end)?;
+    r.tokens.push(kind, extent.start, extent.end)?;
     match word {
         Spelled::Lent(bytes) => r.labels.push(bytes, naming),
         Spelled::Copied => r.labels.push(&r.word, naming),

@@ -1,7 +1,10 @@
 //! The tests of alternatives, up to the byte after each.
 
-ghost use Rattle.drv_syntax.specs.Bytes.{is_word};
-ghost use Rattle.drv_syntax.specs.Code.Tests.{after_given, asked_on, begun_given, emitted_label, mark_form, marked_as, naming_of, operand_given, operand_seen, order_seen, pattern_ends, result_after, test_ends, test_of, tried_given, tried_seen};
+ghost use Rattle.drv_syntax.specs.Code.Tests.{after_given, alternative_of, asked_on, begun_given};
+ghost use Rattle.drv_syntax.specs.Code.Tests.{emitted_label, mark_form, marked_as, naming_of};
+ghost use Rattle.drv_syntax.specs.Code.Tests.{operand_given, operand_seen, order_seen};
+ghost use Rattle.drv_syntax.specs.Code.Tests.{pattern_ends, result_after, test_ends, test_of};
+ghost use Rattle.drv_syntax.specs.Code.Tests.{tried_given, tried_seen};
 ghost use Rattle.drv_syntax.specs.Code.Writing.{is_empty, leaf_until, seen, spelled};
 ghost use Rattle.drv_syntax.specs.Code.Left.{first_of};
 ghost use Rattle.drv_syntax.specs.Contexts.{top};
@@ -14,21 +17,28 @@ ghost use Rattle.std.specs.Prelude.{◌≡◌, ◌==◌, ◌++◌, ◌∷◌, []
 use crate::descent::bytes::{is_mark, is_white};
 use crate::descent::parts::{Choice, open_alternative};
 use crate::descent::patterns::pattern;
-use crate::descent::reader::{Reader, Spelled, is_none, part_of_word, unclosed_fault};
+use crate::descent::reader::{Extent, Reader, Spelled, is_none, part_of_word, unclosed_fault};
 use crate::descent::words::{Class, quoted};
 use crate::fault::SyntaxFault;
 use crate::labels::{Labels, Naming, WORD_ALONE};
 use crate::token::{TestKind, TokenKind};
 
-/// Where a test is in its braces.
+/// Where the tests of an alternative are in their braces.
 #[derive(Clone, Copy)]
-pub enum Order {
+pub enum Opening {
     /// At their front: they can be patterns.
     AtFront,
     /// At the front of a later alternative.
     AtNext,
-    /// After a bar.
-    AtBar,
+}
+
+/// Where a test is in its braces.
+#[derive(Clone, Copy)]
+pub enum Order {
+    /// The first one of an alternative.
+    First(Opening),
+    /// After a bar, in this alternative.
+    AtBar(Choice),
 }
 
 /// What a test asks, beside its word.
@@ -64,6 +74,26 @@ pub struct Begun {
     pub byte: u8,
 }
 
+/// A test of which the front was read.
+#[derive(Clone, Copy)]
+pub struct Test {
+    /// Where it is in its braces.
+    pub order: Order,
+    /// Its front.
+    pub begun: Begun,
+}
+
+/// A test that was read, without the byte after it.
+#[derive(Clone, Copy)]
+pub struct Tested<'a> {
+    /// Where it is, and its front.
+    pub test: Test,
+    /// What was read after that.
+    pub operand: Operand<'a>,
+    /// Where it ends.
+    pub end: u32,
+}
+
 /// What a test and the byte after it make of the braces.
 #[derive(Clone, Copy)]
 pub enum Next {
@@ -77,12 +107,23 @@ pub enum Next {
     Bars(Choice),
 }
 
-/// At a test there, with this front, the braces can still be patterns.
+/// At this test, the braces can still be patterns.
 #[inline(always)]
-pub fn emits(order: Order, begun: Begun) -> bool
-    ensures { result ≡ may_emit (order_seen order) begun.negated }
+fn emits(test: Test) -> bool
+    ensures { result ≡ may_emit (order_seen test.order) test.begun.negated }
 {
-    matches!(order, Order::AtFront) && !begun.negated
+    matches!(test.order, Order::First(Opening::AtFront)) && !test.begun.negated
+}
+
+/// The alternative that is open at a test there, if one is.
+#[inline(always)]
+pub fn alternative_of(order: Order) -> Option<Choice>
+    ensures { result ≡ alternative_of order }
+{
+    match order {
+        Order::AtBar(choice) => Some(choice),
+        Order::First(_) => None,
+    }
 }
 
 /// What a test can be that begins with a mark.
@@ -96,29 +137,26 @@ pub enum MarkForm {
     Bare,
 }
 
-/// What comes after the mark of a test there, with this front, by the word there and the byte after
-/// it, where the last word with escapes is this one.
+/// What comes after the mark of a test, by the word that was read there and the byte after it.
 #[inline(always)]
 fn mark_form(
     outer: Option<u32>,
     at: u32,
-    order: Order,
-    begun: Begun,
+    test: Test,
     word: Spelled<'_>,
-    copied: &[u8],
-    b: Option<u8>,
+    r: &Reader<'_>,
 ) -> Result<MarkForm, SyntaxFault>
-    ensures { result ≡ mark_form outer at (may_emit (order_seen order) begun.negated)
-        (is_empty (spelled word.entry copied.now)) b }
+    ensures { result ≡ mark_form outer at (may_emit (order_seen test.order) test.begun.negated)
+        (is_empty (spelled word.entry r.now.word.items)) (first_of r.now.rest.bytes) }
 {
-    let none = is_none(word, copied);
-    let Some(b) = b else {
+    let none = is_none(word, &r.word);
+    let Some(b) = r.rest.first() else {
         if none {
             return Err(unclosed_fault(outer, at));
         }
         return Ok(MarkForm::Word);
     };
-    let emits = emits(order, begun);
+    let emits = emits(test);
     if b == b'*' {
         if emits {
             return Ok(MarkForm::Star);
@@ -154,24 +192,23 @@ fn marked_as(form: MarkForm, mark: u8) -> Asked
 fn marked<'a>(
     outer: Option<u32>,
     at: u32,
-    order: Order,
-    begun: Begun,
+    test: Test,
     r: &mut Reader<'a>,
 ) -> Result<Operand<'a>, SyntaxFault>
     ensures { Gives SyntaxFault.Memory
         (λ o. (operand_seen o r.new.word.items, seen r.new)) result
         (operand_given outer (seen r.old) (descent.mark_text at
-        (may_emit (order_seen order) begun.negated) begun.byte r.old.rest.at
-        (descent.quoted is_word r.old.rest.bytes) r.old.rest.bytes)) }
+        (may_emit (order_seen test.order) test.begun.negated) test.begun.byte r.old.rest.at
+        r.old.rest.bytes)) }
 {
     let Some(word) = quoted(Class::Word, r)? else {
         return Err(unclosed_fault(outer, at));
     };
-    let form = mark_form(outer, at, order, begun, word, &r.word, r.rest.first())?;
+    let form = mark_form(outer, at, test, word, r)?;
     r.rest.take_if(b'*');
     Ok(Operand {
         word,
-        asked: marked_as(form, begun.byte),
+        asked: marked_as(form, test.begun.byte),
     })
 }
 
@@ -180,20 +217,19 @@ fn marked<'a>(
 fn plain_operand<'a>(
     outer: Option<u32>,
     at: u32,
-    order: Order,
-    begun: Begun,
+    test: Test,
     r: &mut Reader<'a>,
 ) -> Result<Operand<'a>, SyntaxFault>
-    requires byte { first_of r.old.rest.bytes ≡ Some begun.byte }
-    requires other { (begun.byte == 37) ≡ false }
+    requires byte { first_of r.old.rest.bytes ≡ Some test.begun.byte }
+    requires other { (test.begun.byte == 37) ≡ false }
     ensures { Gives SyntaxFault.Memory
         (λ o. (operand_seen o r.new.word.items, seen r.new)) result
         (operand_given outer (seen r.old) (descent.asked descent.no_lists top at
-        (may_emit (order_seen order) begun.negated) r.old.rest.at r.old.rest.bytes)) }
+        (may_emit (order_seen test.order) test.begun.negated) r.old.rest.at r.old.rest.bytes)) }
 {
-    if is_mark(begun.byte) {
+    if is_mark(test.begun.byte) {
         r.rest.take(1);
-        return marked(outer, at, order, begun, r);
+        return marked(outer, at, test, r);
     }
     let p = pattern(outer, at, r)?;
     Ok(Operand {
@@ -222,19 +258,17 @@ fn label_pattern(asked: Asked, word: &[u8], labels: &mut Labels) -> Result<(), S
     }
 }
 
-/// The pattern that was read, from one place to another.
+/// The pattern that was read.
 #[inline(always)]
-fn write_pattern(
-    start: u32,
-    end: u32,
-    o: Operand<'_>,
-    r: &mut Reader<'_>,
-) -> Result<(), SyntaxFault>
+fn write_pattern(tested: Tested<'_>, r: &mut Reader<'_>) -> Result<(), SyntaxFault>
     ensures { Gives SyntaxFault.Memory (λ _. seen r.new) result (Ok (leaf_until
-        TokenKind.Pattern (emitted_label o.entry.asked (spelled o.entry.word r.old.word.items))
-        start end (seen r.old))) }
+        TokenKind.Pattern (emitted_label tested.entry.operand.asked
+        (spelled tested.entry.operand.word r.old.word.items)) tested.entry.test.begun.start
+        tested.entry.end (seen r.old))) }
 {
-    r.tokens.push(TokenKind::Pattern, start, end)?;
+    let o = tested.operand;
+    r.tokens
+        .push(TokenKind::Pattern, tested.test.begun.start, tested.end)?;
     match o.word {
         Spelled::Lent(bytes) => label_pattern(o.asked, bytes, &mut r.labels),
         Spelled::Copied => label_pattern(o.asked, &r.word, &mut r.labels),
@@ -264,22 +298,24 @@ fn naming_of(asked: Asked, begun: Begun) -> Naming
     }
 }
 
-/// The test that was read, from one place to another, in its alternative.
+/// The test that was read, in its alternative.
 #[inline(always)]
-fn write_test(
-    so_far: Option<Choice>,
-    begun: Begun,
-    end: u32,
-    o: Operand<'_>,
-    r: &mut Reader<'_>,
-) -> Result<Choice, SyntaxFault>
+fn write_test(tested: Tested<'_>, r: &mut Reader<'_>) -> Result<Choice, SyntaxFault>
     ensures { Gives SyntaxFault.Memory (λ choice. (choice, seen r.new)) result
-        (Ok (asked_on so_far (seen r.old) (span begun.start end) begun.negated
-        (test_of o.entry.asked (spelled o.entry.word r.old.word.items)))) }
+        (Ok (asked_on (alternative_of tested.entry.test.order) (seen r.old)
+        (span tested.entry.test.begun.start tested.entry.end) tested.entry.test.begun.negated
+        (test_of tested.entry.operand.asked
+        (spelled tested.entry.operand.word r.old.word.items)))) }
 {
-    let choice = open_alternative(so_far, begun.start, r)?;
+    let begun = tested.test.begun;
+    let o = tested.operand;
+    let choice = open_alternative(alternative_of(tested.test.order), begun.start, r)?;
     let naming = naming_of(o.asked, begun);
-    part_of_word(TokenKind::Test, begun.start, end, o.word, naming, r)?;
+    let extent = Extent {
+        start: begun.start,
+        end: tested.end,
+    };
+    part_of_word(TokenKind::Test, extent, o.word, naming, r)?;
     Ok(Choice {
         part: choice.part,
         label: choice.label,
@@ -289,76 +325,62 @@ fn write_test(
 
 /// The braces hold this pattern.
 #[inline(always)]
-fn emit_pattern(
-    at: u32,
-    order: Order,
-    begun: Begun,
-    end: u32,
-    o: Operand<'_>,
-    r: &mut Reader<'_>,
-) -> Result<(), SyntaxFault>
-    ensures { Gives SyntaxFault.Memory (λ _. seen r.new) result
-        (pattern_ends at (may_emit (order_seen order) begun.negated)
-        (emitted_label o.entry.asked (spelled o.entry.word r.old.word.items)) begun.start end
-        (seen r.old)) }
+fn emit_pattern(at: u32, tested: Tested<'_>, r: &mut Reader<'_>) -> Result<(), SyntaxFault>
+    ensures { Gives SyntaxFault.Memory (λ _. seen r.new) result (pattern_ends at
+        (may_emit (order_seen tested.entry.test.order) tested.entry.test.begun.negated)
+        (emitted_label tested.entry.operand.asked
+        (spelled tested.entry.operand.word r.old.word.items)) tested.entry.test.begun.start
+        tested.entry.end (seen r.old)) }
 {
-    if !emits(order, begun) {
+    if !emits(tested.test) {
         return Err(SyntaxFault::BadDirective(at as usize));
     }
-    write_pattern(begun.start, end, o, r)
+    write_pattern(tested, r)
 }
 
 /// The alternative has this test.
 #[inline(always)]
 fn alternative_with_test(
     at: u32,
-    so_far: Option<Choice>,
-    begun: Begun,
-    end: u32,
-    o: Operand<'_>,
+    tested: Tested<'_>,
     r: &mut Reader<'_>,
 ) -> Result<Choice, SyntaxFault>
     ensures { Gives SyntaxFault.Memory (λ choice. (choice, seen r.new)) result
-        (test_ends at so_far begun.start end begun.negated o.entry.asked
-        (spelled o.entry.word r.old.word.items) (seen r.old)) }
+        (test_ends at (alternative_of tested.entry.test.order) tested.entry.test.begun.start
+        tested.entry.end tested.entry.test.begun.negated tested.entry.operand.asked
+        (spelled tested.entry.operand.word r.old.word.items) (seen r.old)) }
 {
-    match o.asked {
+    match tested.operand.asked {
         Asked::Bare { .. } => return Err(SyntaxFault::EmptyTest(at as usize)),
         Asked::StarredMark { .. } => return Err(SyntaxFault::BadDirective(at as usize)),
         Asked::Switch { .. } | Asked::Marked { .. } => {}
     }
-    write_test(so_far, begun, end, o, r)
+    write_test(tested, r)
 }
 
 /// What the byte after a test makes of it, with that byte.
 #[inline(always)]
-fn judged(
-    at: u32,
-    order: Order,
-    so_far: Option<Choice>,
-    begun: Begun,
-    end: u32,
-    o: Operand<'_>,
-    b: u8,
-    r: &mut Reader<'_>,
-) -> Result<Next, SyntaxFault>
+fn judged(at: u32, tested: Tested<'_>, b: u8, r: &mut Reader<'_>) -> Result<Next, SyntaxFault>
     requires { first_of r.old.rest.bytes ≡ Some b }
     ensures { Gives SyntaxFault.Memory (λ next. (next, seen r.new)) result
-        (after_given so_far (seen r.old) (descent.after at (order_seen order)
-        (tried_seen begun.start end begun.negated (operand_seen o.entry r.old.word.items) b))) }
+        (after_given (alternative_of tested.entry.test.order) (seen r.old)
+        (descent.after at (order_seen tested.entry.test.order)
+        (tried_seen tested.entry.test.begun.start tested.entry.end
+        tested.entry.test.begun.negated
+        (operand_seen tested.entry.operand r.old.word.items) b))) }
 {
     r.rest.take(1);
     match b {
         b'}' => {
-            emit_pattern(at, order, begun, end, o, r)?;
+            emit_pattern(at, tested, r)?;
             Ok(Next::Emits)
         }
         b'&' => {
-            emit_pattern(at, order, begun, end, o, r)?;
+            emit_pattern(at, tested, r)?;
             Ok(Next::Joins)
         }
-        b':' => Ok(Next::Asks(alternative_with_test(at, so_far, begun, end, o, r)?)),
-        b'|' => Ok(Next::Bars(alternative_with_test(at, so_far, begun, end, o, r)?)),
+        b':' => Ok(Next::Asks(alternative_with_test(at, tested, r)?)),
+        b'|' => Ok(Next::Bars(alternative_with_test(at, tested, r)?)),
         _ => Err(SyntaxFault::BadDirective(at as usize)),
     }
 }
@@ -398,25 +420,24 @@ pub fn begin(outer: Option<u32>, at: u32, r: &mut Reader<'_>) -> Result<Begun, S
 pub fn plain_test(
     outer: Option<u32>,
     at: u32,
-    order: Order,
-    so_far: Option<Choice>,
-    begun: Begun,
+    test: Test,
     r: &mut Reader<'_>,
 ) -> Result<Next, SyntaxFault>
-    requires byte { first_of r.old.rest.bytes ≡ Some begun.byte }
-    requires other { (begun.byte == 37) ≡ false }
+    requires byte { first_of r.old.rest.bytes ≡ Some test.begun.byte }
+    requires other { (test.begun.byte == 37) ≡ false }
     ensures { Gives SyntaxFault.Memory (λ next. (next, seen r.new)) result
-        (tried_given outer at (order_seen order) so_far (seen r.old)
-        (descent.asked_from descent.no_lists top at (order_seen order) begun.start begun.negated
-        r.old.rest.at r.old.rest.bytes)) }
+        (tried_given outer at (order_seen test.order) (alternative_of test.order) (seen r.old)
+        (descent.asked_from descent.no_lists top at (order_seen test.order) test.begun.start
+        test.begun.negated r.old.rest.at r.old.rest.bytes)) }
 {
-    let o = plain_operand(outer, at, order, begun, r)?;
+    let operand = plain_operand(outer, at, test, r)?;
     let end = r.rest.at();
     r.rest.skip_white();
     let Some(b) = r.rest.first() else {
         return Err(unclosed_fault(outer, at));
     };
-    judged(at, order, so_far, begun, end, o, b, r)
+    let tested = Tested { test, operand, end };
+    judged(at, tested, b, r)
 }
 
 /// What the byte after a test of a function's result makes of it.

@@ -9,7 +9,7 @@ use Rattle.drv_syntax.proofs.ResultsGiven.{deep_enough, result_byte_by, result_h
 use Rattle.drv_syntax.proofs.Writing.{differs}
 use Rattle.drv_syntax.proofs.descent.lists.+list.Goals as goal
 use Rattle.drv_syntax.specs.Code.Lists.{around, brace_given, closed_here, context_seen, listed_given, tail_at}
-use Rattle.drv_syntax.specs.Code.Tests.{order_seen}
+use Rattle.drv_syntax.specs.Code.Tests.{alternative_of, choice_open, order_seen}
 use Rattle.drv_syntax.specs.Code.Writing.{named_given, open_at, seen}
 use Rattle.drv_syntax.specs.Contexts.{in_arguments}
 use Rattle.drv_syntax.specs.Refusals.{AtBar, AtFront}
@@ -310,7 +310,8 @@ later-loop-r-preserved t c =
 pub test-returns-then-begun-ne37 : goal.test-returns-then-begun-ne37
 test-returns-then-begun-ne37 t c =
     gives_same _ _
-    (test_plain (around c.args.c.levels).1 (context_seen c.args.c) c.args.at c.args.outer (order_seen c.args.order) c.args.so_far
+    (test_plain (around c.args.c.levels).1 (context_seen c.args.c) c.args.at c.args.outer (order_seen c.args.order) (alternative_of
+    c.args.order)
     (seen c.args.r.now)
     (seen c.begin.new.r) c.in_ok-begun.begun c.in_ok-begun.ensures
     (differs c.in_ok-begun.begun.byte 37 c.if-begun-ne37.true))
@@ -320,13 +321,13 @@ pub test-returns-in_err-choice : goal.test-returns-in_err-choice
 test-returns-in_err-choice t c =
     gives_err _ _ c.from_residual-in_err-choice.ensures.1 c.in_err-choice.ensures (λ h.
     result_here (around c.args.c.levels).1 (context_seen c.args.c) c.args.at c.args.outer (order_seen c.args.order)
-    c.args.so_far (seen c.args.r.now) (seen c.begin.new.r) _ c.in_ok-begun.ensures c.if-begun-ne37.false
+    (alternative_of c.args.order) (seen c.args.r.now) (seen c.begin.new.r) _ c.in_ok-begun.ensures c.if-begun-ne37.false
     (deep_enough c.args.c.levels c.requires c.if-c-eq1.false) ∙ rw h refl)
 
 pub test-returns-in_default : goal.test-returns-in_default
 test-returns-in_default t c =
     inr (result_byte_by (around c.args.c.levels).1 (context_seen c.args.c) c.args.at c.args.outer (order_seen c.args.order)
-    c.args.so_far (seen c.args.r.now) (seen c.begin.new.r) _ c.in_ok-begun.ensures c.if-begun-ne37.false
+    (alternative_of c.args.order) (seen c.args.r.now) (seen c.begin.new.r) _ c.in_ok-begun.ensures c.if-begun-ne37.false
     (deep_enough c.args.c.levels c.requires c.if-c-eq1.false)
     _ (seen c.result.new.r) c.in_ok-choice.ensures c.skip_white.new.self c.skip_white.ensures _
     (none_left _ c.in_default.ensures) ∙ rw c.unclosed_fault.ensures refl)
@@ -335,7 +336,7 @@ pub test-returns-in_err-judged : goal.test-returns-in_err-judged
 test-returns-in_err-judged t c =
     err_gives _ _ c.from_residual-in_err-judged.ensures.1
     (result_byte_by (around c.args.c.levels).1 (context_seen c.args.c) c.args.at c.args.outer (order_seen c.args.order)
-    c.args.so_far (seen c.args.r.now) (seen c.begin.new.r) _ c.in_ok-begun.ensures c.if-begun-ne37.false
+    (alternative_of c.args.order) (seen c.args.r.now) (seen c.begin.new.r) _ c.in_ok-begun.ensures c.if-begun-ne37.false
     (deep_enough c.args.c.levels c.requires c.if-c-eq1.false)
     _ (seen c.result.new.r) c.in_ok-choice.ensures c.skip_white.new.self c.skip_white.ensures _
     (some_left _ _ c.in-Some.ensures) ∙ rw (sym c.result_judged.ensures ∙ c.in_err-judged.was) refl)
@@ -343,7 +344,7 @@ test-returns-in_err-judged t c =
 pub test-returns : goal.test-returns
 test-returns t c =
     result_byte_by (around c.args.c.levels).1 (context_seen c.args.c) c.args.at c.args.outer (order_seen c.args.order)
-    c.args.so_far (seen c.args.r.now) (seen c.begin.new.r) _ c.in_ok-begun.ensures c.if-begun-ne37.false
+    (alternative_of c.args.order) (seen c.args.r.now) (seen c.begin.new.r) _ c.in_ok-begun.ensures c.if-begun-ne37.false
     (deep_enough c.args.c.levels c.requires c.if-c-eq1.false)
     _ (seen c.result.new.r) c.in_ok-choice.ensures c.skip_white.new.self c.skip_white.ensures _
     (some_left _ _ c.in-Some.ensures) ∙ rw (sym c.result_judged.ensures ∙ c.in_ok-judged.was, c.take.ensures.left) refl
@@ -351,24 +352,28 @@ test-returns t c =
 pub result-returns-in_err-items : goal.result-returns-in_err-items
 result-returns-in_err-items t c =
     gives_err _ _ c.from_residual-in_err-items.ensures.1 c.in_err-items.ensures.list
-    (λ h. asked_stop c.args.outer c.args.at c.args.so_far c.args.begun.start c.args.begun.negated (context_seen c.args.c)
+    (λ h. asked_stop c.args.outer c.args.at (alternative_of c.args.test.order) c.args.test.begun.start c.args.test.begun.negated
+    (context_seen c.args.c)
     (seen c.args.r.now)
     c.in-Some.b c.take.new.self c.take-2.new.self c.take.ensures.left c.in-Some.ensures c.if-b-ne58.false c.take-2.ensures.left
     c.outermost-outer.result c.outermost-outer.ensures c.at-percent.result c.at-percent.ensures.place c.in_ok-name.name.now
     (seen c.function.new.r)
     c.in_ok-name.ensures c.in_ok-choice.choice (seen c.open_alternative.new.r) (seen c.open.new.r) c.in_ok-part.part
-    (ok_same c.in_ok-choice.ensures.choice)
+    (ap (λ o. choice_open o c.args.test.begun.start (seen c.function.new.r).parts) (sym c.alternative_of.ensures)
+    ∙ ok_same c.in_ok-choice.ensures.choice)
     c.open_alternative.ensures.rest (ok_same c.in_ok-part.ensures) (context_seen c.in_arguments.result)
     (c.in_arguments.ensures ∙ ap (λ x. in_arguments x) c.in_braces.ensures) c.requires.levels c.in_err-items.field-0.0 h)
 
 pub result-returns : goal.result-returns
 result-returns t c =
-    asked_done c.args.outer c.args.at c.args.so_far c.args.begun.start c.args.begun.negated (context_seen c.args.c) (seen c.args.r.now)
+    asked_done c.args.outer c.args.at (alternative_of c.args.test.order) c.args.test.begun.start c.args.test.begun.negated (context_seen
+    c.args.c) (seen c.args.r.now)
     c.in-Some.b c.take.new.self c.take-2.new.self c.take.ensures.left c.in-Some.ensures c.if-b-ne58.false c.take-2.ensures.left
     c.outermost-outer.result c.outermost-outer.ensures c.at-percent.result c.at-percent.ensures.place c.in_ok-name.name.now
     (seen c.function.new.r)
     c.in_ok-name.ensures c.in_ok-choice.choice (seen c.open_alternative.new.r) (seen c.open.new.r) c.in_ok-part.part
-    (ok_same c.in_ok-choice.ensures.choice)
+    (ap (λ o. choice_open o c.args.test.begun.start (seen c.function.new.r).parts) (sym c.alternative_of.ensures)
+    ∙ ok_same c.in_ok-choice.ensures.choice)
     c.open_alternative.ensures.rest (ok_same c.in_ok-part.ensures) (context_seen c.in_arguments.result)
     (c.in_arguments.ensures ∙ ap (λ x. in_arguments x) c.in_braces.ensures) c.requires.levels
     c.in_ok-items.field-0 (seen c.items.new.r) c.take-3.new.self c.in_ok-items.ensures.list c.take-3.ensures.left
