@@ -15,6 +15,9 @@ use Rattle.std.specs.Prelude.{◌==◌, ◌||◌, Bool, List, [], ◌∷◌, ◌
 -- The options of a line that choose its machine, and the words that gcc makes of them (GCC, "gcc.cc", DRIVER_SELF_SPECS and
 -- OPTION_DEFAULT_SPECS, set_multilib_dir; in no dump). The file beside the spec file may have rows: `machine`, these options with a blank
 -- before each, and after a tab the words, with a tab between two. A line has the words of its row in their place, before all others.
+-- A gcc may also choose by an option for no machine (mips: -fno-pic adds -mno-shared, NO_SHARED_SPECS). The file has a line `key` for each
+-- such option: the option, a blank, and one of those that choose alike. A key has that one after the options for the machine; the line's
+-- own stays where it is.
 -- For clauses of src/machines.rt.
 
 -- whether an option chooses the machine: one that begins with -m, or -EB or -EL
@@ -26,13 +29,26 @@ is_machine option =
 abbrev pub key_word : Item → List ℕ
 key_word i = if is_machine i.option then byte.space ∷ i.option ++ i.argument else []
 
--- the options of a line for its machine, as the key by which a row is found
-abbrev pub key_of : List Item → List ℕ
-key_of items = flat_map key_word items
+-- what follows an option on a line of the file, if that is a blank and a word
+abbrev pub word_after : List ℕ → List ℕ
+word_after [] = []
+word_after (b ∷ rest) = if b == byte.space then b ∷ rest else []
 
--- how the row of a line begins
-abbrev pub row_beginning : List Item → List ℕ
-row_beginning items = codes "machine" ++ key_of items ++ codes "\t"
+-- the word of a line `key` for an option, with the blank before it, if the line is for that option
+abbrev pub chooser_word : List ℕ → Item → List ℕ
+chooser_word line i = if starts_with nat_eq line i.option then word_after (drop (length i.option) line) else []
+
+-- the words of a line `key` for the options of a line of the driver
+abbrev pub chooser_words : List Item → List ℕ → List ℕ
+chooser_words items line = flat_map (chooser_word line) items
+
+-- the key by which a text's row for a line is found: the line's options for its machine, and then the words of the text's lines `key`
+abbrev pub key_of : List ℕ → List Item → List ℕ
+key_of text items = flat_map key_word items ++ flat_map (chooser_words items) (values (codes "key ") text)
+
+-- how the row of a key begins
+abbrev pub row_beginning : List ℕ → List ℕ
+row_beginning key = codes "machine" ++ key ++ codes "\t"
 
 -- A word of a row is a switch; one for a folder of the row's libraries is a prefix too, and files are looked for there first (GCC,
 -- "gcc.cc", for_each_path).
@@ -110,15 +126,19 @@ child_line items row text = drop 1 (without_options items (byte.space ∷ text) 
 abbrev pub child_variable : List Item → List ℕ → Variable → Variable
 child_variable items row v = record v { value = if is v.name (codes "COLLECT_GCC_OPTIONS") then child_line items row v.value else v.value }
 
--- a line of which no row has the words: its options for a machine, a blank between two
-abbrev pub with_row : List Item → List Variable → Option (List ℕ) → MachineItems
-with_row items children None = Lacks (drop 1 (key_of items))
-with_row items children (Some row) = Made (row_items row ++ plain_items items) (map (child_variable items row) children)
+-- a line of which no row has the words: the options of its key, a blank between two
+abbrev pub with_row : List ℕ → List Item → List Variable → Option (List ℕ) → MachineItems
+with_row key items children None = Lacks (drop 1 key)
+with_row key items children (Some row) = Made (row_items row ++ plain_items items) (map (child_variable items row) children)
+
+-- the items of a line and the variables of its children by the row of a text for this key
+abbrev pub by_key : List ℕ → List ℕ → List Item → List Variable → MachineItems
+by_key text key items children = with_row key items children (first_of (values (row_beginning key) text))
 
 -- the items of a line and the variables of its children by the rows of a text; where it has none, they stay
 abbrev pub by_rows : List ℕ → List Item → List Variable → Option (List ℕ) → MachineItems
 by_rows text items children None = Made items children
-by_rows text items children (Some first) = with_row items children (first_of (values (row_beginning items) text))
+by_rows text items children (Some first) = by_key text (key_of text items) items children
 
 -- the same by a file's text: rows count only if that text has any
 abbrev pub items_by_rows : List ℕ → List Item → List Variable → MachineItems

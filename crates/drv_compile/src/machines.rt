@@ -1,5 +1,6 @@
 //! The options of a line that choose its machine, and the words that gcc makes of them.
 
+ghost use Rattle.drv_compile.specs.Machines.{by_key, chooser_word, chooser_words};
 ghost use Rattle.drv_compile.specs.Machines.{folder_item, is_machine, key_of, key_word};
 ghost use Rattle.drv_compile.specs.Machines.{items_by_rows, machined_by, plain_item, row_beginning};
 ghost use Rattle.drv_compile.specs.Machines.{row_items, with_row, word_item, word_items};
@@ -11,7 +12,7 @@ ghost use Rattle.std.specs.Option.{option_copied};
 ghost use Rattle.std.specs.Prelude.{◌≡◌, ◌++◌, IfOk, List, OnOk, drop};
 
 use crate::children::child_variables;
-use crate::compilers::{first_value, has_either, rest_of};
+use crate::compilers::{first_value, has_either, rest_of, values};
 use drv_args::{Effect, Item};
 use drv_cc::Variable;
 use drv_words::{Listing, Word};
@@ -23,7 +24,7 @@ pub(crate) enum MachineItems {
     /// The items and the variables: in both the words of the line's row are in the place of its
     /// options for a machine.
     Made(Listing<Item>, Listing<Variable>),
-    /// The options of the line for its machine, of which no row has the words.
+    /// The options of the line's key, of which no row has the words.
     Lacks(Word),
 }
 
@@ -56,21 +57,61 @@ fn push_keys(key: &mut Word, items: &[Item]) -> Result<(), AllocError>
     Ok(())
 }
 
-/// The options that choose a machine, each after a blank.
-fn key_of(alloc: Global, items: &[Item]) -> Result<Word, AllocError>
-    ensures { IfOk result (λ key. key ≡ key_of items.now) }
+/// Adds the word that a line `key` has for an option, with the blank before it.
+fn push_chooser(key: &mut Word, line: &[u8], item: &Item) -> Result<(), AllocError>
+    ensures { OnOk result (key.new ≡ key.old ++ chooser_word line.now item.now) }
 {
+    let option = item.option.as_bytes();
+    if !line.starts_with(option) {
+        return Ok(());
+    }
+    match rest_of(option, line) {
+        [b' ', word @ ..] => {
+            key.push(b' ')?;
+            key.extend_from_slice(word)
+        }
+        _ => Ok(()),
+    }
+}
+
+/// Adds the words that a line `key` has for these options.
+fn push_choosers(key: &mut Word, line: &[u8], items: &[Item]) -> Result<(), AllocError>
+    ensures { OnOk result (key.new ≡ key.old ++ chooser_words items.now line.now) }
+{
+    for item in items {
+        push_chooser(key, line, item)?;
+    }
+    Ok(())
+}
+
+/// Adds the words that the lines `key` have for these options.
+fn push_all_choosers(key: &mut Word, lines: &[Word], items: &[Item]) -> Result<(), AllocError>
+    ensures { OnOk result (key.new ≡ key.old ++ flat_map (chooser_words items.now) lines.now) }
+{
+    for line in lines {
+        push_choosers(key, line.as_bytes(), items)?;
+    }
+    Ok(())
+}
+
+/// The key of a line: the options that choose its machine, and then the words of a text's lines
+/// `key` for others.
+fn key_of(alloc: Global, text: &[u8], items: &[Item]) -> Result<Word, AllocError>
+    ensures { IfOk result (λ key. key ≡ key_of text.now items.now) }
+{
+    let lines = values(alloc, b"key ", text)?;
     let mut key = Word::empty(alloc);
     push_keys(&mut key, items)?;
+    push_all_choosers(&mut key, lines.as_slice(), items)?;
     Ok(key)
 }
 
-/// How the row of a line begins.
-fn row_beginning(alloc: Global, items: &[Item]) -> Result<Word, AllocError>
-    ensures { IfOk result (λ beginning. beginning ≡ row_beginning items.now) }
+/// How the row of a key begins.
+fn row_beginning(alloc: Global, key: &[u8]) -> Result<Word, AllocError>
+    ensures { IfOk result (λ beginning. beginning ≡ row_beginning key.now) }
 {
     let mut beginning = Word::from_bytes(alloc, b"machine")?;
-    beginning.extend_from_slice(key_of(alloc, items)?.as_bytes())?;
+    beginning.extend_from_slice(key)?;
     beginning.extend_from_slice(b"\t")?;
     Ok(beginning)
 }
@@ -165,15 +206,15 @@ fn without_blank(alloc: Global, key: &[u8]) -> Result<Word, AllocError>
 /// The items of a line after the words of its row, if it has one, and the variables of its children.
 fn with_row(
     alloc: Global,
+    key: &[u8],
     items: &[Item],
     children: &[Variable],
     row: Option<Word>,
 ) -> Result<MachineItems, AllocError>
-    ensures { IfOk result (λ made. made ≡ with_row items.now children.now row) }
+    ensures { IfOk result (λ made. made ≡ with_row key.now items.now children.now row) }
 {
     let Some(row) = row else {
-        let key = key_of(alloc, items)?;
-        let options = without_blank(alloc, key.as_bytes())?;
+        let options = without_blank(alloc, key)?;
         return Ok(MachineItems::Lacks(options));
     };
     let mut plain = Listing::new(alloc);
@@ -183,6 +224,21 @@ fn with_row(
     let mut made = words.into_vec();
     made.append(&mut plain.into_vec())?;
     Ok(MachineItems::Made(Listing::from_vec(made), told))
+}
+
+/// The items of a line and the variables of its children by the row of a text for this key.
+fn by_key(
+    alloc: Global,
+    text: &[u8],
+    key: &[u8],
+    items: &[Item],
+    children: &[Variable],
+) -> Result<MachineItems, AllocError>
+    ensures { IfOk result (λ made. made ≡ by_key text.now key.now items.now children.now) }
+{
+    let beginning = row_beginning(alloc, key)?;
+    let row = first_value(alloc, beginning.as_bytes(), text)?;
+    with_row(alloc, key, items, children, row)
 }
 
 /// The items of a line and the variables of its children by the rows of a text. Where it has none,
@@ -198,9 +254,14 @@ fn items_by_rows(
     if first_value(alloc, b"machine", text)?.is_none() {
         return Ok(MachineItems::Made(items, children));
     }
-    let beginning = row_beginning(alloc, items.as_slice())?;
-    let row = first_value(alloc, beginning.as_bytes(), text)?;
-    with_row(alloc, items.as_slice(), children.as_slice(), row)
+    let key = key_of(alloc, text, items.as_slice())?;
+    by_key(
+        alloc,
+        text,
+        key.as_bytes(),
+        items.as_slice(),
+        children.as_slice(),
+    )
 }
 
 /// The items of a line and the variables of its children by the rows of a file, if that is whole.

@@ -3,6 +3,7 @@
 use crate::alike::FolderName;
 use crate::asking::{question_about, text};
 use crate::checking::Pair;
+use crate::choosing::key_by;
 use crate::fault::Fault;
 use crate::names::sort_lines;
 use crate::natives::with_natives;
@@ -25,18 +26,6 @@ const ENDINGS: [&[u8]; 7] = [
     b".all",
     b".c.all",
 ];
-
-/// Options as one text.
-fn key_of(alloc: Global, options: &[Word]) -> Result<Word, Fault> {
-    let mut key = Word::empty(alloc);
-    for (n, option) in options.iter().enumerate() {
-        if 0 < n {
-            key.push(b' ')?;
-        }
-        key.extend_from_slice(option.as_bytes())?;
-    }
-    Ok(key)
-}
 
 /// The lines of a file before its mark.
 fn lines_of(rt: &HostRuntime, path: &Word) -> Result<Listing<Word>, Fault> {
@@ -153,7 +142,8 @@ pub fn add_words(rt: &HostRuntime, output: &Word, options: &[Word]) -> Result<()
     let path = join(rt.alloc(), &stem, b".gcc")?;
     let lines = lines_of(rt, &path)?;
     let gcc = gcc_with_rows(rt.alloc(), &path, lines.as_slice())?;
-    let key = key_of(rt.alloc(), options)?;
+    let whole = text_of(rt.alloc(), lines.as_slice())?;
+    let key = key_by(rt.alloc(), whole.as_bytes(), options)?;
     let work = WorkFolder::new(rt, &stem, &driver_at(rt)?)?;
     let pair = Pair {
         rt,

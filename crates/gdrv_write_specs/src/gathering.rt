@@ -4,6 +4,7 @@ use crate::alike::{folder_name, named_so};
 use crate::asked::{Asked, Places};
 use crate::asking::{commands, question_about};
 use crate::checking::Pair;
+use crate::choosing::{Chooser, choosers_of};
 use crate::defaults::with_defaults;
 use crate::fault::Fault;
 use crate::finding::{command_named, has_word, word_beginning};
@@ -111,6 +112,8 @@ pub struct Gathered {
     pub valued: Listing<Word>,
     /// Its rows.
     pub rows: Listing<Row>,
+    /// The options for no machine that are in the keys of rows.
+    pub choosers: Listing<Chooser>,
     /// Where its words for its machines are.
     pub ways: Ways,
 }
@@ -442,7 +445,9 @@ impl Gathered {
         let naming = folder_name(alloc, &self.own, all, self.names.len())?;
         self.others = named_so(alloc, libraries, naming);
         let folders = self.toolchain.folders.as_slice();
-        self.rows = rows_of(pair, self.probes.as_slice(), folders, naming)?;
+        let choosers = choosers_of(pair)?;
+        self.rows = rows_of(pair, self.probes.as_slice(), folders, naming, choosers.as_slice())?;
+        self.choosers = choosers;
         Ok(())
     }
 
@@ -504,6 +509,7 @@ pub fn gather(pair: Pair<'_>, ways: Ways) -> Result<Gathered, Fault> {
         dropped: Listing::new(alloc),
         valued: Listing::new(alloc),
         rows: Listing::new(alloc),
+        choosers: Listing::new(alloc),
         ways,
     })
 }

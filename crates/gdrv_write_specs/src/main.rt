@@ -10,6 +10,7 @@ mod asked;
 mod asking;
 mod calling;
 mod checking;
+mod choosing;
 mod defaults;
 mod devices;
 mod dumping;

@@ -3,6 +3,7 @@
 use crate::asking::{ask, question_about};
 use crate::calling::Manner;
 use crate::checking::Pair;
+use crate::choosing::push_choosers;
 use crate::devices::has_devices;
 use crate::fault::Fault;
 use crate::gathering::{Gathered, gather};
@@ -133,6 +134,7 @@ fn put_gcc(pair: Pair<'_>, gathered: &Gathered) -> Result<(), Fault> {
         text.extend_from_slice(suffix.as_bytes())?;
         text.push(b'\n')?;
     }
+    push_choosers(&mut text, gathered.choosers.as_slice())?;
     push_rows(&mut text, gathered.rows.as_slice())?;
     pair.work.put(pair.rt, b".gcc", &text)
 }

@@ -5,6 +5,7 @@ use crate::alike::FolderName;
 use crate::asked::Asked;
 use crate::asking::question_about;
 use crate::checking::Pair;
+use crate::choosing::{Chooser, is_chooser, keys_with};
 use crate::devices::is_of_device;
 use crate::fault::Fault;
 use crate::finding::{command_named, has_word, word_after, words_between};
@@ -25,7 +26,7 @@ pub struct Row {
 }
 
 /// The switches that gcc makes of a line with the options; none where it refuses them.
-fn collect_switches(asked: Asked<'_>) -> Result<Option<Listing<Word>>, Fault> {
+pub fn switches_of(asked: Asked<'_>) -> Result<Option<Listing<Word>>, Fault> {
     let said = asked.ask(b"-### -c -x c /dev/null")?;
     let lines = values(asked.alloc(), b"COLLECT_GCC_OPTIONS=", said.err.as_bytes())?;
     let [line, ..] = lines.as_slice() else {
@@ -35,7 +36,7 @@ fn collect_switches(asked: Asked<'_>) -> Result<Option<Listing<Word>>, Fault> {
     for word in split(asked.alloc(), line.as_bytes())?.into_vec() {
         if is_of_device(word.as_bytes()) {
             words.push(question_about(asked.alloc(), b"--gdrv-child=", word.as_bytes())?)?;
-        } else if word.as_bytes() != b"-c".as_slice() {
+        } else if word.as_bytes() != b"-c".as_slice() && !is_chooser(word.as_bytes()) {
             words.push(word)?;
         }
     }
@@ -128,7 +129,7 @@ pub fn row_of(
     folders: &[Word],
     naming: FolderName,
 ) -> Result<Option<Row>, Fault> {
-    let Some(mut words) = collect_switches(asked)? else {
+    let Some(mut words) = switches_of(asked)? else {
         return Ok(None);
     };
     add_folder(asked, folders, naming, &mut words)?;
@@ -267,16 +268,29 @@ fn keys_of(asked: Asked<'_>) -> Result<Listing<Word>, Fault> {
     Ok(keys)
 }
 
-/// The rows of a gcc with these folders, whose functions have these probes.
+/// The options of which rows are written, each also with these others.
+fn all_keys(pair: Pair<'_>, choosers: &[Chooser]) -> Result<Listing<Word>, Fault> {
+    let none = Word::empty(pair.rt.alloc());
+    let mut all = Listing::new(pair.rt.alloc());
+    for key in keys_of(pair.asked(&none))?.as_slice() {
+        for whole in keys_with(key, choosers, pair.rt.alloc())?.into_vec() {
+            all.push(whole)?;
+        }
+    }
+    Ok(all)
+}
+
+/// The rows of a gcc with these folders, whose functions have these probes and which chooses words
+/// by these options too.
 pub fn rows_of(
     pair: Pair<'_>,
     probes: &[Word],
     folders: &[Word],
     naming: FolderName,
+    choosers: &[Chooser],
 ) -> Result<Listing<Row>, Fault> {
-    let none = Word::empty(pair.rt.alloc());
     let mut rows = Listing::new(pair.rt.alloc());
-    for key in keys_of(pair.asked(&none))?.as_slice() {
+    for key in all_keys(pair, choosers)?.as_slice() {
         if let Some(row) = row_of(pair.asked(key), probes, folders, naming)? {
             rows.push(row)?;
         }
