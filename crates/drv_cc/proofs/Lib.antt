@@ -8,6 +8,7 @@ mod Lines
 mod LinkLeading
 mod Lists
 mod LongNames
+mod MacroWords
 mod NoChecks
 mod Noted
 mod OtherNames

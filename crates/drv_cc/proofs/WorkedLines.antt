@@ -1,6 +1,6 @@
 use Rattle.drv_args.specs.declared.option_table.Effect.TheVariants as effect
 use Rattle.drv_args.specs.declared.option_table.Effect.{Effect}
-use Rattle.drv_cc.specs.Front.{front_of, quoted_line}
+use Rattle.drv_cc.specs.Front.{front_of, macro_word, quoted_line}
 use Rattle.drv_cc.specs.Levels.{debugged_by}
 use Rattle.drv_cc.specs.Table.{ignored, sections, texts, unpaired}
 use Rattle.drv_cc.specs.declared.answer.Answer.TheVariants.{Ask, Refuse, Run}
@@ -25,7 +25,7 @@ named = texts (codes "q r* *")
 
 -- A compiler with one folder of its own, and no path in the environment.
 abbrev pub nowhere : Surroundings
-nowhere = record { compiler = codes "/usr/bin/gcc"; folders = codes "/g/" ∷ []; compiler_path = None; library_path = None }
+nowhere = record { compiler = codes "/usr/bin/gcc"; folders = codes "/g/" ∷ []; copies = []; compiler_path = None; library_path = None }
 
 -- The answer to a line, whose words have blanks between them, by these names of options.
 abbrev front_by : List ℕ → List ℕ → Answer
@@ -376,9 +376,10 @@ unfolding sections ignored unpaired debugged_by
 ignored_names = refl
 
 -- With a spec file of the line its switches are known, and start files are looked for in the compiler's folders.
-vendors : words_given (front_of known (codes "mfoo" ∷ []) nowhere (texts (codes "-c a.c -specs=v.specs -mfoo")))
-    ≡ gives (codes "-c a.c -specs=v.specs -mfoo -B /g/ --gdrv-dirs --gdrv-base=a.c --gdrv-ext=.c -pipe")
-unfolding sections ignored unpaired debugged_by
+vendors : words_given (front_of known (codes "mfoo" ∷ []) nowhere (texts (codes "-c a.c -specs=v.specs -mfoo -DA -D B=1")))
+    ≡ gives (codes "-c a.c -specs=v.specs -mfoo -D A -D B=1 -B /g/ --gdrv-dirs --gdrv-define=A --gdrv-define=B=1 --gdrv-base=a.c"
+    ++ codes " --gdrv-ext=.c -pipe")
+unfolding sections ignored unpaired debugged_by macro_word
 vendors = refl
 
 -- -gsplit-dwarf keeps a file beside the object, so the compiler gets its name.
@@ -487,13 +488,15 @@ abbrev found : Option (List (List ℕ))
 found = words_given (front_of known named (record {
   compiler = codes "gcc";
   folders = codes "/g/" ∷ codes "/h" ∷ [];
+  copies = codes "/v/" ∷ [];
   compiler_path =
       Some (codes "/p:");
   library_path = Some (codes "/l");
 }) (texts (codes "o.o -B q")))
 
--- Each folder of COMPILER_PATH follows those of the line; an empty one is the folder of the call. LIBRARY_PATH gives switches.
-found_folders : found ≡ gives (codes "o.o -B q --gdrv-path= /p --gdrv-path= ./ -B /g/ -B /h --gdrv-dirs --gdrv-lib=/l")
+-- Each folder of COMPILER_PATH follows those of the line; an empty one is the folder of the call. Copies of spec files follow. LIBRARY_PATH
+-- gives switches.
+found_folders : found ≡ gives (codes "o.o -B q --gdrv-path= /p --gdrv-path= ./ --gdrv-copies= /v/ -B /g/ -B /h --gdrv-dirs --gdrv-lib=/l")
 unfolding sections ignored unpaired debugged_by
 found_folders = refl
 

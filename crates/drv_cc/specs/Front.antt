@@ -76,9 +76,14 @@ prefix = item_of effect.Prefix (codes "-B")
 abbrev pub program_prefix : List ℕ → LineItem
 program_prefix = item_of effect.Prefix (codes "--gdrv-path=")
 
--- programs are looked for in the compiler's own folders last
+-- a folder with copies of vendors' spec files, which has nothing else: a prefix with a switch of its own
+abbrev pub copy_prefix : List ℕ → LineItem
+copy_prefix = item_of effect.Prefix (codes "--gdrv-copies=")
+
+-- programs are looked for in the compiler's own folders last, and spec files in the copies before these
 abbrev pub prefixes : Surroundings → List LineItem
-prefixes around = map program_prefix (folders around.compiler_path) ++ map prefix around.folders
+prefixes around =
+    map program_prefix (folders around.compiler_path) ++ map copy_prefix around.copies ++ map prefix around.folders
 
 -- whether the line has -B or names a vendor's spec file: then start files are looked for in the compiler's own folders last too
 abbrev pub has_folders : List Item → Bool
@@ -115,6 +120,16 @@ wrapper_words_of (Some argument) = flat_map (with_value (codes "--gdrv-wrapper="
 -- the words of the last -wrapper: the driver puts them before each command
 abbrev pub wrapper_words : List Item → List (List ℕ)
 wrapper_words items = wrapper_words_of (last_argument (codes "-wrapper") items)
+
+-- Added: the macros of a line that names a vendor's spec file, whose texts may test them (%{DNAME:..}; "gcc.cc", switch_matches).
+
+-- the word for a macro of -D, with its value if it has one
+unfoldable pub macro_word : Item → List (List ℕ)
+macro_word i = if same i.name (codes "-D") then (codes "--gdrv-define=" ++ i.argument) ∷ [] else []
+
+-- the words for the macros of a line that names a vendor's spec file
+abbrev pub macro_words : List Item → List (List ℕ)
+macro_words items = if is_vendors items then flat_map macro_word items else []
 
 -- Added: pipes, where a source is compiled or assembled and nothing speaks against them ("Overall Options", -pipe).
 
@@ -161,9 +176,10 @@ pipe_words items = if is_piped items then codes "-pipe" ∷ [] else []
 
 -- All that is added: each word is a switch, and the pipe a setting too.
 
--- the words for folders, libraries and the wrapper, which precede the other words that are added
+-- the words for folders, libraries, the wrapper and macros, which precede the other words that are added
 abbrev pub first_words : Surroundings → List Item → List (List ℕ)
-first_words around items = folder_words items ++ flat_map library_words (folders around.library_path) ++ wrapper_words items
+first_words around items =
+    folder_words items ++ flat_map library_words (folders around.library_path) ++ wrapper_words items ++ macro_words items
 
 -- all words that are added as switches, in their order
 abbrev pub added_switches : Surroundings → List Item → List (List ℕ)

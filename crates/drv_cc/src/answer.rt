@@ -11,6 +11,8 @@ pub struct Surroundings {
     pub compiler: Word,
     /// The folders of the compiler's own programs and start files.
     pub folders: Listing<Word>,
+    /// The folder with copies of vendors' spec files, if there is one.
+    pub copies: Listing<Word>,
     /// The value of `COMPILER_PATH`, if it is set.
     pub compiler_path: Option<Word>,
     /// The value of `LIBRARY_PATH`, if it is set.

@@ -24,6 +24,7 @@ mod leading;
 mod levels;
 mod line_adding;
 mod line_items;
+mod macros;
 mod name_groups;
 mod names;
 mod parted_beginnings;

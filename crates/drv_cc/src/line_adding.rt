@@ -14,6 +14,7 @@ use crate::item::Item;
 use crate::judging::is_vendors;
 use crate::keeping::has;
 use crate::levels::add_debug_words;
+use crate::macros::add_macro_words;
 use crate::piping::add_pipe_words;
 use crate::sides::add_side_words;
 use crate::words::add_word;
@@ -95,7 +96,7 @@ fn folders(alloc: Global, path: &Option<Word>) -> Result<Listing<Word>, AllocErr
     Ok(list)
 }
 
-/// Adds all folders of programs after those of the line.
+/// Adds all folders of programs, and of copied spec files, after those of the line.
 fn add_all_prefixes(
     alloc: Global,
     around: &Surroundings,
@@ -105,6 +106,7 @@ fn add_all_prefixes(
 {
     let named = folders(alloc, &around.compiler_path)?;
     add_prefixes(alloc, b"--gdrv-path=", named.as_slice(), given)?;
+    add_prefixes(alloc, b"--gdrv-copies=", around.copies.as_slice(), given)?;
     add_prefixes(alloc, b"-B", around.folders.as_slice(), given)
 }
 
@@ -145,7 +147,7 @@ pub(crate) fn add_program_items(
     }
 }
 
-/// Adds the words of the folders and of the wrapper: `all` are the items with those that are given.
+/// Adds the words of the folders, the wrapper and the macros: `all` are the items with those that are given.
 pub(crate) fn add_first_words(
     alloc: Global,
     around: &Surroundings,
@@ -156,7 +158,8 @@ pub(crate) fn add_first_words(
 {
     add_folder_words(alloc, all, words)?;
     add_path(alloc, LookedFor::Libraries, &around.library_path, words)?;
-    add_wrapper_words(alloc, all, words)
+    add_wrapper_words(alloc, all, words)?;
+    add_macro_words(alloc, all, words)
 }
 
 /// Adds the words that are switches and follow the folders of programs.

@@ -3,7 +3,8 @@ use Rattle.drv_cc.specs.declared.answer.Stages.{Stages}
 use Rattle.drv_cc.specs.declared.answer.Surroundings.{Surroundings}
 use Rattle.drv_compile.specs.Beside.{given_by, file_of_variable, spec_file, written_beside}
 use Rattle.drv_compile.specs.Compilers.{values}
-use Rattle.drv_compile.specs.Decides.{decide, decided_around, decided_by, decided_over, decided_with, first_of, of_reading, surroundings}
+use Rattle.drv_compile.specs.Decides.{copies_of, decide, decided_around, decided_by, decided_over, decided_with, first_of, of_reading}
+use Rattle.drv_compile.specs.Decides.{surroundings}
 use Rattle.drv_compile.specs.Parts.{texts_at, texts_of}
 use Rattle.drv_compile.specs.Places.{texts_for, texts_or}
 use Rattle.drv_compile.specs.Reading.{line_read}
@@ -47,20 +48,23 @@ around_read F specs slice words around reading (Ok decision) same read is =
 
 -- `decided_by` asks for two variables, and hands on where the compiler looks
 pub compiler_given : {E : Type 0} (F : Facts) (specs : List ℕ) (words : List (List ℕ)) (text : List ℕ)
-    (compiler : List ℕ) (folders : List (List ℕ))
+    (compiler : List ℕ) (folders copies : List (List ℕ))
     (programs libraries : Option (List ℕ)) (result : Result Decision E)
     → first_of (values (codes "compiler ") text) ≡ Some compiler → folders ≡ values (codes "folder ") text
+    → copies ≡ copies_of specs text
     → asked (variable_of F (codes "COMPILER_PATH")) ≡ Is programs
     → asked (variable_of F (codes "LIBRARY_PATH")) ≡ Is libraries
-    → IfOk result (λ decision. decided_around F specs words (surroundings compiler folders programs libraries) ≡ Is decision)
+    → IfOk result (λ decision. decided_around F specs words (surroundings compiler folders copies programs libraries) ≡ Is decision)
     → IfOk result (λ decision. decided_over F specs words (Some text) ≡ Is decision)
-compiler_given F specs words text compiler folders programs libraries (Err e) some folders_are first second is = tt
-compiler_given F specs words text compiler folders programs libraries (Ok decision) some folders_are first second is =
+compiler_given F specs words text compiler folders copies programs libraries (Err e) some folders_are copies_are first second is = tt
+compiler_given F specs words text compiler folders copies programs libraries (Ok decision) some folders_are copies_are first second is =
     ap (decided_by F specs words text) some
     ∙ ap (λ k. k >>= λ p. asked (variable_of F (codes "LIBRARY_PATH"))
-    >>= λ l. decided_around F specs words (surroundings compiler (values (codes "folder ") text) p l)) first
-    ∙ ap (λ k. k >>= λ l. decided_around F specs words (surroundings compiler (values (codes "folder ") text) programs l)) second
-    ∙ ap (λ f. decided_around F specs words (surroundings compiler f programs libraries)) (sym folders_are)
+    >>= λ l. decided_around F specs words (surroundings compiler (values (codes "folder ") text) (copies_of specs text) p l)) first
+    ∙ ap (λ k. k >>= λ l.
+    decided_around F specs words (surroundings compiler (values (codes "folder ") text) (copies_of specs text) programs l)) second
+    ∙ ap (λ f. decided_around F specs words (surroundings compiler f (copies_of specs text) programs libraries)) (sym folders_are)
+    ∙ ap (λ c. decided_around F specs words (surroundings compiler folders c programs libraries)) (sym copies_are)
     ∙ is
 
 -- `decided_with` reads the file that names the compiler, by the bytes of the spec file's path

@@ -8,7 +8,7 @@ use Rattle.drv_compile.specs.declared.deciding.Decision.{Decision}
 use Rattle.drv_compile.specs.declared.reading.Reading.{Reading}
 use Rattle.drv_system.specs.Facts.{Facts, variable_of}
 use Rattle.drv_system.specs.Known.{◌>>=◌, Is, Known, asked}
-use Rattle.std.specs.Prelude.{List, [], ◌∷◌, None, Option, Some, codes, ℕ}
+use Rattle.std.specs.Prelude.{List, [], ◌∷◌, None, Option, Some, codes, map, ℕ}
 
 -- What the words of a line ask for, over the spec file of the call and the files beside it (this project's profile). One set of facts
 -- answers all questions; which are asked follows from what was answered before.
@@ -23,10 +23,14 @@ of_reading specs around (Some reading) = Read specs around reading
 abbrev pub decided_around : Facts → List ℕ → List (List ℕ) → Surroundings → Known Decision
 decided_around F specs words around = line_read F specs around words >>= λ reading. Is (of_reading specs around reading)
 
+-- the folders beside the spec file that have copies of vendors' spec files: a line `copies` of that file has the ending of one
+abbrev pub copies_of : List ℕ → List ℕ → List (List ℕ)
+copies_of specs text = map (companion specs) (values (codes "copies ") text)
+
 -- what a line is read in: the first compiler that the file names, all folders that it names, and the two variables with paths
-abbrev pub surroundings : List ℕ → List (List ℕ) → Option (List ℕ) → Option (List ℕ) → Surroundings
-surroundings compiler folders programs libraries =
-    record { compiler = compiler; folders = folders; compiler_path = programs; library_path = libraries }
+abbrev pub surroundings : List ℕ → List (List ℕ) → List (List ℕ) → Option (List ℕ) → Option (List ℕ) → Surroundings
+surroundings compiler folders copies programs libraries =
+    record { compiler = compiler; folders = folders; copies = copies; compiler_path = programs; library_path = libraries }
 
 -- the first of several values, if there is any
 abbrev pub first_of : List (List ℕ) → Option (List ℕ)
@@ -38,7 +42,7 @@ abbrev pub decided_by : Facts → List ℕ → List (List ℕ) → List ℕ → 
 decided_by F specs words text None = Is (NoCompiler specs)
 decided_by F specs words text (Some compiler) =
     asked (variable_of F (codes "COMPILER_PATH")) >>= λ programs. asked (variable_of F (codes "LIBRARY_PATH")) >>= λ libraries.
-    decided_around F specs words (surroundings compiler (values (codes "folder ") text) programs libraries)
+    decided_around F specs words (surroundings compiler (values (codes "folder ") text) (copies_of specs text) programs libraries)
 
 -- what a line asks for, by the text of that file, if it is whole
 abbrev pub decided_over : Facts → List ℕ → List (List ℕ) → Option (List ℕ) → Known Decision

@@ -1,7 +1,8 @@
 //! What the words of a line ask for, over the spec file and the files beside it.
 
 ghost use Rattle.drv_compile.specs.Compilers.{values};
-ghost use Rattle.drv_compile.specs.Decides.{decide, decided_around, decided_over, decided_with};
+ghost use Rattle.drv_compile.specs.Decides.{copies_of, decide, decided_around, decided_over};
+ghost use Rattle.drv_compile.specs.Decides.{decided_with};
 ghost use Rattle.drv_compile.specs.Decides.{of_reading};
 ghost use Rattle.drv_search.specs.Code.Telling.{Tells};
 ghost use Rattle.drv_system.specs.Code.Asked.{Asked};
@@ -15,7 +16,7 @@ use crate::places::companion;
 use crate::reading::{Reading, read_line};
 use drv_cc::Surroundings;
 use drv_system::{Outside, System};
-use drv_words::{Word, copy_word};
+use drv_words::{Listing, Word, copy_word};
 use std::alloc::{AllocError, Global};
 
 /// What the words of a line ask for.
@@ -97,6 +98,17 @@ fn decided_around<S: System>(
     of_reading(alloc, specs, around, reading)
 }
 
+/// The folders beside a spec file that have copies of vendors' spec files.
+fn copies_of(alloc: Global, specs: &[u8], text: &[u8]) -> Result<Listing<Word>, AllocError>
+    ensures { IfOk result (λ copies. copies ≡ copies_of specs.now text.now) }
+{
+    let mut copies = Listing::new(alloc);
+    for ending in values(alloc, b"copies ", text)?.as_slice() {
+        copies.push(companion(alloc, specs, ending.as_bytes())?)?;
+    }
+    Ok(copies)
+}
+
 /// The decision by the compiler that a text names, if it names one.
 #[tactic(auto, using(drv_system::proofs::AskedCalls::asked_further))]
 fn decided_by<S: System>(
@@ -115,11 +127,13 @@ fn decided_by<S: System>(
         return Ok(Decision::NoCompiler(specs));
     };
     let folders = values(alloc, b"folder ", text)?;
+    let copies = copies_of(alloc, specs.as_bytes(), text)?;
     let compiler_path = variable(alloc, b"COMPILER_PATH", outside)?;
     let library_path = variable(alloc, b"LIBRARY_PATH", outside)?;
     let around = Surroundings {
         compiler,
         folders,
+        copies,
         compiler_path,
         library_path,
     };

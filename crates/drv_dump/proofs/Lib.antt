@@ -6,3 +6,4 @@ pub mod Passing
 pub mod Replacing
 pub mod Rows
 pub mod Steps
+pub mod VendorTexts

@@ -1,5 +1,6 @@
 use Rattle.drv_dump.specs.Ours.{ours_of}
 use Rattle.drv_dump.specs.Texts.{pieces_of}
+use Rattle.drv_dump.specs.Vendors.{vendor_text}
 use Rattle.drv_dump.specs.declared.fault.Misfit.TheVariants.{BadTest, BareBrace, EscapedMark, Unclosed, UnknownDirective}
 use Rattle.drv_dump.specs.declared.fault.OursFault.TheVariants.{Lacking}
 use Rattle.drv_dump.specs.declared.fault.TextFault.TheVariants.{Unreadable}
@@ -91,3 +92,13 @@ files_by_their_names :
     ours_of (codes "a.o%s -T %{static:crt1.o%s;:-b libasan_preinit%O%s} %{T*}c%s")
     ≡ Ok (codes "%(file_a.o) -T %{static:%(file_crt1.o);:-b %(file_libasan_preinit.o)} %{T*}c%s")
 files_by_their_names = refl
+
+-- the test of a macro becomes one of a switch of the front; other switches that begin with D, and %M's text
+test_of_a_macro :
+    vendor_text (codes "%{!DA|DB_1:-x;D*:%{D*}} -L%M %{-a=*:%*/%M}crt0%O%s")
+    ≡ Ok (codes "%{!-gdrv-define=A|-gdrv-define=B_1:-x;D*:%{D*}} -L%(multilib_folder) %{-a=*:%*/%(multilib_folder)}crt0%O%s")
+test_of_a_macro = refl
+
+-- a macro that is no test
+macro_alone : vendor_text (codes "%{DA}") ≡ Err (Lacking (codes "DA"))
+macro_alone = refl

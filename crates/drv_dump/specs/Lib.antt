@@ -6,3 +6,4 @@ pub mod OurDump
 pub mod Ours
 pub mod Passed
 pub mod Texts
+pub mod Vendors

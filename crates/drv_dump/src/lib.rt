@@ -14,6 +14,7 @@ mod piece;
 mod reading;
 mod turn;
 mod turns_of_tests;
+mod vendors;
 mod writing;
 
 pub use dump::{DumpedText, read_dump, write_dump};
@@ -24,4 +25,5 @@ pub use ours::translate_text;
 pub use passed::pass_libraries;
 pub use piece::{Kind, Piece};
 pub use reading::read_text;
+pub use vendors::translate_vendors;
 pub use writing::write_text;

@@ -4,6 +4,7 @@ use crate::asking::question_about;
 use crate::fault::Fault;
 use crate::gathering::nothing;
 use crate::machines::{Facts, MachineText};
+use crate::rows::folder_switch;
 use drv_gcc::{ForMachine, NamedText, replace};
 use drv_words::{Listing, Word};
 use std::alloc::Global;
@@ -150,6 +151,25 @@ pub fn folder_name(
         FolderName::Plain
     } else {
         FolderName::Tested
+    })
+}
+
+/// The text of the folder of a line's library, by the words of rows that name these.
+pub fn library_text(alloc: Global, all: &[Facts], naming: FolderName) -> Result<Word, Fault> {
+    let mut text = Word::from_bytes(alloc, b"%{")?;
+    for it in all {
+        let switch = folder_switch(alloc, &it.library, naming)?;
+        text.push(b'-')?;
+        text.extend_from_slice(replace(alloc, switch.as_bytes(), b"/", b"\\/")?.as_bytes())?;
+        text.push(b':')?;
+        text.extend_from_slice(it.library.as_bytes())?;
+        text.push(b';')?;
+    }
+    text.extend_from_slice(b":.}")?;
+    Ok(if all.is_empty() {
+        Word::empty(alloc)
+    } else {
+        text
     })
 }
 

@@ -216,6 +216,11 @@ impl<'a> Pair<'a> {
         Ok(false)
     }
 
+    /// Whether a line has another plan than gcc's, which this driver would carry out.
+    pub fn is_line_other(self, line: &[u8]) -> Result<bool, Fault> {
+        Ok(matches!(self.verdict(line, b"")?, Verdict::Other))
+    }
+
     /// Whether an option for a machine gives another plan than gcc's, which this driver would carry
     /// out.
     pub fn is_other(self, option: &Word) -> Result<bool, Fault> {

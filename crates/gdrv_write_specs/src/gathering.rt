@@ -1,6 +1,6 @@
 //! What is known of a gcc is gathered from its answers.
 
-use crate::alike::{folder_name, named_so};
+use crate::alike::{folder_name, library_text, named_so};
 use crate::asked::{Asked, Places};
 use crate::asking::{commands, question_about};
 use crate::checking::Pair;
@@ -12,13 +12,14 @@ use crate::machines::{Facts, MachineText, Machines, facts_for, machine_of, own_f
 use crate::natives::with_natives;
 use crate::programs::is_folder;
 use crate::row_texts::{Ways, multilib_facts};
-use crate::rows::{Row, rows_of};
+use crate::rows::{Row, multilibs, rows_of};
 use crate::texts_by_name::named_for;
+use crate::vendors::{VendorsFile, copies_in};
 use crate::wording::{own_records, with_other_words};
 use drv_dump::{OurDump, pass_libraries, translate_dump};
 use drv_gcc::{
     Choice, Included, MachineOptions, MachineWord, NamedText, Programs, Toolchain, named_texts,
-    values,
+    replace, values,
 };
 use drv_words::{Listing, Word};
 use std::alloc::Global;
@@ -110,6 +111,10 @@ pub struct Gathered {
     pub dropped: Listing<Word>,
     /// The tests of options that are refused whatever their values are.
     pub valued: Listing<Word>,
+    /// The text of the folder of a line's library.
+    library: Word,
+    /// The copies of vendors' spec files in its folders.
+    pub copies: Listing<VendorsFile>,
     /// Its rows.
     pub rows: Listing<Row>,
     /// The options for no machine that are in the keys of rows.
@@ -277,6 +282,15 @@ impl<'a> Asked<'a> {
         }
     }
 
+    /// The copies of vendors' spec files in these folders. Texts alone know no folder of a library.
+    fn copies(self, ways: Ways, folders: &[Word]) -> Result<Listing<VendorsFile>, Fault> {
+        let has_libraries = !multilibs(self)?.is_empty();
+        match (ways, has_libraries) {
+            (Ways::Texts, true) => Ok(Listing::new(self.alloc())),
+            _ => copies_in(self.rt, folders),
+        }
+    }
+
     /// What is known of the gcc before its programs are asked for.
     fn known_facts(self, ways: Ways) -> Result<Known, Fault> {
         let translated = self.translate(ways)?;
@@ -437,16 +451,39 @@ impl Gathered {
         Ok(())
     }
 
+    /// A spec file with the text of the folder of a line's library, which copies of vendors' files
+    /// may use.
+    pub fn with_library_text(&self, alloc: Global, specs: Word) -> Result<Word, Fault> {
+        if self.copies.is_empty() || self.library.is_empty() {
+            return Ok(specs);
+        }
+        let mut text = question_about(alloc, b"*multilib_folder:\n", self.library.as_bytes())?;
+        text.push(b'\n')?;
+        Ok(replace(
+            alloc,
+            specs.as_bytes(),
+            b"*multilib_folder:\n.\n",
+            text.as_bytes(),
+        )?)
+    }
+
     /// Asks for the rows.
     pub fn add_rows(&mut self, pair: Pair<'_>) -> Result<(), Fault> {
         let alloc = pair.rt.alloc();
         let libraries = multilib_facts(pair, &self.folder, self.names.as_slice())?;
         let all = libraries.as_slice();
         let naming = folder_name(alloc, &self.own, all, self.names.len())?;
+        self.library = library_text(alloc, all, naming)?;
         self.others = named_so(alloc, libraries, naming);
         let folders = self.toolchain.folders.as_slice();
         let choosers = choosers_of(pair)?;
-        self.rows = rows_of(pair, self.probes.as_slice(), folders, naming, choosers.as_slice())?;
+        self.rows = rows_of(
+            pair,
+            self.probes.as_slice(),
+            folders,
+            naming,
+            choosers.as_slice(),
+        )?;
         self.choosers = choosers;
         Ok(())
     }
@@ -496,6 +533,7 @@ pub fn gather(pair: Pair<'_>, ways: Ways) -> Result<Gathered, Fault> {
         own.names.as_slice(),
         machine.as_slice(),
     )?;
+    let copies = asked.copies(ways, toolchain.folders.as_slice())?;
     Ok(Gathered {
         toolchain,
         lacking,
@@ -508,6 +546,8 @@ pub fn gather(pair: Pair<'_>, ways: Ways) -> Result<Gathered, Fault> {
         others: Listing::new(alloc),
         dropped: Listing::new(alloc),
         valued: Listing::new(alloc),
+        library: Word::empty(alloc),
+        copies,
         rows: Listing::new(alloc),
         choosers: Listing::new(alloc),
         ways,

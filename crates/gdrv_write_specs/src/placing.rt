@@ -13,7 +13,8 @@ use crate::older::with_own_names;
 use crate::parts::{PARTS, part_of, whole_of};
 use crate::programs::{is_file, program_at};
 use crate::row_texts::Ways;
-use crate::rows::{push_names, push_rows, suffix_of};
+use crate::rows::{multilibs, push_names, push_rows, suffix_of};
+use crate::vendors::COPIES;
 use crate::wording::{with_refused, without_dropped};
 use crate::work_folder::{WorkFolder, absolute, join};
 use drv_gcc::{gcc_file, spec_file, values};
@@ -115,6 +116,9 @@ fn put_beside(pair: Pair<'_>, gathered: &Gathered) -> Result<(), Fault> {
         push_names(&mut names, row)?;
     }
     pair.work.put(pair.rt, b".options", &sort_lines(pair.rt.alloc(), &names)?)?;
+    if !gathered.copies.is_empty() {
+        pair.work.put_copies(pair.rt, gathered.copies.as_slice())?;
+    }
     put_gcc(pair, gathered)
 }
 
@@ -132,6 +136,11 @@ fn put_gcc(pair: Pair<'_>, gathered: &Gathered) -> Result<(), Fault> {
     if !suffix.is_empty() {
         text.extend_from_slice(b"suffix ")?;
         text.extend_from_slice(suffix.as_bytes())?;
+        text.push(b'\n')?;
+    }
+    if !gathered.copies.is_empty() {
+        text.extend_from_slice(b"copies ")?;
+        text.extend_from_slice(COPIES)?;
         text.push(b'\n')?;
     }
     push_choosers(&mut text, gathered.choosers.as_slice())?;
@@ -168,7 +177,7 @@ fn differ(rt: &HostRuntime, gcc: &Word, lines: &[Word]) -> Result<Fault, Fault> 
 fn put_specs(pair: Pair<'_>, gathered: &Gathered) -> Result<(), Fault> {
     let alloc = pair.rt.alloc();
     let plain = spec_file(alloc, &gathered.toolchain)?;
-    let named = with_own_names(alloc, plain)?;
+    let named = gathered.with_library_text(alloc, with_own_names(alloc, plain)?)?;
     let judged = with_refused(alloc, named, gathered.valued.as_slice())?;
     let specs = without_dropped(alloc, judged, gathered.dropped.as_slice())?;
     for part in PARTS {
@@ -284,6 +293,40 @@ fn check_rows(pair: Pair<'_>, gathered: &mut Gathered) -> Result<(), Fault> {
     put_gcc(pair, gathered)
 }
 
+/// The options of the libraries of a gcc, if rows have its words for them.
+fn library_keys(pair: Pair<'_>, ways: Ways) -> Result<Listing<Word>, Fault> {
+    let none = Word::empty(pair.rt.alloc());
+    match ways {
+        Ways::Rows => multilibs(pair.asked(&none)),
+        Ways::Texts => Ok(Listing::new(pair.rt.alloc())),
+    }
+}
+
+/// Compares the plans by the copies of vendors' files, and leaves out those that would give others.
+fn check_copies(pair: Pair<'_>, gathered: &mut Gathered) -> Result<(), Fault> {
+    let keys = library_keys(pair, gathered.ways)?;
+    let mut same = Listing::new(pair.rt.alloc());
+    let mut others = Listing::new(pair.rt.alloc());
+    for _ in 0..gathered.copies.as_slice().len() {
+        let Some(copy) = gathered.copies.pop() else {
+            break;
+        };
+        if pair.is_copy_other(&copy, keys.as_slice())? {
+            pair.work.remove_copy(pair.rt, &copy.name)?;
+            others.push(copy.name)?;
+        } else {
+            same.push(copy)?;
+        }
+    }
+    gathered.copies = same;
+    tell(
+        pair.rt,
+        b"no copy, since it would make something else:",
+        others.as_slice(),
+    )?;
+    put_gcc(pair, gathered)
+}
+
 /// Compares the plans by texts alone, and has the options refused that would give others.
 fn check_texts(pair: Pair<'_>, manner: Manner, gathered: &mut Gathered) -> Result<(), Fault> {
     let refused = check_machines(pair, gathered)?;
@@ -305,6 +348,9 @@ fn check(pair: Pair<'_>, manner: Manner, gathered: &mut Gathered) -> Result<(), 
     let others = refuse_others(pair, gathered)?;
     judge(pair, manner, pair.differences()?.as_slice())?;
     tell_refused(pair.rt, others.as_slice())?;
+    if !gathered.copies.is_empty() {
+        check_copies(pair, gathered)?;
+    }
     match gathered.ways {
         Ways::Texts => check_texts(pair, manner, gathered),
         Ways::Rows => check_rows(pair, gathered),

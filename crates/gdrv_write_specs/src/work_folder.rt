@@ -3,6 +3,7 @@
 use crate::asking::{question_about, text};
 use crate::fault::Fault;
 use crate::gathering::PROBE;
+use crate::vendors::{COPIES, VendorsFile};
 use drv_gcc::with_mark;
 use drv_words::{Word, split_at_last};
 use itoa::Buffer;
@@ -186,12 +187,46 @@ impl WorkFolder {
         }
     }
 
+    /// The path of a copy of a vendor's file.
+    fn copy_path(&self, rt: &HostRuntime, name: &Word) -> Result<Word, Fault> {
+        let folder = join(rt.alloc(), &self.stem, COPIES)?;
+        join(rt.alloc(), &folder, name.as_bytes())
+    }
+
+    /// Writes copies of vendors' files.
+    pub fn put_copies(&self, rt: &HostRuntime, copies: &[VendorsFile]) -> Result<(), Fault> {
+        make_all(rt, join(rt.alloc(), &self.stem, COPIES)?.as_bytes())?;
+        for copy in copies {
+            write(
+                rt,
+                &self.copy_path(rt, &copy.name)?,
+                copy.content.as_bytes(),
+            )?;
+        }
+        Ok(())
+    }
+
+    /// Removes the copy of this name.
+    pub fn remove_copy(&self, rt: &HostRuntime, name: &Word) -> Result<(), Fault> {
+        Ok(fs::remove_file(rt, text(self.copy_path(rt, name)?.as_bytes())?)?)
+    }
+
+    /// Puts the folder of copies in place of an earlier one.
+    fn place_copies(&self, rt: &HostRuntime, stem: &Word) -> Result<(), Fault> {
+        let from = join(rt.alloc(), &self.stem, COPIES)?;
+        let to = join(rt.alloc(), stem, COPIES)?;
+        let _ = fs::remove_dir_all(rt, text(to.as_bytes())?);
+        let _ = fs::rename(rt, text(from.as_bytes())?, text(to.as_bytes())?);
+        Ok(())
+    }
+
     /// Puts its files in place. The parts of an earlier spec file, which gdrv-cc would
     /// read in its place, go first.
     pub fn place(&self, rt: &HostRuntime, stem: &Word) -> Result<(), Fault> {
         for ending in PARTS {
             self.place_part(rt, stem, ending)?;
         }
+        self.place_copies(rt, stem)?;
         for ending in ENDINGS {
             self.place_file(rt, stem, ending)?;
         }

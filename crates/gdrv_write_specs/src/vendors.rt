@@ -1,0 +1,303 @@
+//! Copies of vendors' spec files in gcc's folders that have forms which this driver has in other
+//! words. The copy is found before the file by its name.
+
+use crate::asking::{question_about, text};
+use crate::checking::Pair;
+use crate::fault::Fault;
+use crate::finding::{has_bytes, has_word};
+use crate::gluing::unglue;
+use crate::names::sort_lines;
+use drv_dump::{Kind, pass_libraries, read_text, translate_vendors};
+use drv_gcc::{replace, values};
+use drv_words::{Listing, Word};
+use std::alloc::Global;
+use std::fs;
+
+/// The ending of the folder beside a spec file that has the copies.
+pub const COPIES: &[u8] = b".vendors/";
+
+/// A vendor's file in this driver's words.
+#[derive(Drop)]
+pub struct VendorsFile {
+    /// Its name.
+    pub name: Word,
+    /// Its texts in this driver's words.
+    pub content: Word,
+    /// Options that its texts test.
+    pub options: Listing<Word>,
+}
+
+/// A text of a vendor's file that is read.
+#[derive(Drop)]
+struct Open {
+    name: Word,
+    body: Word,
+}
+
+/// A file that is translated line by line.
+#[derive(Drop)]
+struct Translating {
+    content: Word,
+    options: Listing<Word>,
+    open: Option<Open>,
+    is_lost: bool,
+}
+
+/// The name of the text that a line begins, if it begins one.
+fn name_of(line: &[u8]) -> Option<&[u8]> {
+    match line {
+        [b'#' | b'%' | b' ' | b'\t', ..] => None,
+        _ => line.strip_suffix(b":".as_slice()),
+    }
+}
+
+/// Whether a line is a text of one line with its name.
+fn is_whole_text(line: &[u8]) -> bool {
+    line.starts_with(b"*") && name_of(line).is_none()
+}
+
+/// The option that a test of a text is for.
+fn option_of(alloc: Global, test: &[u8]) -> Result<Word, Fault> {
+    let mut option = Word::from_bytes(alloc, b"-")?;
+    match test.strip_suffix(b"*".as_slice()) {
+        Some(beginning) => {
+            option.extend_from_slice(beginning)?;
+            option.push(b'x')?;
+        }
+        None => option.extend_from_slice(test)?,
+    }
+    Ok(option)
+}
+
+/// Adds the options that a text tests.
+fn add_options(alloc: Global, body: &[u8], options: &mut Listing<Word>) -> Result<(), Fault> {
+    let Ok(pieces) = read_text(alloc, body) else {
+        return Ok(());
+    };
+    for piece in pieces.as_slice() {
+        if let Kind::Test = piece.kind {
+            let option = option_of(alloc, piece.bytes.as_bytes())?;
+            if !has_word(options.as_slice(), option.as_bytes()) {
+                options.push(option)?;
+            }
+        }
+    }
+    Ok(())
+}
+
+/// A text in this driver's words; none if it can't be put so.
+fn translate(alloc: Global, body: &[u8]) -> Result<Option<Word>, Fault> {
+    match translate_vendors(alloc, body) {
+        Ok(words) => unglue(alloc, words),
+        Err(_) => Ok(None),
+    }
+}
+
+/// Whether a text names the libraries of a link.
+fn names_libraries(name: &[u8]) -> bool {
+    name == b"*link_gcc_c_sequence".as_slice() || name.starts_with(b"*lib")
+}
+
+/// The copy of a text for the linker's plugin. A library may be named by the rest of a switch.
+fn passed_text(alloc: Global, name: &[u8], body: &[u8]) -> Result<Word, Fault> {
+    let mut dump = question_about(alloc, name, b":\n")?;
+    dump.extend_from_slice(body)?;
+    dump.extend_from_slice(b"\n\n")?;
+    match pass_libraries(alloc, dump.as_bytes()) {
+        Ok(passed) => Ok(replace(
+            alloc,
+            passed.as_bytes(),
+            b"-pass-through=-l}",
+            b"-pass-through=-l%*}",
+        )?),
+        Err(_) => Ok(Word::empty(alloc)),
+    }
+}
+
+/// Adds a line to a body.
+fn add_body_line(body: &mut Word, line: &[u8]) -> Result<(), Fault> {
+    if !body.is_empty() {
+        body.push(b'\n')?;
+    }
+    Ok(body.extend_from_slice(line)?)
+}
+
+impl Translating {
+    /// A file of which nothing is read.
+    fn new(alloc: Global) -> Translating {
+        Translating {
+            content: Word::empty(alloc),
+            options: Listing::new(alloc),
+            open: None,
+            is_lost: false,
+        }
+    }
+
+    /// Adds a line.
+    fn push_line(&mut self, line: &[u8]) -> Result<(), Fault> {
+        self.content.extend_from_slice(line)?;
+        Ok(self.content.push(b'\n')?)
+    }
+
+    /// Adds a text that was read.
+    fn push_text(&mut self, alloc: Global, it: &Open) -> Result<(), Fault> {
+        let (name, body) = (it.name.as_bytes(), it.body.as_bytes());
+        add_options(alloc, body, &mut self.options)?;
+        let Some(words) = translate(alloc, body)? else {
+            self.is_lost = true;
+            return Ok(());
+        };
+        self.push_line(words.as_bytes())?;
+        if names_libraries(name) {
+            self.is_lost = self.is_lost || body.starts_with(b"+");
+            let passed = passed_text(alloc, name, words.as_bytes())?;
+            self.push_line(b"")?;
+            self.content.extend_from_slice(passed.as_bytes())?;
+        }
+        Ok(())
+    }
+
+    /// Ends the text that is open.
+    fn end_text(&mut self, alloc: Global) -> Result<(), Fault> {
+        if let Some(it) = self.open.take() {
+            self.push_text(alloc, &it)?;
+        }
+        Ok(())
+    }
+
+    /// Reads a line that is in no text.
+    fn read_other(&mut self, alloc: Global, line: &[u8]) -> Result<(), Fault> {
+        self.is_lost = self.is_lost || is_whole_text(line);
+        if let Some(name) = name_of(line) {
+            self.open = Some(Open {
+                name: Word::from_bytes(alloc, name)?,
+                body: Word::empty(alloc),
+            });
+        }
+        self.push_line(line)
+    }
+
+    /// Reads a line.
+    fn read(&mut self, alloc: Global, line: &[u8]) -> Result<(), Fault> {
+        if line.trim_ascii().is_empty() {
+            self.end_text(alloc)?;
+            return self.push_line(b"");
+        }
+        if let Some(it) = &mut self.open {
+            return add_body_line(&mut it.body, line);
+        }
+        self.read_other(alloc, line)
+    }
+}
+
+/// The copy of a vendor's file of this name; none if it needs none, or if a text can't be put into
+/// this driver's words.
+fn copy_of(alloc: Global, name: &Word, content: &[u8]) -> Result<Option<VendorsFile>, Fault> {
+    let mut it = Translating::new(alloc);
+    for line in content.split(|byte| *byte == b'\n') {
+        it.read(alloc, line)?;
+    }
+    it.end_text(alloc)?;
+    let is_needed = has_bytes(content, b"%M") || has_bytes(it.content.as_bytes(), b"-gdrv-define=");
+    if it.is_lost || !is_needed {
+        return Ok(None);
+    }
+    Ok(Some(VendorsFile {
+        name: name.clone()?,
+        content: it.content,
+        options: it.options,
+    }))
+}
+
+/// The names of the spec files in a folder, sorted.
+fn spec_files_in(rt: &HostRuntime, folder: &Word) -> Result<Listing<Word>, Fault> {
+    let mut names = Word::empty(rt.alloc());
+    for entry in fs::read_dir(rt, text(folder.as_bytes())?)? {
+        names.extend_from_slice(entry?.file_name().as_bytes())?;
+        names.push(b'\n')?;
+    }
+    let lines = sort_lines(rt.alloc(), &names)?;
+    let mut files = Listing::new(rt.alloc());
+    for name in values(rt.alloc(), b"", lines.as_bytes())?.into_vec() {
+        if name.as_bytes().ends_with(b".specs") {
+            files.push(name)?;
+        }
+    }
+    Ok(files)
+}
+
+/// Adds the copies of a folder's files, but of those whose names an earlier folder has.
+fn add_copies(
+    rt: &HostRuntime,
+    folder: &Word,
+    seen: &mut Listing<Word>,
+    copies: &mut Listing<VendorsFile>,
+) -> Result<(), Fault> {
+    for name in spec_files_in(rt, folder)?.into_vec() {
+        let path = question_about(rt.alloc(), folder.as_bytes(), name.as_bytes())?;
+        if !has_word(seen.as_slice(), name.as_bytes()) {
+            if let Ok(content) = fs::read(rt, text(path.as_bytes())?) {
+                if let Some(copy) = copy_of(rt.alloc(), &name, content.as_slice())? {
+                    copies.push(copy)?;
+                }
+            }
+            seen.push(name)?;
+        }
+    }
+    Ok(())
+}
+
+/// The copies of the vendors' files in these folders.
+pub fn copies_in(rt: &HostRuntime, folders: &[Word]) -> Result<Listing<VendorsFile>, Fault> {
+    let mut seen = Listing::new(rt.alloc());
+    let mut copies = Listing::new(rt.alloc());
+    for folder in folders {
+        add_copies(rt, folder, &mut seen, &mut copies)?;
+    }
+    Ok(copies)
+}
+
+/// The lines that are compared with each copy.
+const LINES: [&[u8]; 4] = [
+    b"-c x.c -o made -specs=",
+    b"-c x.S -o made -specs=",
+    b"x.c -o made -specs=",
+    b"x.o -flto -o made -specs=",
+];
+
+/// The line with a copy that is compared with each option of its texts, and for each library.
+const LINKED: &[u8] = b"x.c -o made -specs=";
+
+impl<'a> Pair<'a> {
+    /// Whether a line with a spec file of this name and an option has another plan than gcc's.
+    fn is_other_with(self, line: &[u8], name: &Word, option: &Word) -> Result<bool, Fault> {
+        let mut whole = question_about(self.rt.alloc(), line, name.as_bytes())?;
+        whole.push(b' ')?;
+        whole.extend_from_slice(option.as_bytes())?;
+        self.is_line_other(whole.as_bytes())
+    }
+
+    /// Whether a link with a spec file of this name and one of these options has another plan.
+    fn is_link_other(self, name: &Word, options: &[Word]) -> Result<bool, Fault> {
+        for option in options {
+            if self.is_other_with(LINKED, name, option)? {
+                return Ok(true);
+            }
+        }
+        Ok(false)
+    }
+
+    /// Whether a line with the copy has another plan, for one of these options for machines or none.
+    pub fn is_copy_other(self, copy: &VendorsFile, keys: &[Word]) -> Result<bool, Fault> {
+        let none = Word::empty(self.rt.alloc());
+        for line in LINES {
+            if self.is_other_with(line, &copy.name, &none)? {
+                return Ok(true);
+            }
+        }
+        Ok(
+            self.is_link_other(&copy.name, copy.options.as_slice())?
+                || self.is_link_other(&copy.name, keys)?,
+        )
+    }
+}
