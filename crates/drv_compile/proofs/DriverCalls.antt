@@ -5,22 +5,28 @@ use Rattle.drv_cc.specs.declared.answer.Answer.{Answer}
 use Rattle.drv_cc.specs.declared.answer.Call.{Call}
 use Rattle.drv_cc.specs.declared.answer.Variable.{Variable}
 use Rattle.drv_cc.specs.declared.refusal.Refusal.{Refusal}
+use Rattle.drv_compile.proofs.RowsAsked.{asked_alike}
 use Rattle.drv_compile.proofs.Worded.{stop_stays, told_as}
 use Rattle.drv_compile.specs.Code.Refusing.{IsEndSaid}
 use Rattle.drv_compile.specs.Compilers.{values}
-use Rattle.drv_compile.specs.Driven.{IsAnswered, IsCalled, IsDenied, IsMachined, IsUnanswered, IsUncalled, IsUndrivenAfter, IsWorker}
-use Rattle.drv_compile.specs.Driven.{IsWorkerAfter, Undriven, answer_of, asks, at_once, denied, driver_items, later, not_answered, refuses}
-use Rattle.drv_compile.specs.Driven.{rows_of, runs, stays, uncalled, uncalled_after, undriven_after}
-use Rattle.drv_compile.specs.Machines.{machined_by}
+use Rattle.drv_compile.specs.Driven.{IsCalled, IsDenied, IsMachined, IsMade, IsUnanswered, IsUncalled, IsUndrivenAfter, IsWorker}
+use Rattle.drv_compile.specs.Driven.{IsWorkerAfter, Replaces, Undriven, answer_of, asks, at_once, denied, driver_items, driver_line}
+use Rattle.drv_compile.specs.Driven.{in_place, later, not_answered, not_whole, refuses, rows_of, runs, stays, unchanged, uncalled}
+use Rattle.drv_compile.specs.Driven.{uncalled_after, undriven_after}
+use Rattle.drv_compile.specs.Inputs.{Noted}
+use Rattle.drv_compile.specs.Machines.{RowAsked, items_by, row_of}
 use Rattle.drv_compile.specs.Near.{AreTold}
 use Rattle.drv_compile.specs.Parts.{texts_of}
 use Rattle.drv_compile.specs.Suffixes.{suffixed_by}
 use Rattle.drv_compile.specs.Tasks.{IfTold}
 use Rattle.drv_compile.specs.Texts.{damaged_text}
 use Rattle.drv_compile.specs.declared.driving.Driven.{Driven}
+use Rattle.drv_compile.specs.declared.driving.LineFiles.{LineFiles}
 use Rattle.drv_compile.specs.declared.driving.Worker.TheVariants.{Compiler, Driver}
 use Rattle.drv_compile.specs.declared.driving.Worker.{Worker}
-use Rattle.drv_compile.specs.declared.machines.MachineItems.TheVariants.{Lacks, Made}
+use Rattle.drv_compile.specs.declared.host.HostEvent.{HostEvent}
+use Rattle.drv_compile.specs.declared.machines.LineRow.{LineRow}
+use Rattle.drv_compile.specs.declared.machines.MachineItems.TheVariants.{Made}
 use Rattle.drv_compile.specs.declared.machines.MachineItems.{MachineItems}
 use Rattle.drv_compile.specs.declared.parts.Texts.TheVariants.{Damaged, Whole}
 use Rattle.drv_compile.specs.declared.request.GccLine.{GccLine}
@@ -29,7 +35,8 @@ use Rattle.drv_run.specs.declared.ending.Ending.TheVariants.{Done, OutOfMemory, 
 use Rattle.drv_run.specs.declared.ending.Ending.{Ending}
 use Rattle.drv_system.specs.Facts.{Facts}
 use Rattle.drv_system.specs.Known.{Is}
-use Rattle.std.proofs.Common.{◌≡◌, ◌⊎◌, ◌∙◌, Err, IsErrAnd, List, [], None, Ok, Option, Result, Some, ap, inl, inr, subst, sym, ℕ}
+use Rattle.std.proofs.Common.{◌≡◌, ◌⊎◌, ◌∙◌, ◌++◌, Err, IfOk, IsErrAnd, List, [], None, Ok, Option, Result, Some, ap, inl, inr, subst}
+use Rattle.std.proofs.Common.{sym, ℕ}
 use Rattle.std.specs.Prelude.{MatchResult}
 
 -- For the functions of `driving` (src/driving.rt): who carries out a line.
@@ -57,150 +64,184 @@ answer_told F line name first ending stop named stops tells =
 
 -- a line by itself
 
--- `machined_call` calls the driver: it takes the rows only of a text that has some, which gives the same items
-pub machined_driver : (path : List ℕ) (rows text : Option (List ℕ)) (call : Call) (given : Expanded) (made : MachineItems)
-    (items suffixed all : List Item) (children : List Variable) (driven : Driven)
-    → machined_by text call.items call.children ≡ machined_by rows call.items call.children
-    → made ≡ machined_by text call.items call.children → made ≡ Made items children
-    → suffixed_by text items ≡ suffixed_by rows items → suffixed ≡ suffixed_by text items → all ≡ driver_items path suffixed
+-- `made_call` calls the driver with the items and the suffix
+pub made_driver : (path : List ℕ) (rows : Option (List ℕ)) (given : Expanded) (made : MachineItems) (items suffixed all : List Item)
+    (children : List Variable) (driven : Driven)
+    → made ≡ Made items children → suffixed ≡ suffixed_by rows items → all ≡ driver_items path suffixed
     → driven ≡ record { line = record { items = all; from_file = given.from_file }; children = children }
-    → IsMachined path rows call given (Driver driven)
-machined_driver path rows text call given made items suffixed all children driven same made_is is same_suffix suffixed_is all_is driven_is
-    = (
-      items,
-      children,
-      sym same ∙ sym made_is ∙ is,
-      driven_is ∙ ap (λ its. record { line = record { items = its; from_file = given.from_file }; children = children })
-          (all_is ∙ ap (driver_items path) (suffixed_is ∙ same_suffix)),
-    )
+    → IsMade path rows made given (Driver driven)
+made_driver path rows given made items suffixed all children driven is suffixed_is all_is driven_is = (
+  items,
+  children,
+  is,
+  driven_is ∙ ap (λ its. record { line = record { items = its; from_file = given.from_file }; children = children })
+      (all_is ∙ ap (driver_items path) suffixed_is),
+)
 
--- `machined_call` gives the line to the compiler where no row has its words
-pub machined_compiler : (path : List ℕ) (rows text : Option (List ℕ)) (call : Call) (given : Expanded) (made : MachineItems)
-    (options : List ℕ)
-    → machined_by text call.items call.children ≡ machined_by rows call.items call.children
-    → made ≡ machined_by text call.items call.children → made ≡ Lacks options
-    → IsMachined path rows call given (Compiler options)
-machined_compiler path rows text call given made options same made_is is = sym same ∙ sym made_is ∙ is
+-- a line is made alike by the rows of a text that names the same suffix
+made_alike : (path : List ℕ) (text rows : Option (List ℕ)) (given : Expanded) (made made' : MachineItems) (worker : Worker)
+    → made ≡ made' → ((items : List Item) → suffixed_by text items ≡ suffixed_by rows items)
+    → IsMade path text made given worker → IsMade path rows made' given worker
+made_alike path text rows given made made' (Compiler options) same suffix is = sym same ∙ is
+made_alike path text rows given made made' (Driver driven) same suffix (items, children, is, driven_is) = (
+  items,
+  children,
+  sym same ∙ is,
+  driven_is ∙ ap (λ its. record { line = driver_line path its given; children = children }) (suffix items),
+)
 
--- `driver_of_call` lends the path of the spec file, the rows that it read, and the items of the call
-pub called_whole : (F : Facts) (line : GccLine) (call : Call) (specs : List ℕ) (slice : List Item) (path : List ℕ)
-    (rows lent : Option (List ℕ)) (worker : Worker)
-    → specs ≡ line.chain.specs → slice ≡ call.items → texts_of F specs slice call.stages ≡ Is (Whole path) → rows_of F specs ≡ Is rows
-    → lent ≡ rows
-    → IsMachined path lent call line.given worker → IsCalled F line.chain.specs call line.given worker
-called_whole F line call specs slice path rows lent worker at same texts asked lent_is made =
-    subst (λ s. IsCalled F s call line.given worker) at (
-      path,
-      rows,
-      subst (λ items. texts_of F specs items call.stages ≡ Is (Whole path)) same texts,
-      asked,
-      subst (λ r. IsMachined path r call line.given worker) lent_is made,
-    )
+-- `machined_call` takes the rows only of a text that has some, which gives the same row and the same suffix
+pub machined_as : {E : Type 0} (specs : List ℕ) (files : LineFiles) (call : Call) (given : Expanded) (text : Option (List ℕ))
+    (slice : List Item) (row : LineRow) (made : MachineItems) (before after : List HostEvent) (result : Result Worker E)
+    → ((items : List Item) → row_of text items ≡ row_of files.rows items)
+    → ((items : List Item) → suffixed_by text items ≡ suffixed_by files.rows items)
+    → slice ≡ call.items → Noted before after (λ events. RowAsked specs text slice events row)
+    → made ≡ items_by row call.items call.children
+    → IfOk result (λ worker. IsMade files.texts text made given worker)
+    → Noted before after (λ events. IfOk result (λ worker. IsMachined specs files call given events worker))
+machined_as specs files call given text slice row made before after (Err e) same suffix are (events, grown, asked) made_is is =
+    (events, grown, tt)
+machined_as specs files call given text slice row made before after (Ok worker) same suffix are (events, grown, asked) made_is is = (
+  events,
+  grown,
+  (
+    row,
+    asked_alike (same call.items) (subst (λ items. RowAsked specs text items events row) are asked),
+    made_alike files.texts text files.rows given made (items_by row call.items call.children) worker made_is suffix is,
+  ),
+)
+
+-- `driver_of_call` lends the path of the spec file, and the items of the call
+pub called_whole : (line : GccLine) (call : Call) (specs : List ℕ) (slice : List Item) (files : LineFiles) (worker : Worker)
+    (before after : List HostEvent) (knows : Facts → Type 0)
+    → specs ≡ line.chain.specs → slice ≡ call.items
+    → ((F : Facts) → knows F → texts_of F specs slice call.stages ≡ Is (Whole files.texts))
+    → ((F : Facts) → knows F → rows_of F specs ≡ Is files.rows)
+    → Noted before after (λ events. IsMachined line.chain.specs files call line.given events worker)
+    → Noted before after (λ events. (F : Facts) → knows F → IsCalled F line.chain.specs call line.given events worker)
+called_whole line call specs slice files worker before after knows at same texts asked (events, grown, made) = (
+  events,
+  grown,
+  λ F k. (
+    files,
+    subst (λ s. texts_of F s call.items call.stages ≡ Is (Whole files.texts)) at
+        (subst (λ items. texts_of F specs items call.stages ≡ Is (Whole files.texts)) same (texts F k)),
+    subst (λ s. rows_of F s ≡ Is files.rows) at (asked F k),
+    made,
+  ),
+)
 
 -- `driver_of_call` refuses a line whose texts are damaged, by the parts of its call
 pub called_damaged : (F : Facts) (line : GccLine) (call : Call) (specs : List ℕ) (slice : List Item) (path place text : List ℕ)
     → specs ≡ line.chain.specs → slice ≡ call.items → texts_of F specs slice call.stages ≡ Is (Damaged path) → place ≡ path
     → text ≡ damaged_text line.request.now.calling.now.name place specs line.request.now.calling.now.machine
-    → IsUncalled F line.request.now.calling.now line.chain.specs call text
+    → IsUncalled F line.request.now.calling.now line.chain.specs call [] text
 called_damaged F line call specs slice path place text at same texts placed is =
-    subst (λ s. IsUncalled F line.request.now.calling.now s call text) at (
-      path,
-      subst (λ items. texts_of F specs items call.stages ≡ Is (Damaged path)) same texts,
-      is ∙ ap (λ p. damaged_text line.request.now.calling.now.name p specs line.request.now.calling.now.machine) placed,
-    )
+    subst (λ s. IsUncalled F line.request.now.calling.now s call [] text) at
+    (subst (IsUncalled F line.request.now.calling.now specs call [])
+    (sym (is ∙ ap (λ p. damaged_text line.request.now.calling.now.name p specs line.request.now.calling.now.machine) placed))
+    (not_whole (subst (λ items. texts_of F specs items call.stages ≡ Is (Damaged path)) same texts)))
 
 -- a line in its place
 
--- `driver_of_answers` calls the driver anew for the line that the spec files made
-pub answered_run : (F : Facts) (line : GccLine) (answer : Option Answer) (first : Driven) (call : Call) (result : Result Worker Stop)
-    → answer ≡ Some (Run call)
-    → MatchResult result (λ worker. IsCalled F line.chain.specs call line.given worker)
-    (λ stop. IfTold stop (IsUncalled F line.request.now.calling.now line.chain.specs call))
-    → MatchResult result (λ worker. IsAnswered F line.chain.specs line.given first answer worker)
-    (λ stop. IfTold stop (IsDenied F line.request.now.calling.now line.chain answer))
-answered_run F line answer first call (Ok worker) is calls =
-    subst (λ a. IsAnswered F line.chain.specs line.given first a worker) (sym is) (runs calls)
-answered_run F line answer first call (Err stop) is tells =
-    subst (λ a. IfTold stop (IsDenied F line.request.now.calling.now line.chain a)) (sym is)
-    (told_as stop (IsUncalled F line.request.now.calling.now line.chain.specs call)
-    (IsDenied F line.request.now.calling.now line.chain (Some (Run call)))
-    (λ text un. uncalled_after un) tells)
+-- `call_given` hands on the line that the spec files made
+pub given_run : (answer : Option Answer) (call : Call) → answer ≡ Some (Run call) → Replaces answer (Some call)
+given_run answer call is = subst (λ a. Replaces a (Some call)) (sym is) runs
 
--- `driver_of_answers` says why the line that the spec files made is refused
-pub answered_refusal : (F : Facts) (line : GccLine) (answer : Option Answer) (refusals slice : List Refusal) (name known text : List ℕ)
+-- `call_given` says why the line that the spec files made is refused
+pub given_refusal : (line : GccLine) (answer : Option Answer) (refusals slice : List Refusal) (name known text : List ℕ)
     → answer ≡ Some (Refuse refusals) → name ≡ line.request.now.calling.now.name → known ≡ line.chain.known → slice ≡ refusals
     → AreTold name (values [] known) slice text
-    → IsDenied F line.request.now.calling.now line.chain answer text
-answered_refusal F line answer refusals slice name known text is named same are told =
-    subst (λ a. IsDenied F line.request.now.calling.now line.chain a text) (sym is)
+    → IsDenied line.request.now.calling.now line.chain answer text
+given_refusal line answer refusals slice name known text is named same are told =
+    subst (λ a. IsDenied line.request.now.calling.now line.chain a text) (sym is)
     (refuses (subst (λ n. AreTold n (values [] line.chain.known) refusals text) named
     (subst (λ k. AreTold name (values [] k) refusals text) same (subst (λ rs. AreTold name (values [] known) rs text) are told))))
 
--- `driver_of_answers` leaves the line as it is where the spec files made a question of it
-pub answered_ask : (F : Facts) (line : GccLine) (first : Driven) (answer : Option Answer) → answer ≡ Some Ask
-    → IsAnswered F line.chain.specs line.given first answer (Driver first)
-answered_ask F line first answer is = subst (λ a. IsAnswered F line.chain.specs line.given first a (Driver first)) (sym is) asks
+-- `call_given` gives no line where the spec files made a question of it
+pub given_ask : (answer : Option Answer) → answer ≡ Some Ask → Replaces answer None
+given_ask answer is = subst (λ a. Replaces a None) (sym is) asks
 
--- `driver_of_answers` leaves the line as it is where the spec files gave it nothing
-pub answered_none : (F : Facts) (line : GccLine) (first : Driven) (answer : Option Answer) → answer ≡ None
-    → IsAnswered F line.chain.specs line.given first answer (Driver first)
-answered_none F line first answer is = subst (λ a. IsAnswered F line.chain.specs line.given first a (Driver first)) (sym is) stays
+-- `call_given` gives no line where the spec files gave it nothing
+pub given_none : (answer : Option Answer) → answer ≡ None → Replaces answer None
+given_none answer is = subst (λ a. Replaces a None) (sym is) stays
 
 -- the steps of a line
 
 -- `worker_after` hands on why its spec files give no answer
 pub undriven_answer : (F : Facts) (line : GccLine) (first : Driven) (stop : Stop) (result : Result Worker Stop)
     → IsErrAnd result (λ s. s ≡ stop) → IfTold stop (IsUnanswered F line.request.now.calling.now.name line.chain line.given first)
-    → MatchResult result (λ worker. IsWorkerAfter F line.chain line.given first worker)
-    (λ s. IfTold s (IsUndrivenAfter F line.request.now.calling.now line.chain line.given first))
+    → MatchResult result (λ worker. IsWorkerAfter F line.chain line.given first [] worker)
+    (λ s. IfTold s (IsUndrivenAfter F line.request.now.calling.now line.chain line.given first []))
 undriven_answer F line first stop result is tells =
-    stop_stays result stop (λ worker. IsWorkerAfter F line.chain line.given first worker)
-    (IsUndrivenAfter F line.request.now.calling.now line.chain line.given first) is
+    stop_stays result stop (λ worker. IsWorkerAfter F line.chain line.given first [] worker)
+    (IsUndrivenAfter F line.request.now.calling.now line.chain line.given first []) is
     (told_as stop (IsUnanswered F line.request.now.calling.now.name line.chain line.given first)
-    (IsUndrivenAfter F line.request.now.calling.now line.chain line.given first) (λ text un. not_answered un) tells)
+    (IsUndrivenAfter F line.request.now.calling.now line.chain line.given first []) (λ text un. not_answered un) tells)
 
--- `worker_after` hands on what `driver_of_answers` makes of the spec files' answer
-pub worker_answered : (F : Facts) (line : GccLine) (first : Driven) (answer : Option Answer) (result : Result Worker Stop)
-    → answer_of F line.chain line.given first ≡ Is (Ok answer)
-    → MatchResult result (λ worker. IsAnswered F line.chain.specs line.given first answer worker)
-    (λ s. IfTold s (IsDenied F line.request.now.calling.now line.chain answer))
-    → MatchResult result (λ worker. IsWorkerAfter F line.chain line.given first worker)
-    (λ s. IfTold s (IsUndrivenAfter F line.request.now.calling.now line.chain line.given first))
-worker_answered F line first answer (Ok worker) gives answered = (answer, gives, answered)
-worker_answered F line first answer (Err stop) gives tells =
-    told_as stop (IsDenied F line.request.now.calling.now line.chain answer)
-    (IsUndrivenAfter F line.request.now.calling.now line.chain line.given first)
-    (λ text un. denied gives un) tells
+-- `worker_after` hands on why what they give is refused
+pub undriven_denied : (F : Facts) (line : GccLine) (first : Driven) (answer : Option Answer) (stop : Stop) (result : Result Worker Stop)
+    → IsErrAnd result (λ s. s ≡ stop) → answer_of F line.chain line.given first ≡ Is (Ok answer)
+    → IfTold stop (IsDenied line.request.now.calling.now line.chain answer)
+    → MatchResult result (λ worker. IsWorkerAfter F line.chain line.given first [] worker)
+    (λ s. IfTold s (IsUndrivenAfter F line.request.now.calling.now line.chain line.given first []))
+undriven_denied F line first answer stop result is gives tells =
+    stop_stays result stop (λ worker. IsWorkerAfter F line.chain line.given first [] worker)
+    (IsUndrivenAfter F line.request.now.calling.now line.chain line.given first []) is
+    (told_as stop (IsDenied line.request.now.calling.now line.chain answer)
+    (IsUndrivenAfter F line.request.now.calling.now line.chain line.given first []) (λ text un. denied gives un) tells)
+
+-- `worker_after` hands on what becomes of the line that they give
+pub worker_in_place : (F : Facts) (line : GccLine) (first : Driven) (answer : Option Answer) (given : Option Call) (call : Call)
+    (events : List HostEvent) (result : Result Worker Stop)
+    → answer_of F line.chain line.given first ≡ Is (Ok answer) → Replaces answer given → given ≡ Some call
+    → MatchResult result (λ worker. IsCalled F line.chain.specs call line.given events worker)
+    (λ s. IfTold s (IsUncalled F line.request.now.calling.now line.chain.specs call events))
+    → MatchResult result (λ worker. IsWorkerAfter F line.chain line.given first events worker)
+    (λ s. IfTold s (IsUndrivenAfter F line.request.now.calling.now line.chain line.given first events))
+worker_in_place F line first answer given call events (Ok worker) gives replaces is called =
+    in_place gives (subst (Replaces answer) is replaces) called
+worker_in_place F line first answer given call events (Err stop) gives replaces is tells =
+    told_as stop (IsUncalled F line.request.now.calling.now line.chain.specs call events)
+    (IsUndrivenAfter F line.request.now.calling.now line.chain line.given first events)
+    (λ text un. uncalled_after gives (subst (Replaces answer) is replaces) un) tells
+
+-- `worker_after` leaves the line as it is where they give none
+pub worker_unchanged : (F : Facts) (line : GccLine) (first : Driven) (answer : Option Answer) (given : Option Call)
+    → answer_of F line.chain line.given first ≡ Is (Ok answer) → Replaces answer given → given ≡ None
+    → IsWorkerAfter F line.chain line.given first [] (Driver first)
+worker_unchanged F line first answer given gives replaces is = unchanged gives (subst (Replaces answer) is replaces)
 
 -- `worker_of` refuses a line whose texts are damaged
-pub undriven_texts : (F : Facts) (line : GccLine) (call : Call) (stop : Stop) (result : Result Worker Stop)
-    → IsErrAnd result (λ s. s ≡ stop) → IfTold stop (IsUncalled F line.request.now.calling.now line.chain.specs call)
-    → MatchResult result (λ worker. IsWorker F line.chain call line.given worker)
-    (λ s. IfTold s (Undriven F line.request.now.calling.now line.chain call line.given))
-undriven_texts F line call stop result is tells =
-    stop_stays result stop (λ worker. IsWorker F line.chain call line.given worker)
-    (Undriven F line.request.now.calling.now line.chain call line.given) is
-    (told_as stop (IsUncalled F line.request.now.calling.now line.chain.specs call)
-    (Undriven F line.request.now.calling.now line.chain call line.given)
+pub undriven_texts : (F : Facts) (line : GccLine) (call : Call) (events : List HostEvent) (stop : Stop) (result : Result Worker Stop)
+    → IsErrAnd result (λ s. s ≡ stop) → IfTold stop (IsUncalled F line.request.now.calling.now line.chain.specs call events)
+    → MatchResult result (λ worker. IsWorker F line.chain call line.given events worker)
+    (λ s. IfTold s (Undriven F line.request.now.calling.now line.chain call line.given events))
+undriven_texts F line call events stop result is tells =
+    stop_stays result stop (λ worker. IsWorker F line.chain call line.given events worker)
+    (Undriven F line.request.now.calling.now line.chain call line.given events) is
+    (told_as stop (IsUncalled F line.request.now.calling.now line.chain.specs call events)
+    (Undriven F line.request.now.calling.now line.chain call line.given events)
     (λ text un. uncalled un) tells)
 
 -- `worker_of` asks the spec files of a line that the driver carries out
-pub worker_later : (F : Facts) (line : GccLine) (call : Call) (worker : Worker) (first : Driven) (result : Result Worker Stop)
-    → IsCalled F line.chain.specs call line.given worker → worker ≡ Driver first
-    → MatchResult result (λ after. IsWorkerAfter F line.chain line.given first after)
-    (λ s. IfTold s (IsUndrivenAfter F line.request.now.calling.now line.chain line.given first))
-    → MatchResult result (λ after. IsWorker F line.chain call line.given after)
-    (λ s. IfTold s (Undriven F line.request.now.calling.now line.chain call line.given))
-worker_later F line call worker first (Ok after) called is gives =
-    later (subst (λ w. IsCalled F line.chain.specs call line.given w) is called) gives
-worker_later F line call worker first (Err stop) called is tells =
-    told_as stop (IsUndrivenAfter F line.request.now.calling.now line.chain line.given first)
-    (Undriven F line.request.now.calling.now line.chain call line.given)
-    (λ text un. undriven_after (subst (λ w. IsCalled F line.chain.specs call line.given w) is called) un) tells
+pub worker_later : (F : Facts) (line : GccLine) (call : Call) (events more : List HostEvent) (worker : Worker) (first : Driven)
+    (result : Result Worker Stop)
+    → IsCalled F line.chain.specs call line.given events worker → worker ≡ Driver first
+    → MatchResult result (λ after. IsWorkerAfter F line.chain line.given first more after)
+    (λ s. IfTold s (IsUndrivenAfter F line.request.now.calling.now line.chain line.given first more))
+    → MatchResult result (λ after. IsWorker F line.chain call line.given (events ++ more) after)
+    (λ s. IfTold s (Undriven F line.request.now.calling.now line.chain call line.given (events ++ more)))
+worker_later F line call events more worker first (Ok after) called is gives =
+    later (subst (λ w. IsCalled F line.chain.specs call line.given events w) is called) gives
+worker_later F line call events more worker first (Err stop) called is tells =
+    told_as stop (IsUndrivenAfter F line.request.now.calling.now line.chain line.given first more)
+    (Undriven F line.request.now.calling.now line.chain call line.given (events ++ more))
+    (λ text un. undriven_after (subst (λ w. IsCalled F line.chain.specs call line.given events w) is called) un) tells
 
 -- `worker_of` gives a line to the compiler that the driver doesn't carry out
-pub worker_at_once : (F : Facts) (line : GccLine) (call : Call) (worker : Worker) (options : List ℕ)
-    → IsCalled F line.chain.specs call line.given worker → worker ≡ Compiler options
-    → IsWorker F line.chain call line.given (Compiler options)
-worker_at_once F line call worker options called is =
-    at_once (subst (λ w. IsCalled F line.chain.specs call line.given w) is called)
+pub worker_at_once : (F : Facts) (line : GccLine) (call : Call) (events : List HostEvent) (worker : Worker) (options : List ℕ)
+    → IsCalled F line.chain.specs call line.given events worker → worker ≡ Compiler options
+    → IsWorker F line.chain call line.given events (Compiler options)
+worker_at_once F line call events worker options called is =
+    at_once (subst (λ w. IsCalled F line.chain.specs call line.given events w) is called)

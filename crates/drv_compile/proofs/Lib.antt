@@ -10,9 +10,11 @@ pub mod Joined
 pub mod Leading
 pub mod MachineRows
 pub mod Names
+pub mod Noting
 pub mod PlacesNoted
 pub mod Prepared
 pub mod Ran
+pub mod RowsAsked
 pub mod Settled
 pub mod Told
 pub mod Values

@@ -1,11 +1,10 @@
 use Rattle.drv_args.specs.declared.items.Item.{Item}
-use Rattle.drv_cc.specs.declared.answer.Variable.{Variable}
 use Rattle.drv_compile.specs.Code.CutLines.{begins_with}
 use Rattle.drv_compile.specs.Compilers.{lines, value_in}
 use Rattle.drv_compile.specs.Decides.{first_of}
-use Rattle.drv_compile.specs.Machines.{by_rows, machined_by}
+use Rattle.drv_compile.specs.Machines.{by_rows, row_of}
 use Rattle.drv_compile.specs.Suffixes.{suffixed_by, suffixed_if}
-use Rattle.std.proofs.Common.{◌≡◌, ◌∙◌, ◌||◌, ◌∷◌, [], Bool, List, None, Option, Some, ap, codes, false, nat_eq, refl, sym, true, ℕ}
+use Rattle.std.proofs.Common.{◌≡◌, ◌∙◌, ◌||◌, ◌∷◌, [], Bool, List, None, Some, ap, codes, false, nat_eq, refl, sym, true, ℕ}
 use Rattle.std.proofs.lemmas.Bool.{false≢true}
 use Rattle.std.specs.List.{flat_map, list_any, starts_with}
 
@@ -34,11 +33,11 @@ no_second one other (line ∷ all) none =
     rw parts.1 (no_second one other all parts.2)
 
 -- `for_machines` leaves out a text without such lines: the rows change nothing
-pub rows_left_out : (text : List ℕ) (found : Bool) (items : List Item) (children : List Variable)
+pub rows_left_out : (text : List ℕ) (found : Bool) (items : List Item)
     → found ≡ list_any (begins_with (codes "machine") (codes "suffix ")) (lines text) → found ≡ false
-    → machined_by None items children ≡ machined_by (Some text) items children
-rows_left_out text found items children is none =
-    sym (ap (λ found. by_rows text items children (first_of found)) (no_first (codes "machine") (codes "suffix ") (lines text) (sym is ∙ none)))
+    → row_of None items ≡ row_of (Some text) items
+rows_left_out text found items is none =
+    sym (ap (λ found. by_rows text items (first_of found)) (no_first (codes "machine") (codes "suffix ") (lines text) (sym is ∙ none)))
 
 -- `for_machines` leaves out a text without such lines: the suffix changes nothing
 pub suffix_left_out : (text : List ℕ) (found : Bool) (items : List Item)

@@ -2,7 +2,8 @@ use Rattle.drv_args.specs.declared.items.Item.{Item}
 use Rattle.drv_args.specs.declared.line.Expanded.{Expanded}
 use Rattle.drv_cc.specs.declared.answer.Call.{Call}
 use Rattle.drv_cc.specs.declared.answer.Variable.{Variable}
-use Rattle.drv_compile.proofs.Worded.{memory_stops, stop_stays, told_as}
+use Rattle.drv_compile.proofs.Noting.{noted_then}
+use Rattle.drv_compile.proofs.Worded.{stop_stays, told_as}
 use Rattle.drv_compile.specs.Code.Preparing.{IsDone, IsFailure, IsOverwriting, IsPrepared, IsQuestion, IsUndone, IsUnplanned}
 use Rattle.drv_compile.specs.Compiles.{Comes, IsPlanned, Refuses, asks, declines, drives, fails, handed_on, hands_on}
 use Rattle.drv_compile.specs.Compiles.{no_words, objected, overwriting, performs, stopped, undriven}
@@ -23,39 +24,18 @@ use Rattle.drv_compile.specs.declared.driving.Worker.{Worker}
 use Rattle.drv_compile.specs.declared.host.HostEvent.{HostEvent}
 use Rattle.drv_compile.specs.declared.preparing.Prepared.{Prepared}
 use Rattle.drv_compile.specs.declared.request.GccLine.{GccLine}
-use Rattle.drv_compile.specs.declared.stop.Stop.TheVariants.{Memory}
 use Rattle.drv_compile.specs.declared.stop.Stop.{Stop}
 use Rattle.drv_compile.specs.declared.tasks.Task.TheVariants.{Compilation, Question}
 use Rattle.drv_compile.specs.declared.tasks.Task.{Task}
 use Rattle.drv_run.specs.declared.work.Work.{Work}
 use Rattle.drv_system.specs.Facts.{Facts}
 use Rattle.drv_system.specs.Known.{Is}
-use Rattle.std.proofs.Common.{◌≡◌, ◌↔◌, ◌∙◌, ◌∷◌, [], Bool, Err, IsErrAnd, IsTrue, List, None, Ok, Option, Result, Some, ap, false, inl}
-use Rattle.std.proofs.Common.{inr, refl, subst, sym, true, ℕ}
+use Rattle.std.proofs.Common.{◌≡◌, ◌↔◌, ◌∙◌, ◌∷◌, ◌++◌, [], Bool, Err, IsErrAnd, IsTrue, List, None, Ok, Option, Result, Some, ap, false}
+use Rattle.std.proofs.Common.{inl, inr, refl, subst, sym, true, ℕ}
 use Rattle.std.proofs.lemmas.Bool.{false≢true}
-use Rattle.std.proofs.lemmas.List.{append-nil}
 use Rattle.std.specs.Prelude.{MatchResult, is_some}
 
 -- For `prepared` (src/preparing.rt): what a call does, from step to step.
-
--- nothing was noted
-pub none_noted : (notes : List HostEvent) (what : List HostEvent → Type 0) → what [] → Noted notes notes what
-none_noted notes what is = ([], sym (append-nil notes), is)
-
--- what was noted, said in other words
-pub noted_as : (before after : List HostEvent) (what what' : List HostEvent → Type 0)
-    → ((events : List HostEvent) → what events → what' events) → Noted before after what → Noted before after what'
-noted_as before after what what' turns (events, grown, is) = (events, grown, turns events is)
-
--- lack of memory
-
--- a step that notes what it asked hands on that memory lacked
-pub memory_noted : {X : Type 0} (before after : List HostEvent) (what : List HostEvent → Type 0) (result : Result X Stop)
-    (done : List HostEvent → X → Type 0)
-    (told : List HostEvent → List ℕ → Type 0) → Noted before after what → IsErrAnd result (λ s. s ≡ Memory)
-    → Noted before after (λ events. MatchResult result (done events) (λ s. IfTold s (told events)))
-memory_noted before after what result done told (events, grown, is) memory =
-    (events, grown, memory_stops result (done events) (told events) memory)
 
 -- an output that is an input, or none
 
@@ -109,16 +89,17 @@ overwriting_told name text output slice call inputs found before after some same
 -- the steps of a line
 
 -- `compilation` carries out a line that nothing speaks against, or refuses it as its plan is refused
-pub fails_planned : (F : Facts) (line : GccLine) (call : Call) (events : List HostEvent) (result : Result Prepared Stop)
-    → objection F line.request.now.calling.now.name call.inputs ≡ Is [] → Overwrites call.inputs call.output events false
-    → MatchResult result (λ prepared. IsPrepared F line call prepared) (λ stop. IfTold stop (IsUnplanned F line call))
-    → MatchResult result (λ prepared. IsDone F line call events prepared) (λ stop. IfTold stop (IsUndone F line call events))
-fails_planned F line call events (Ok prepared) free apart (inl (driven, works, planned)) = drives free apart works planned
-fails_planned F line call events (Ok prepared) free apart (inr (options, works, is)) = hands_on free apart works is
-fails_planned F line call events (Err stop) free apart unplanned =
-    told_as stop (IsUnplanned F line call) (IsUndone F line call events) by unplanned
+fails_planned : (F : Facts) (line : GccLine) (call : Call) (read asked : List HostEvent) (result : Result Prepared Stop)
+    → objection F line.request.now.calling.now.name call.inputs ≡ Is [] → Overwrites call.inputs call.output read false
+    → MatchResult result (λ prepared. IsPrepared F line call asked prepared) (λ stop. IfTold stop (IsUnplanned F line call asked))
+    → MatchResult result (λ prepared. IsDone F line call (read ++ asked) prepared)
+    (λ stop. IfTold stop (IsUndone F line call (read ++ asked)))
+fails_planned F line call read asked (Ok prepared) free apart (inl (driven, works, planned)) = drives free apart works planned
+fails_planned F line call read asked (Ok prepared) free apart (inr (options, works, is)) = hands_on free apart works is
+fails_planned F line call read asked (Err stop) free apart unplanned =
+    told_as stop (IsUnplanned F line call asked) (IsUndone F line call (read ++ asked)) by unplanned
   where
-    by : (text : List ℕ) → IsUnplanned F line call text → IsUndone F line call events text
+    by : (text : List ℕ) → IsUnplanned F line call asked text → IsUndone F line call (read ++ asked) text
     by text (inl un) = undriven free apart un
     by text (inr (driven, works, (refusal, stops, said))) = stopped free apart works stops said
 
@@ -159,16 +140,22 @@ overwriting_fails line name call stop before after result knows named is free (e
         subst (λ t. IsUndone F line call events t) (sym (same_text ∙ ap (λ n. overwritten_text n output) named))
         (overwriting (free F k) some overwrites)
 
--- `compilation` notes what it asked the host, and carries the line out
-pub performs_noted : (line : GccLine) (call : Call) (before after : List HostEvent) (result : Result Prepared Stop) (knows : Facts → Type 0)
+-- `compilation` notes what it asked the host for its files, and then for its row, and carries the line out
+pub performs_noted : (line : GccLine) (call : Call) (before mid after : List HostEvent) (result : Result Prepared Stop)
+    (knows : Facts → Type 0)
     → ((F : Facts) → knows F → objection F line.request.now.calling.now.name call.inputs ≡ Is [])
-    → Noted before after (λ events. Overwrites call.inputs call.output events false)
-    → ((F : Facts) → knows F → MatchResult result (λ prepared. IsPrepared F line call prepared)
-    (λ stop. IfTold stop (IsUnplanned F line call)))
+    → Noted before mid (λ events. Overwrites call.inputs call.output events false)
+    → Noted mid after (λ events. (F : Facts) → knows F → MatchResult result (λ prepared. IsPrepared F line call events prepared)
+    (λ stop. IfTold stop (IsUnplanned F line call events)))
     → Noted before after (λ events. (F : Facts) → knows F
     → MatchResult result (λ prepared. IsDone F line call events prepared) (λ s. IfTold s (IsUndone F line call events)))
-performs_noted line call before after result knows free (events, grown, apart) plans =
-    (events, grown, λ F k. fails_planned F line call events result (free F k) apart (plans F k))
+performs_noted line call before mid after result knows free =
+    noted_then before mid after (λ events. Overwrites call.inputs call.output events false)
+    (λ events. (F : Facts) → knows F → MatchResult result (λ prepared. IsPrepared F line call events prepared)
+    (λ stop. IfTold stop (IsUnplanned F line call events)))
+    (λ events. (F : Facts) → knows F
+    → MatchResult result (λ prepared. IsDone F line call events prepared) (λ s. IfTold s (IsUndone F line call events)))
+    (λ read asked apart plans F k. fails_planned F line call read asked result (free F k) apart (plans F k))
 
 -- the work of a line
 
@@ -210,34 +197,37 @@ failed_so F line driven name stop result named is tells =
     (subst (λ n. IfTold stop (IsFailure F n driven.line line.request.now.seed)) named tells)
 
 -- `prepared_plan` hands on why nobody carries a line out
-pub undriven_plan : (F : Facts) (line : GccLine) (call : Call) (stop : Stop) (result : Result Prepared Stop)
-    → IsErrAnd result (λ s. s ≡ stop) → IfTold stop (Undriven F line.request.now.calling.now line.chain call line.given)
-    → MatchResult result (λ prepared. IsPrepared F line call prepared) (λ s. IfTold s (IsUnplanned F line call))
-undriven_plan F line call stop result is tells =
-    stop_stays result stop (λ prepared. IsPrepared F line call prepared) (IsUnplanned F line call) is
-    (told_as stop (Undriven F line.request.now.calling.now line.chain call line.given) (IsUnplanned F line call) (λ text un. inl un) tells)
+pub undriven_plan : (F : Facts) (line : GccLine) (call : Call) (events : List HostEvent) (stop : Stop) (result : Result Prepared Stop)
+    → IsErrAnd result (λ s. s ≡ stop) → IfTold stop (Undriven F line.request.now.calling.now line.chain call line.given events)
+    → MatchResult result (λ prepared. IsPrepared F line call events prepared) (λ s. IfTold s (IsUnplanned F line call events))
+undriven_plan F line call events stop result is tells =
+    stop_stays result stop (λ prepared. IsPrepared F line call events prepared) (IsUnplanned F line call events) is
+    (told_as stop (Undriven F line.request.now.calling.now line.chain call line.given events) (IsUnplanned F line call events)
+    (λ text un. inl un) tells)
 
 -- `prepared_plan` lets the driver carry the line out
-pub prepared_by_driver : (F : Facts) (line : GccLine) (call : Call) (worker : Worker) (driven : Driven) (result : Result Prepared Stop)
-    → IsWorker F line.chain call line.given worker → worker ≡ Driver driven
+pub prepared_by_driver : (F : Facts) (line : GccLine) (call : Call) (events : List HostEvent) (worker : Worker) (driven : Driven)
+    (result : Result Prepared Stop)
+    → IsWorker F line.chain call line.given events worker → worker ≡ Driver driven
     → MatchResult result (λ prepared. IsPlanned F line.request.now.calling.now line.chain driven line.request.now.seed prepared)
     (λ s. IfTold s (IsFailure F line.request.now.calling.now.name driven.line line.request.now.seed))
-    → MatchResult result (λ prepared. IsPrepared F line call prepared) (λ s. IfTold s (IsUnplanned F line call))
-prepared_by_driver F line call worker driven (Ok prepared) works is planned =
-    inl (driven, subst (IsWorker F line.chain call line.given) is works, planned)
-prepared_by_driver F line call worker driven (Err stop) works is tells =
-    told_as stop (IsFailure F line.request.now.calling.now.name driven.line line.request.now.seed) (IsUnplanned F line call)
-    (λ text un. inr (driven, subst (IsWorker F line.chain call line.given) is works, un)) tells
+    → MatchResult result (λ prepared. IsPrepared F line call events prepared) (λ s. IfTold s (IsUnplanned F line call events))
+prepared_by_driver F line call events worker driven (Ok prepared) works is planned =
+    inl (driven, subst (IsWorker F line.chain call line.given events) is works, planned)
+prepared_by_driver F line call events worker driven (Err stop) works is tells =
+    told_as stop (IsFailure F line.request.now.calling.now.name driven.line line.request.now.seed) (IsUnplanned F line call events)
+    (λ text un. inr (driven, subst (IsWorker F line.chain call line.given events) is works, un)) tells
 
 -- `prepared_plan` lets the compiler carry the line out
-pub prepared_by_compiler : (F : Facts) (line : GccLine) (call : Call) (worker : Worker) (options slice : List ℕ) (prepared : Prepared)
-    → IsWorker F line.chain call line.given worker → worker ≡ Compiler options → slice ≡ options
+pub prepared_by_compiler : (F : Facts) (line : GccLine) (call : Call) (events : List HostEvent) (worker : Worker) (options slice : List ℕ)
+    (prepared : Prepared)
+    → IsWorker F line.chain call line.given events worker → worker ≡ Compiler options → slice ≡ options
     → prepared ≡ handed_on line.request.now.calling.now line.chain slice line.request.now.args.now line.given
-    → IsPrepared F line call prepared
-prepared_by_compiler F line call worker options slice prepared works is same hands =
+    → IsPrepared F line call events prepared
+prepared_by_compiler F line call events worker options slice prepared works is same hands =
     inr (
       options,
-      subst (IsWorker F line.chain call line.given) is works,
+      subst (IsWorker F line.chain call line.given events) is works,
       hands ∙ ap (λ o. handed_on line.request.now.calling.now line.chain o line.request.now.args.now line.given) same,
     )
 

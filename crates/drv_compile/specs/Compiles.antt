@@ -85,8 +85,8 @@ pub record IsPlanned (F : Facts) (calling : Calling) (chain : Toolchain) (driven
   pub hint : prepared.hint ≡ gone_text calling.name chain.specs calling.machine
   pub remark : prepared.remark ≡ []
 
--- What is done for a line of which no row has the words for its machine: the compiler gets it, with the same words, those of c99 turned
--- into gcc's. So no words are guessed, and a note says how they are added.
+-- What is done for a line of whose machine neither a row nor the compiler's answer has the words: the compiler gets it, with the same
+-- words, those of c99 turned into gcc's. So no words are guessed, and a note says how they are added.
 
 -- the words that the compiler gets then: the call's own, or those of c99 turned into gcc's
 abbrev pub words_for : Front → List (List ℕ) → Expanded → List (List ℕ)
@@ -105,15 +105,15 @@ handed_on calling chain options args given = record {
 }
 
 -- A line that is carried out: nothing speaks against it, its output is no input, and the items that the driver is called with denote work,
--- or the compiler gets it.
+-- or the compiler gets it. The host was asked for the paths of its files, and then for a row.
 pub data Performs (F : Facts) (calling : Calling) (chain : Toolchain) (call : Call) (args : List (List ℕ)) (given : Expanded) (seed : ℕ)
-    (events : List HostEvent) (prepared : Prepared) : Type 0 where
-  drives : {driven : Driven} → objection F calling.name call.inputs ≡ Is [] → Overwrites call.inputs call.output events false
-      → IsWorker F chain call given (Driver driven) → IsPlanned F calling chain driven seed prepared
-      → Performs F calling chain call args given seed events prepared
-  hands_on : {options : List ℕ} → objection F calling.name call.inputs ≡ Is [] → Overwrites call.inputs call.output events false
-      → IsWorker F chain call given (Compiler options) → prepared ≡ handed_on calling chain options args given
-      → Performs F calling chain call args given seed events prepared
+    : List HostEvent → Prepared → Type 0 where
+  drives : {driven : Driven} {read asked : List HostEvent} {prepared : Prepared} → objection F calling.name call.inputs ≡ Is []
+      → Overwrites call.inputs call.output read false → IsWorker F chain call given asked (Driver driven)
+      → IsPlanned F calling chain driven seed prepared → Performs F calling chain call args given seed (read ++ asked) prepared
+  hands_on : {options : List ℕ} {read asked : List HostEvent} {prepared : Prepared} → objection F calling.name call.inputs ≡ Is []
+      → Overwrites call.inputs call.output read false → IsWorker F chain call given asked (Compiler options)
+      → prepared ≡ handed_on calling chain options args given → Performs F calling chain call args given seed (read ++ asked) prepared
 
 -- why a line that could be carried out is refused, and the text that says it: an input is missing, the output is an input, no driver takes
 -- the line, or the driver refuses its items
@@ -123,13 +123,13 @@ pub data Fails (F : Facts) (calling : Calling) (chain : Toolchain) (call : Call)
       → Fails F calling chain call given seed [] (b ∷ text)
   overwriting : {events : List HostEvent} {output : List ℕ} → objection F calling.name call.inputs ≡ Is [] → call.output ≡ Some output
       → Overwrites call.inputs call.output events true → Fails F calling chain call given seed events (overwritten_text calling.name output)
-  undriven : {events : List HostEvent} {text : List ℕ} → objection F calling.name call.inputs ≡ Is []
-      → Overwrites call.inputs call.output events false
-      → Undriven F calling chain call given text → Fails F calling chain call given seed events text
-  stopped : {events : List HostEvent} {driven : Driven} {refusal : Refusal} {text : List ℕ} → objection F calling.name call.inputs ≡ Is []
-      → Overwrites call.inputs call.output events false
-      → IsWorker F chain call given (Driver driven) → Stops F driven.line seed (Refused refusal) → IsSaid F calling.name driven.line refusal text
-      → Fails F calling chain call given seed events text
+  undriven : {read asked : List HostEvent} {text : List ℕ} → objection F calling.name call.inputs ≡ Is []
+      → Overwrites call.inputs call.output read false
+      → Undriven F calling chain call given asked text → Fails F calling chain call given seed (read ++ asked) text
+  stopped : {read asked : List HostEvent} {driven : Driven} {refusal : Refusal} {text : List ℕ}
+      → objection F calling.name call.inputs ≡ Is [] → Overwrites call.inputs call.output read false
+      → IsWorker F chain call given asked (Driver driven) → Stops F driven.line seed (Refused refusal)
+      → IsSaid F calling.name driven.line refusal text → Fails F calling chain call given seed (read ++ asked) text
 
 -- What arguments ask for, with what the host was asked: a question to the compiler, a line that is carried out, or a refusal. `own` is
 -- where the spec file of this program lies, if that is known.

@@ -9,7 +9,7 @@ use Rattle.drv_cc.specs.declared.answer.Variable.{Variable}
 use Rattle.drv_cc.specs.declared.refusal.Refusal.{Refusal}
 use Rattle.drv_compile.specs.Beside.{written_beside}
 use Rattle.drv_compile.specs.Compilers.{values}
-use Rattle.drv_compile.specs.Machines.{machined_by}
+use Rattle.drv_compile.specs.Machines.{RowAsked, items_by}
 use Rattle.drv_compile.specs.Near.{AreTold}
 use Rattle.drv_compile.specs.Notes.{IsSaid}
 use Rattle.drv_compile.specs.Parts.{texts_of}
@@ -18,9 +18,13 @@ use Rattle.drv_compile.specs.Suffixes.{suffixed_by}
 use Rattle.drv_compile.specs.Texts.{damaged_text}
 use Rattle.drv_compile.specs.declared.calling.Calling.{Calling}
 use Rattle.drv_compile.specs.declared.driving.Driven.{Driven}
+use Rattle.drv_compile.specs.declared.driving.LineFiles.{LineFiles}
 use Rattle.drv_compile.specs.declared.driving.Worker.TheVariants.{Compiler, Driver}
 use Rattle.drv_compile.specs.declared.driving.Worker.{Worker}
+use Rattle.drv_compile.specs.declared.host.HostEvent.{HostEvent}
+use Rattle.drv_compile.specs.declared.machines.LineRow.{LineRow}
 use Rattle.drv_compile.specs.declared.machines.MachineItems.TheVariants.{Lacks, Made}
+use Rattle.drv_compile.specs.declared.machines.MachineItems.{MachineItems}
 use Rattle.drv_compile.specs.declared.parts.Texts.TheVariants.{Damaged, Whole}
 use Rattle.drv_compile.specs.declared.running.DriverLine.{DriverLine}
 use Rattle.drv_compile.specs.declared.tasks.Toolchain.{Toolchain}
@@ -28,7 +32,7 @@ use Rattle.drv_run.specs.declared.ending.Ending.TheVariants.{Refused}
 use Rattle.drv_run.specs.declared.ending.Refusal as driver
 use Rattle.drv_system.specs.Facts.{Facts}
 use Rattle.drv_system.specs.Known.{Is, Known}
-use Rattle.std.specs.Prelude.{◌≡◌, List, [], ◌∷◌, None, Ok, Err, Option, Some, codes, ℕ}
+use Rattle.std.specs.Prelude.{◌≡◌, List, [], ◌∷◌, ◌++◌, None, Ok, Err, Option, Some, codes, ℕ}
 
 -- Who carries out a line, over facts: the driver, with the file that has the line's texts and its items, with the options that its spec
 -- files give it (GCC, "gcc.cc", set_up_specs, do_self_spec; GCC manual, "Overall Options", -specs=). Or it is the compiler of the spec file,
@@ -45,41 +49,44 @@ driver_items path items = item_of effect.Specs (codes "-specs=") path ∷ alone 
 abbrev pub driver_line : List ℕ → List Item → Expanded → DriverLine
 driver_line path items given = record { items = driver_items path items; from_file = given.from_file }
 
--- with the words for its machine, by the rows of the file that names the compiler, if they have them
-abbrev pub IsMachined : List ℕ → Option (List ℕ) → Call → Expanded → Worker → Type 0
-IsMachined path rows call given (Driver driven) =
-    (items : List Item) × (children : List Variable) × (machined_by rows call.items call.children ≡ Made items children)
+-- with the words for its machine in these items, if a row has them, and the suffix of programs that the file of the rows names
+abbrev pub IsMade : List ℕ → Option (List ℕ) → MachineItems → Expanded → Worker → Type 0
+IsMade path rows made given (Driver driven) =
+    (items : List Item) × (children : List Variable) × (made ≡ Made items children)
     × (driven ≡ record { line = driver_line path (suffixed_by rows items) given; children = children })
-IsMachined path rows call given (Compiler options) = machined_by rows call.items call.children ≡ Lacks options
+IsMade path rows made given (Compiler options) = made ≡ Lacks options
+
+-- with the words for its machine, by its row in the file that names the compiler, or by that compiler's answer
+abbrev pub IsMachined : List ℕ → LineFiles → Call → Expanded → List HostEvent → Worker → Type 0
+IsMachined specs files call given events worker =
+    (row : LineRow) × RowAsked specs files.rows call.items events row
+    × IsMade files.texts files.rows (items_by row call.items call.children) given worker
 
 -- the file that names the compiler and has the rows of its machines, if it is whole
 abbrev pub rows_of : Facts → List ℕ → Known (Option (List ℕ))
 rows_of F specs = written_beside F specs (codes ".gcc")
 
--- a line by itself, with the file that has its texts, if that is whole
-abbrev pub IsCalled : Facts → List ℕ → Call → Expanded → Worker → Type 0
-IsCalled F specs call given worker =
-    (path : List ℕ) × (rows : Option (List ℕ)) × (texts_of F specs call.items call.stages ≡ Is (Whole path)) × (rows_of F specs ≡ Is rows)
-    × IsMachined path rows call given worker
+-- a line by itself, with the file that has its texts, if that is whole, and with what the host was asked for its row
+abbrev pub IsCalled : Facts → List ℕ → Call → Expanded → List HostEvent → Worker → Type 0
+IsCalled F specs call given events worker =
+    (files : LineFiles) × (texts_of F specs call.items call.stages ≡ Is (Whole files.texts)) × (rows_of F specs ≡ Is files.rows)
+    × IsMachined specs files call given events worker
 
--- the refusal of a line by itself, as the file with its texts isn't whole
-abbrev pub IsUncalled : Facts → Calling → List ℕ → Call → List ℕ → Type 0
-IsUncalled F calling specs call text =
-    (path : List ℕ) × (texts_of F specs call.items call.stages ≡ Is (Damaged path))
-    × (text ≡ damaged_text calling.name path specs calling.machine)
+-- the refusal of a line by itself, as the file with its texts isn't whole: the host was asked nothing
+pub data IsUncalled (F : Facts) (calling : Calling) (specs : List ℕ) (call : Call) : List HostEvent → List ℕ → Type 0 where
+  not_whole : {path : List ℕ} → texts_of F specs call.items call.stages ≡ Is (Damaged path)
+      → IsUncalled F calling specs call [] (damaged_text calling.name path specs calling.machine)
 
--- what its spec files give it: the line stays as it is, or another line takes its place
-pub data IsAnswered (F : Facts) (specs : List ℕ) (given : Expanded) (first : Driven) : Option Answer → Worker → Type 0 where
-  stays : IsAnswered F specs given first None (Driver first)
-  asks : IsAnswered F specs given first (Some Ask) (Driver first)
-  runs : {call : Call} {worker : Worker} → IsCalled F specs call given worker → IsAnswered F specs given first (Some (Run call)) worker
+-- the line that its spec files put in the place of a line, if they do
+pub data Replaces : Option Answer → Option Call → Type 0 where
+  stays : Replaces None None
+  asks : Replaces (Some Ask) None
+  runs : {call : Call} → Replaces (Some (Run call)) (Some call)
 
 -- the refusal of what a line's spec files give it
-pub data IsDenied (F : Facts) (calling : Calling) (chain : Toolchain) : Option Answer → List ℕ → Type 0 where
+pub data IsDenied (calling : Calling) (chain : Toolchain) : Option Answer → List ℕ → Type 0 where
   refuses : {refusals : List Refusal} {text : List ℕ} → AreTold calling.name (values [] chain.known) refusals text
-      → IsDenied F calling chain (Some (Refuse refusals)) text
-  uncalled_after : {call : Call} {text : List ℕ} → IsUncalled F calling chain.specs call text
-      → IsDenied F calling chain (Some (Run call)) text
+      → IsDenied calling chain (Some (Refuse refusals)) text
 
 -- the answer that a line's spec files give, or how they end the call
 abbrev pub answer_of : Facts → Toolchain → Expanded → Driven → Ended (Option Answer)
@@ -90,26 +97,35 @@ abbrev pub IsUnanswered : Facts → List ℕ → Toolchain → Expanded → Driv
 IsUnanswered F name chain given first text =
     (refusal : driver.Refusal) × (answer_of F chain given first ≡ Is (Err (Refused refusal))) × IsSaid F name first.line refusal text
 
--- a line that the driver would be called with so, after its spec files
-abbrev pub IsWorkerAfter : Facts → Toolchain → Expanded → Driven → Worker → Type 0
-IsWorkerAfter F chain given first worker =
-    (answer : Option Answer) × (answer_of F chain given first ≡ Is (Ok answer)) × IsAnswered F chain.specs given first answer worker
+-- a line that the driver would be called with so, after its spec files: the line in its place, or itself
+pub data IsWorkerAfter (F : Facts) (chain : Toolchain) (given : Expanded) (first : Driven) : List HostEvent → Worker → Type 0 where
+  in_place : {answer : Option Answer} {call : Call} {events : List HostEvent} {worker : Worker}
+      → answer_of F chain given first ≡ Is (Ok answer) → Replaces answer (Some call) → IsCalled F chain.specs call given events worker
+      → IsWorkerAfter F chain given first events worker
+  unchanged : {answer : Option Answer} → answer_of F chain given first ≡ Is (Ok answer) → Replaces answer None
+      → IsWorkerAfter F chain given first [] (Driver first)
 
 -- the text of a refusal after a line's spec files: they refuse by themselves, or what they give is refused
-pub data IsUndrivenAfter (F : Facts) (calling : Calling) (chain : Toolchain) (given : Expanded) (first : Driven) (text : List ℕ)
-    : Type 0 where
-  not_answered : IsUnanswered F calling.name chain given first text → IsUndrivenAfter F calling chain given first text
-  denied : {answer : Option Answer} → answer_of F chain given first ≡ Is (Ok answer) → IsDenied F calling chain answer text
-      → IsUndrivenAfter F calling chain given first text
+pub data IsUndrivenAfter (F : Facts) (calling : Calling) (chain : Toolchain) (given : Expanded) (first : Driven)
+    : List HostEvent → List ℕ → Type 0 where
+  not_answered : {text : List ℕ} → IsUnanswered F calling.name chain given first text → IsUndrivenAfter F calling chain given first [] text
+  denied : {answer : Option Answer} {text : List ℕ} → answer_of F chain given first ≡ Is (Ok answer) → IsDenied calling chain answer text
+      → IsUndrivenAfter F calling chain given first [] text
+  uncalled_after : {answer : Option Answer} {call : Call} {events : List HostEvent} {text : List ℕ}
+      → answer_of F chain given first ≡ Is (Ok answer) → Replaces answer (Some call) → IsUncalled F calling chain.specs call events text
+      → IsUndrivenAfter F calling chain given first events text
 
 -- who carries out a line: the compiler at once, or the driver unless the line's spec files give it another
-pub data IsWorker (F : Facts) (chain : Toolchain) (call : Call) (given : Expanded) : Worker → Type 0 where
-  at_once : {options : List ℕ} → IsCalled F chain.specs call given (Compiler options) → IsWorker F chain call given (Compiler options)
-  later : {first : Driven} {worker : Worker} → IsCalled F chain.specs call given (Driver first) → IsWorkerAfter F chain given first worker
-      → IsWorker F chain call given worker
+pub data IsWorker (F : Facts) (chain : Toolchain) (call : Call) (given : Expanded) : List HostEvent → Worker → Type 0 where
+  at_once : {options : List ℕ} {events : List HostEvent} → IsCalled F chain.specs call given events (Compiler options)
+      → IsWorker F chain call given events (Compiler options)
+  later : {first : Driven} {worker : Worker} {events more : List HostEvent} → IsCalled F chain.specs call given events (Driver first)
+      → IsWorkerAfter F chain given first more worker → IsWorker F chain call given (events ++ more) worker
 
 -- nobody carries out the line: the text of the refusal
-pub data Undriven (F : Facts) (calling : Calling) (chain : Toolchain) (call : Call) (given : Expanded) (text : List ℕ) : Type 0 where
-  uncalled : IsUncalled F calling chain.specs call text → Undriven F calling chain call given text
-  undriven_after : {first : Driven} → IsCalled F chain.specs call given (Driver first) → IsUndrivenAfter F calling chain given first text
-      → Undriven F calling chain call given text
+pub data Undriven (F : Facts) (calling : Calling) (chain : Toolchain) (call : Call) (given : Expanded)
+    : List HostEvent → List ℕ → Type 0 where
+  uncalled : {events : List HostEvent} {text : List ℕ} → IsUncalled F calling chain.specs call events text
+      → Undriven F calling chain call given events text
+  undriven_after : {first : Driven} {events more : List HostEvent} {text : List ℕ} → IsCalled F chain.specs call given events (Driver first)
+      → IsUndrivenAfter F calling chain given first more text → Undriven F calling chain call given (events ++ more) text

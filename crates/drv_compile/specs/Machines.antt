@@ -5,12 +5,17 @@ use Rattle.drv_cc.specs.declared.answer.Variable.{Variable}
 use Rattle.drv_compile.specs.Compilers.{values}
 use Rattle.drv_compile.specs.Decides.{first_of}
 use Rattle.drv_compile.specs.Texts.{is}
+use Rattle.drv_compile.specs.declared.host.HostEvent.TheVariants.{Worded}
+use Rattle.drv_compile.specs.declared.host.HostEvent.{HostEvent}
+use Rattle.drv_compile.specs.declared.machines.LineRow.TheVariants.{Found, Missing, Unneeded}
+use Rattle.drv_compile.specs.declared.machines.LineRow.{LineRow}
 use Rattle.drv_compile.specs.declared.machines.MachineItems.TheVariants.{Lacks, Made}
 use Rattle.drv_compile.specs.declared.machines.MachineItems.{MachineItems}
 use Rattle.drv_words.specs.Bytes as byte
 use Rattle.std.specs.Cmp.Lexicographic.{pointwise}
 use Rattle.std.specs.List.{flat_map, slice_split, starts_with}
-use Rattle.std.specs.Prelude.{◌==◌, ◌||◌, Bool, List, [], ◌∷◌, ◌++◌, None, Option, Some, codes, drop, if◌then◌else◌, length, map, nat_eq, ℕ}
+use Rattle.std.specs.Prelude.{◌≡◌, ◌==◌, ◌||◌, Bool, List, [], ◌∷◌, ◌++◌, None, Option, Some, codes, drop, if◌then◌else◌, length}
+use Rattle.std.specs.Prelude.{map, nat_eq, ℕ}
 
 -- The options of a line that choose its machine, and the words that gcc makes of them (GCC, "gcc.cc", DRIVER_SELF_SPECS and
 -- OPTION_DEFAULT_SPECS, set_multilib_dir; in no dump). The file beside the spec file may have rows: `machine`, these options with a blank
@@ -18,7 +23,7 @@ use Rattle.std.specs.Prelude.{◌==◌, ◌||◌, Bool, List, [], ◌∷◌, ◌
 -- A gcc may also choose by an option for no machine (mips: -fno-pic adds -mno-shared, NO_SHARED_SPECS). The file has a line `key` for each
 -- such option: the option, a blank, and one of those that choose alike. A key has that one after the options for the machine; the line's
 -- own stays where it is.
--- For clauses of src/machines.rt.
+-- For clauses of src/machines.rt and src/row_asking.rt.
 
 -- whether an option chooses the machine: one that begins with -m, or -EB or -EL
 abbrev pub is_machine : List ℕ → Bool
@@ -126,25 +131,39 @@ child_line items row text = drop 1 (without_options items (byte.space ∷ text) 
 abbrev pub child_variable : List Item → List ℕ → Variable → Variable
 child_variable items row v = record v { value = if is v.name (codes "COLLECT_GCC_OPTIONS") then child_line items row v.value else v.value }
 
--- a line of which no row has the words: the options of its key, a blank between two
-abbrev pub with_row : List ℕ → List Item → List Variable → Option (List ℕ) → MachineItems
-with_row key items children None = Lacks (drop 1 key)
-with_row key items children (Some row) = Made (row_items row ++ plain_items items) (map (child_variable items row) children)
+-- the row for a key, if one was found
+abbrev pub found_or_missing : List ℕ → Option (List ℕ) → LineRow
+found_or_missing key None = Missing key
+found_or_missing key (Some row) = Found row
 
--- the items of a line and the variables of its children by the row of a text for this key
-abbrev pub by_key : List ℕ → List ℕ → List Item → List Variable → MachineItems
-by_key text key items children = with_row key items children (first_of (values (row_beginning key) text))
+-- the row for a key among the rows of a text: the first
+abbrev pub row_among : List ℕ → List ℕ → LineRow
+row_among text key = found_or_missing key (first_of (values (row_beginning key) text))
 
--- the items of a line and the variables of its children by the rows of a text; where it has none, they stay
-abbrev pub by_rows : List ℕ → List Item → List Variable → Option (List ℕ) → MachineItems
-by_rows text items children None = Made items children
-by_rows text items children (Some first) = by_key text (key_of text items) items children
+-- the row of a line by a text and the first row there; where there is none, no line needs one
+abbrev pub by_rows : List ℕ → List Item → Option (List ℕ) → LineRow
+by_rows text items None = Unneeded
+by_rows text items (Some first) = row_among text (key_of text items)
 
--- the same by a file's text: rows count only if that text has any
-abbrev pub items_by_rows : List ℕ → List Item → List Variable → MachineItems
-items_by_rows text items children = by_rows text items children (first_of (values (codes "machine") text))
+-- the row of a line by a text
+abbrev pub row_in : List ℕ → List Item → LineRow
+row_in text items = by_rows text items (first_of (values (codes "machine") text))
 
--- where the file is not whole, the line stays as it is
-abbrev pub machined_by : Option (List ℕ) → List Item → List Variable → MachineItems
-machined_by None items children = Made items children
-machined_by (Some text) items children = items_by_rows text items children
+-- the row of a line by the text of a file, if that is whole
+abbrev pub row_of : Option (List ℕ) → List Item → LineRow
+row_of None items = Unneeded
+row_of (Some text) items = row_in text items
+
+-- The row of a line, with what the host was asked: where the file has rows and none for the line's options, the compiler of the spec file
+-- is asked, and its answer has the row. No file is changed by that. If the answer has no row for these options either, the row is missing.
+pub data RowAsked (specs : List ℕ) (rows : Option (List ℕ)) (items : List Item) : List HostEvent → LineRow → Type 0 where
+  no_rows : row_of rows items ≡ Unneeded → RowAsked specs rows items [] Unneeded
+  in_file : {row : List ℕ} → row_of rows items ≡ Found row → RowAsked specs rows items [] (Found row)
+  answered : {key answer : List ℕ} → row_of rows items ≡ Missing key
+      → RowAsked specs rows items (Worded specs (drop 1 key) answer ∷ []) (row_among answer key)
+
+-- the items of a line and the variables of its children by its row; where no line needs one, they stay
+abbrev pub items_by : LineRow → List Item → List Variable → MachineItems
+items_by Unneeded items children = Made items children
+items_by (Found row) items children = Made (row_items row ++ plain_items items) (map (child_variable items row) children)
+items_by (Missing key) items children = Lacks (drop 1 key)

@@ -1,8 +1,9 @@
 //! What the driver is called with for a line.
 
-ghost use Rattle.drv_compile.specs.Driven.{IsAnswered, IsCalled, IsDenied, IsMachined};
-ghost use Rattle.drv_compile.specs.Driven.{IsUnanswered, IsUncalled, IsUndrivenAfter, IsWorker};
-ghost use Rattle.drv_compile.specs.Driven.{IsWorkerAfter, Undriven, answer_of, driver_items};
+ghost use Rattle.drv_compile.specs.Driven.{IsCalled, IsDenied, IsMachined, IsMade, IsUnanswered};
+ghost use Rattle.drv_compile.specs.Driven.{IsUncalled, IsUndrivenAfter, IsWorker, IsWorkerAfter};
+ghost use Rattle.drv_compile.specs.Driven.{Replaces, Undriven, answer_of, driver_items};
+ghost use Rattle.drv_compile.specs.Inputs.{Noted};
 ghost use Rattle.drv_compile.specs.Tasks.{IfTold};
 ghost use Rattle.drv_system.specs.Asking.{Extends};
 ghost use Rattle.drv_system.specs.Code.Asked.{Asked};
@@ -12,10 +13,12 @@ ghost use Rattle.std.specs.Option.{option_copied};
 ghost use Rattle.std.specs.Prelude.{◌≡◌, IfOk, MatchResult, Ok};
 
 use crate::finding::written_beside;
-use crate::machines::{MachineItems, for_machines, machined_by};
+use crate::host::Host;
+use crate::machines::{MachineItems, for_machines, items_by};
 use crate::parts::{Texts, texts_asked};
 use crate::refusing::stop_after;
 use crate::request::GccLine;
+use crate::row_asking::row_asked;
 use crate::running::DriverLine;
 use crate::self_specs::answer_given;
 use crate::stop::Stop;
@@ -79,23 +82,21 @@ fn slice_of(text: &Option<Word>) -> Option<&[u8]>
     }
 }
 
-/// Who carries out a line by itself, with this file that has its texts, and by these rows for its
-/// machines.
-fn machined_call(
+/// Who carries out a line with these items, with this file that has its texts, and with the suffix
+/// of programs that the rows name.
+fn made_call(
     alloc: Global,
     path: Word,
     rows: Option<&[u8]>,
-    call: Call,
+    made: MachineItems,
     given: &Expanded,
 ) -> Result<Worker, AllocError>
-    ensures { IfOk result (λ worker. IsMachined path (option_copied rows.entry) call given.now
-        worker) }
+    ensures { IfOk result (λ worker. IsMade path (option_copied rows.entry) made given.now worker) }
 {
-    let text = for_machines(rows);
-    match machined_by(alloc, text, call.items, call.children)? {
+    match made {
         MachineItems::Lacks(options) => Ok(Worker::Compiler(options)),
         MachineItems::Made(items, children) => {
-            let suffixed = suffixed_by(alloc, text, items)?;
+            let suffixed = suffixed_by(alloc, rows, items)?;
             let all = driver_items(alloc, path, suffixed)?;
             let line = DriverLine {
                 items: all,
@@ -106,27 +107,60 @@ fn machined_call(
     }
 }
 
+/// The files by which a line is called.
+#[derive(Drop)]
+struct LineFiles {
+    /// The path of the one that has its texts.
+    texts: Word,
+    /// The lines of the one that has the rows for machines, if that is whole.
+    rows: Option<Word>,
+}
+
+/// Who carries out a line by itself, by these files. The host is asked for a row that they lack.
+fn machined_call<S: System, H: Host<S>>(
+    alloc: Global,
+    line: &GccLine<'_>,
+    files: LineFiles,
+    call: Call,
+    host: &mut H,
+) -> Result<Worker, AllocError>
+    ensures { Noted (H.notes host.old) (H.notes host.new)
+        (λ events. IfOk result (λ worker. IsMachined line.now.chain.specs files call line.now.given
+        events worker)) }
+{
+    let LineFiles { texts, rows } = files;
+    let lines = for_machines(slice_of(&rows));
+    let row = row_asked(alloc, &line.chain.specs, lines, call.items.as_slice(), host)?;
+    let made = items_by(alloc, row, call.items, call.children)?;
+    made_call(alloc, texts, lines, made, &line.given)
+}
+
 /// Who carries out a line by itself, with the file that has its texts.
 ///
 /// # Errors
 /// The text about a file that is missing or not whole.
-fn driver_of_call<S: System>(
+fn driver_of_call<S: System, H: Host<S>>(
     alloc: Global,
     line: &GccLine<'_>,
     call: Call,
     outside: &mut Outside<'_, S>,
+    host: &mut H,
 ) -> Result<Worker, Stop>
     ensures asks { Asked S.events outside.old outside.new }
-    ensures calls { (F : Facts) → Extends outside.new.facts.now F
-        → MatchResult result (λ worker. IsCalled F line.now.chain.specs call line.now.given worker)
-        (λ stop. IfTold stop (IsUncalled F line.now.request.now.calling.now line.now.chain.specs call)) }
+    ensures calls { Noted (H.notes host.old) (H.notes host.new)
+        (λ events. (F : Facts) → Extends outside.new.facts.now F
+        → MatchResult result
+        (λ worker. IsCalled F line.now.chain.specs call line.now.given events worker)
+        (λ stop. IfTold stop
+        (IsUncalled F line.now.request.now.calling.now line.now.chain.specs call events))) }
 {
     let specs = line.chain.specs.as_bytes();
     let rows = written_beside(alloc, specs, b".gcc", outside)?;
     let texts = texts_asked(alloc, specs, call.items.as_slice(), call.stages, outside)?;
     match texts {
         Texts::Whole(path) => {
-            let worker = machined_call(alloc, path, slice_of(&rows), call, &line.given)?;
+            let files = LineFiles { texts: path, rows };
+            let worker = machined_call(alloc, line, files, call, host)?;
             Ok(worker)
         }
         Texts::Damaged(path) => {
@@ -161,33 +195,28 @@ fn answer<S: System>(
     }
 }
 
-/// Who carries out a line, by what its spec files gave it.
+/// The line that its spec files put in the place of a line, if they do.
 ///
 /// # Errors
 /// The text of the refusal of what they gave.
-fn driver_of_answers<S: System>(
+fn call_given(
     alloc: Global,
     line: &GccLine<'_>,
     answer: Option<Answer>,
-    first: Driven,
-    outside: &mut Outside<'_, S>,
-) -> Result<Worker, Stop>
-    ensures asks { Asked S.events outside.old outside.new }
-    ensures drives { (F : Facts) → Extends outside.new.facts.now F
-        → MatchResult result
-        (λ worker. IsAnswered F line.now.chain.specs line.now.given first answer worker)
-        (λ stop. IfTold stop (IsDenied F line.now.request.now.calling.now line.now.chain answer)) }
+) -> Result<Option<Call>, Stop>
+    ensures { MatchResult result (λ call. Replaces answer call)
+        (λ stop. IfTold stop (IsDenied line.now.request.now.calling.now line.now.chain answer)) }
 {
     match answer {
-        Some(Answer::Run(call)) => driver_of_call(alloc, line, call, outside),
+        Some(Answer::Run(call)) => Ok(Some(call)),
         Some(Answer::Refuse(refusals)) => {
             let name = line.request.calling.name.as_bytes();
             let known = line.chain.known.as_bytes();
             let text = refusals_text(alloc, name, known, refusals.as_slice())?;
             Err(Stop::Told(text))
         }
-        Some(Answer::Ask) => Ok(Worker::Driver(first)),
-        None => Ok(Worker::Driver(first)),
+        Some(Answer::Ask) => Ok(None),
+        None => Ok(None),
     }
 }
 
@@ -197,42 +226,51 @@ fn driver_of_answers<S: System>(
 /// # Errors
 /// The text of a refusal.
 #[tactic(auto, using(drv_system::proofs::AskedCalls::asked_further))]
-fn worker_after<S: System>(
+fn worker_after<S: System, H: Host<S>>(
     alloc: Global,
     line: &GccLine<'_>,
     first: Driven,
     outside: &mut Outside<'_, S>,
+    host: &mut H,
 ) -> Result<Worker, Stop>
     ensures asks { Asked S.events outside.old outside.new }
-    ensures drives { (F : Facts) → Extends outside.new.facts.now F
+    ensures drives { Noted (H.notes host.old) (H.notes host.new)
+        (λ events. (F : Facts) → Extends outside.new.facts.now F
         → MatchResult result
-        (λ worker. IsWorkerAfter F line.now.chain line.now.given first worker)
+        (λ worker. IsWorkerAfter F line.now.chain line.now.given first events worker)
         (λ stop. IfTold stop
-        (IsUndrivenAfter F line.now.request.now.calling.now line.now.chain line.now.given first)) }
+        (IsUndrivenAfter F line.now.request.now.calling.now line.now.chain line.now.given first events))) }
 {
     let answer = answer(alloc, line, &first, outside)?;
-    driver_of_answers(alloc, line, answer, first, outside)
+    match call_given(alloc, line, answer)? {
+        Some(call) => driver_of_call(alloc, line, call, outside, host),
+        None => Ok(Worker::Driver(first)),
+    }
 }
 
 /// Who carries out a line, with the options that its spec files give it. It asks the system only
-/// where the table has no answer.
+/// where the table has no answer, and the host for a row that the file lacks.
 ///
 /// # Errors
 /// The text of a refusal.
 #[tactic(auto, using(drv_system::proofs::AskedCalls::asked_further))]
-pub(crate) fn worker_of<S: System>(
+pub(crate) fn worker_of<S: System, H: Host<S>>(
     alloc: Global,
     line: &GccLine<'_>,
     call: Call,
     outside: &mut Outside<'_, S>,
+    host: &mut H,
 ) -> Result<Worker, Stop>
     ensures asks { Asked S.events outside.old outside.new }
-    ensures drives { (F : Facts) → Extends outside.new.facts.now F
-        → MatchResult result (λ worker. IsWorker F line.now.chain call line.now.given worker)
-        (λ stop. IfTold stop (Undriven F line.now.request.now.calling.now line.now.chain call line.now.given)) }
+    ensures drives { Noted (H.notes host.old) (H.notes host.new)
+        (λ events. (F : Facts) → Extends outside.new.facts.now F
+        → MatchResult result
+        (λ worker. IsWorker F line.now.chain call line.now.given events worker)
+        (λ stop. IfTold stop
+        (Undriven F line.now.request.now.calling.now line.now.chain call line.now.given events))) }
 {
-    match driver_of_call(alloc, line, call, outside)? {
-        Worker::Driver(first) => worker_after(alloc, line, first, outside),
+    match driver_of_call(alloc, line, call, outside, host)? {
+        Worker::Driver(first) => worker_after(alloc, line, first, outside, host),
         Worker::Compiler(options) => Ok(Worker::Compiler(options)),
     }
 }

@@ -1,6 +1,6 @@
 //! What a call asks of its machine beside what a driver asks.
 
-ghost use Rattle.drv_compile.specs.declared.host.HostEvent.TheVariants.{Resolved, Set, Tried};
+ghost use Rattle.drv_compile.specs.declared.host.HostEvent.TheVariants.{Resolved, Set, Tried, Worded};
 ghost use Rattle.std.specs.Prelude.{◌≡◌, ◌∷◌, ◌++◌, [], IfOk, List, OnErr, OnOk, length};
 
 use drv_cc::Variable;
@@ -16,6 +16,9 @@ pub enum HostEvent {
     Resolved(Word, Option<Word>),
     /// The call asked whether a name is that of a folder in which files can be made.
     Tried(Word, bool),
+    /// The call asked the compiler of a spec file for the words that it makes of options for its
+    /// machine, a blank between two; the answer has them as a row.
+    Worded(Word, Word, Word),
     /// After this many events of the system the call set this variable for the children that it
     /// starts from then on.
     Set(usize, Variable),
@@ -41,6 +44,14 @@ pub trait Host<S: System> {
     fn is_usable(&mut self, name: &Word) -> Result<bool, AllocError>
         ensures event { IfOk result (λ usable. notes self.new
             ≡ notes self.old ++ Tried name.now usable ∷ []) }
+        ensures memory { OnErr result (notes self.new ≡ notes self.old) };
+
+    /// Asks the compiler of the spec file at a path for the words that it makes of these options for
+    /// its machine, a blank between two. The answer is a row, as the file beside the spec file has
+    /// them, and empty where there is none. No file is changed.
+    fn row_of(&mut self, specs: &Word, options: &Word) -> Result<Word, AllocError>
+        ensures event { IfOk result (λ row. notes self.new
+            ≡ notes self.old ++ Worded specs.now options.now row ∷ []) }
         ensures memory { OnErr result (notes self.new ≡ notes self.old) };
 
     /// Sets a variable for the children that the system starts from now on.

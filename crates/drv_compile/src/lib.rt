@@ -21,6 +21,7 @@ mod preparing;
 mod reading;
 mod refusing;
 mod request;
+mod row_asking;
 mod running;
 mod saying;
 mod self_specs;

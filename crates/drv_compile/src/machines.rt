@@ -1,10 +1,12 @@
 //! The options of a line that choose its machine, and the words that gcc makes of them.
 
-ghost use Rattle.drv_compile.specs.Machines.{by_key, chooser_word, chooser_words};
+ghost use Rattle.drv_compile.specs.Machines.{chooser_word, chooser_words};
 ghost use Rattle.drv_compile.specs.Machines.{folder_item, is_machine, key_of, key_word};
-ghost use Rattle.drv_compile.specs.Machines.{items_by_rows, machined_by, plain_item, row_beginning};
-ghost use Rattle.drv_compile.specs.Machines.{row_items, with_row, word_item, word_items};
+ghost use Rattle.drv_compile.specs.Machines.{found_or_missing, items_by, plain_item, row_among};
+ghost use Rattle.drv_compile.specs.Machines.{row_beginning, row_in, row_items, row_of, word_item};
+ghost use Rattle.drv_compile.specs.Machines.{word_items};
 ghost use Rattle.drv_compile.specs.Suffixes.{suffixed_by};
+ghost use Rattle.drv_compile.specs.declared.machines.LineRow.TheVariants.{Found};
 ghost use Rattle.drv_args.specs.declared.items.Item.{Item};
 ghost use Rattle.drv_cc.specs.declared.answer.Variable.{Variable};
 ghost use Rattle.std.specs.List.{flat_map};
@@ -17,6 +19,17 @@ use drv_args::{Effect, Item};
 use drv_cc::Variable;
 use drv_words::{Listing, Word};
 use std::alloc::{AllocError, Global};
+
+/// The row of a line.
+#[derive(Drop)]
+pub(crate) enum LineRow {
+    /// There are no rows: no line needs one.
+    Unneeded,
+    /// The words of the row.
+    Found(Word),
+    /// The line's key, of which no row has the words.
+    Missing(Word),
+}
 
 /// The items of a line with the words for its machine, and the variables of its children.
 #[derive(Drop)]
@@ -196,95 +209,106 @@ fn push_all_plain(items: &[Item], plain: &mut Listing<Item>) -> Result<(), Alloc
     Ok(())
 }
 
-/// Options without the blank before them.
-fn without_blank(alloc: Global, key: &[u8]) -> Result<Word, AllocError>
+/// The options of a key, without the blank before them.
+pub(crate) fn options_of(alloc: Global, key: &[u8]) -> Result<Word, AllocError>
     ensures { IfOk result (λ options. options ≡ drop 1 key.now) }
 {
     Word::from_bytes(alloc, key.get(1..).unwrap_or(&[]))
 }
 
-/// The items of a line after the words of its row, if it has one, and the variables of its children.
-fn with_row(
-    alloc: Global,
-    key: &[u8],
-    items: &[Item],
-    children: &[Variable],
-    row: Option<Word>,
-) -> Result<MachineItems, AllocError>
-    ensures { IfOk result (λ made. made ≡ with_row key.now items.now children.now row) }
+/// The row for a key, if one was found.
+fn found_or_missing(alloc: Global, key: &[u8], row: Option<Word>) -> Result<LineRow, AllocError>
+    ensures { IfOk result (λ found. found ≡ found_or_missing key.now row) }
 {
     let Some(row) = row else {
-        let options = without_blank(alloc, key)?;
-        return Ok(MachineItems::Lacks(options));
+        let key = Word::from_bytes(alloc, key)?;
+        return Ok(LineRow::Missing(key));
     };
+    Ok(LineRow::Found(row))
+}
+
+/// The row for a key among the rows of a text.
+pub(crate) fn row_among(alloc: Global, text: &[u8], key: &[u8]) -> Result<LineRow, AllocError>
+    ensures { IfOk result (λ row. row ≡ row_among text.now key.now) }
+{
+    let beginning = row_beginning(alloc, key)?;
+    let row = first_value(alloc, beginning.as_bytes(), text)?;
+    found_or_missing(alloc, key, row)
+}
+
+/// The row of a line by a text. Where that has no rows, no line needs one.
+fn row_in(alloc: Global, text: &[u8], items: &[Item]) -> Result<LineRow, AllocError>
+    ensures { IfOk result (λ row. row ≡ row_in text.now items.now) }
+{
+    if first_value(alloc, b"machine", text)?.is_none() {
+        return Ok(LineRow::Unneeded);
+    }
+    let key = key_of(alloc, text, items)?;
+    row_among(alloc, text, key.as_bytes())
+}
+
+/// The row of a line by the text of a file, if that is whole.
+pub(crate) fn row_of(
+    alloc: Global,
+    text: Option<&[u8]>,
+    items: &[Item],
+) -> Result<LineRow, AllocError>
+    ensures { IfOk result (λ row. row ≡ row_of (option_copied text.entry) items.now) }
+{
+    match text {
+        Some(text) => row_in(alloc, text, items),
+        None => Ok(LineRow::Unneeded),
+    }
+}
+
+/// The items of a line with the words of its row before them, and the variables of its children.
+fn with_row(
+    alloc: Global,
+    row: &[u8],
+    items: &[Item],
+    children: &[Variable],
+) -> Result<MachineItems, AllocError>
+    ensures { IfOk result (λ made. made ≡ items_by (Found row.now) items.now children.now) }
+{
     let mut plain = Listing::new(alloc);
     push_all_plain(items, &mut plain)?;
-    let words = row_items(alloc, row.as_bytes())?;
-    let told = child_variables(alloc, items, row.as_bytes(), children)?;
+    let words = row_items(alloc, row)?;
+    let told = child_variables(alloc, items, row, children)?;
     let mut made = words.into_vec();
     made.append(&mut plain.into_vec())?;
     Ok(MachineItems::Made(Listing::from_vec(made), told))
 }
 
-/// The items of a line and the variables of its children by the row of a text for this key.
-fn by_key(
+/// The items of a line and the variables of its children by its row. Where no line needs one, they
+/// stay.
+pub(crate) fn items_by(
     alloc: Global,
-    text: &[u8],
-    key: &[u8],
-    items: &[Item],
-    children: &[Variable],
-) -> Result<MachineItems, AllocError>
-    ensures { IfOk result (λ made. made ≡ by_key text.now key.now items.now children.now) }
-{
-    let beginning = row_beginning(alloc, key)?;
-    let row = first_value(alloc, beginning.as_bytes(), text)?;
-    with_row(alloc, key, items, children, row)
-}
-
-/// The items of a line and the variables of its children by the rows of a text. Where it has none,
-/// they stay.
-fn items_by_rows(
-    alloc: Global,
-    text: &[u8],
+    row: LineRow,
     items: Listing<Item>,
     children: Listing<Variable>,
 ) -> Result<MachineItems, AllocError>
-    ensures { IfOk result (λ made. made ≡ items_by_rows text.now items children) }
+    ensures { IfOk result (λ made. made ≡ items_by row items children) }
 {
-    if first_value(alloc, b"machine", text)?.is_none() {
-        return Ok(MachineItems::Made(items, children));
-    }
-    let key = key_of(alloc, text, items.as_slice())?;
-    by_key(
-        alloc,
-        text,
-        key.as_bytes(),
-        items.as_slice(),
-        children.as_slice(),
-    )
-}
-
-/// The items of a line and the variables of its children by the rows of a file, if that is whole.
-pub(crate) fn machined_by(
-    alloc: Global,
-    text: Option<&[u8]>,
-    items: Listing<Item>,
-    children: Listing<Variable>,
-) -> Result<MachineItems, AllocError>
-    ensures { IfOk result (λ made. made ≡ machined_by (option_copied text.entry) items children) }
-{
-    match text {
-        Some(text) => items_by_rows(alloc, text, items, children),
-        None => Ok(MachineItems::Made(items, children)),
+    match row {
+        LineRow::Unneeded => Ok(MachineItems::Made(items, children)),
+        LineRow::Found(row) => with_row(
+            alloc,
+            row.as_bytes(),
+            items.as_slice(),
+            children.as_slice(),
+        ),
+        LineRow::Missing(key) => {
+            let options = options_of(alloc, key.as_bytes())?;
+            Ok(MachineItems::Lacks(options))
+        }
     }
 }
 
 /// The text, if it has rows for machines or names a suffix of programs. A line by any other text
 /// stays as it is.
 pub(crate) fn for_machines(text: Option<&[u8]>) -> Option<&[u8]>
-    ensures rows { (items : List Item) (children : List Variable)
-        → machined_by (option_copied result) items children
-        ≡ machined_by (option_copied text.entry) items children }
+    ensures rows { (items : List Item)
+        → row_of (option_copied result) items ≡ row_of (option_copied text.entry) items }
     ensures suffix { (items : List Item)
         → suffixed_by (option_copied result) items ≡ suffixed_by (option_copied text.entry) items }
 {

@@ -218,19 +218,21 @@ fn handed_on(alloc: Global, line: &GccLine<'_>, options: &[u8]) -> Result<Prepar
 /// # Errors
 /// The text of its refusal.
 #[tactic(auto, using(drv_system::proofs::AskedCalls::asked_further))]
-fn prepared_plan<S: System>(
+fn prepared_plan<S: System, H: Host<S>>(
     alloc: Global,
     line: &GccLine<'_>,
     call: Call,
     outside: &mut Outside<'_, S>,
+    host: &mut H,
 ) -> Result<Prepared, Stop>
     ensures asks { Asked S.events outside.old outside.new }
-    ensures plans { (F : Facts) → Extends outside.new.facts.now F
+    ensures plans { Noted (H.notes host.old) (H.notes host.new)
+        (λ events. (F : Facts) → Extends outside.new.facts.now F
         → MatchResult result
-        (λ prepared. IsPrepared F line.now call prepared)
-        (λ stop. IfTold stop (IsUnplanned F line.now call)) }
+        (λ prepared. IsPrepared F line.now call events prepared)
+        (λ stop. IfTold stop (IsUnplanned F line.now call events))) }
 {
-    match worker_of(alloc, line, call, outside)? {
+    match worker_of(alloc, line, call, outside, host)? {
         Worker::Driver(driven) => prepare_plan(alloc, line, driven, outside),
         Worker::Compiler(options) => {
             let prepared = handed_on(alloc, line, options.as_bytes())?;
@@ -264,7 +266,7 @@ fn compilation<S: System, H: Host<S>>(
         return Err(Stop::Told(text));
     }
     refuse_overwriting(alloc, name, &call, host)?;
-    prepared_plan(alloc, line, call, outside)
+    prepared_plan(alloc, line, call, outside, host)
 }
 
 /// What a call does whose line is a question to a compiler.

@@ -5,13 +5,15 @@ ghost use Rattle.std.specs.Prelude.{◌≡◌, []};
 use drv_cc::Variable;
 use drv_compile::{Host, HostEvent};
 use drv_system::{HostSystem, System};
-use drv_words::{Word, copy_word};
+use drv_words::{Word, copy_word, split_at_last};
 use std::alloc::AllocError;
+use std::env::current_exe;
 use std::fs::Metadata;
-use std::io::ErrorKind;
+use std::io::{Error, ErrorKind};
 use std::marker::Model;
 use std::os::unix::fs::MetadataExt;
-use std::{fs, str};
+use std::process::Command;
+use std::{fs, io, str};
 
 /// The bits of a mode by which a class of users may read, write and search a folder.
 const OWNER: u32 = 0o700;
@@ -73,6 +75,15 @@ impl Host<HostSystem> for Process {
         Ok(usable)
     }
 
+    fn row_of(&mut self, specs: &Word, options: &Word) -> Result<Word, AllocError> {
+        let of = specs.clone()?;
+        let asked = options.clone()?;
+        let row = row_said(&self.rt, specs, options)?;
+        let noted = row.clone()?;
+        self.notes.push(HostEvent::Worded(of, asked, noted))?;
+        Ok(row)
+    }
+
     fn set_for_children(
         &mut self,
         sys: &mut HostSystem,
@@ -99,6 +110,45 @@ fn path_of(rt: &HostRuntime, name: &Word) -> Result<Option<Word>, AllocError> {
         Ok(path) => Ok(Some(Word::from_bytes(rt.alloc(), path.as_str().as_bytes())?)),
         Err(e) if e.kind() == ErrorKind::OutOfMemory => Err(AllocError),
         Err(_) => Ok(None),
+    }
+}
+
+/// The program beside this one that asks a compiler for the words of a row.
+fn asker_path(rt: &HostRuntime) -> io::Result<Word> {
+    let program = current_exe(rt)?;
+    let folder = match split_at_last(b'/', program.as_str().as_bytes()) {
+        Some((folder, _)) => folder,
+        None => &[],
+    };
+    let mut path = Word::from_bytes(rt.alloc(), folder)?;
+    path.extend_from_slice(b"/gdrv-write-specs")?;
+    Ok(path)
+}
+
+/// A word as text.
+fn text(word: &Word) -> io::Result<&str> {
+    str::from_utf8(word.as_bytes()).map_err(|_| Error::from(ErrorKind::InvalidInput))
+}
+
+/// What that program prints for these options; nothing where it gives no row.
+fn ask_row(rt: &HostRuntime, specs: &Word, options: &Word) -> io::Result<Word> {
+    let mut made = Command::new(rt.alloc(), text(&asker_path(rt)?)?)?;
+    for word in ["--row", text(specs)?, text(options)?] {
+        made.arg(word)?;
+    }
+    let output = made.output(rt)?;
+    if output.status.success() {
+        return Ok(Word::from_vec(output.stdout));
+    }
+    Ok(Word::empty(rt.alloc()))
+}
+
+/// The same; nothing too where the program can't be started.
+fn row_said(rt: &HostRuntime, specs: &Word, options: &Word) -> Result<Word, AllocError> {
+    match ask_row(rt, specs, options) {
+        Ok(row) => Ok(row),
+        Err(e) if e.kind() == ErrorKind::OutOfMemory => Err(AllocError),
+        Err(_) => Ok(Word::empty(rt.alloc())),
     }
 }
 

@@ -1,14 +1,17 @@
-use Rattle.gdrv_write_specs.specs.declared.calling.Call.TheVariants.{Add, Help, Version, Write}
+use Rattle.gdrv_write_specs.specs.declared.calling.Call.TheVariants.{Help, Row, Version, Write}
 use Rattle.gdrv_write_specs.specs.declared.calling.Call.{Call}
 use Rattle.gdrv_write_specs.specs.declared.calling.CallFault.TheVariants.{Misused, NotSpecs}
 use Rattle.gdrv_write_specs.specs.declared.calling.CallFault.{CallFault}
+use Rattle.gdrv_write_specs.specs.declared.calling.Fate.TheVariants.{Added, Printed}
+use Rattle.gdrv_write_specs.specs.declared.calling.Fate.{Fate}
 use Rattle.gdrv_write_specs.specs.declared.calling.Manner.TheVariants.{Compared, Forced}
 use Rattle.gdrv_write_specs.specs.declared.calling.Manner.{Manner}
 use Rattle.std.specs.Cmp.Lexicographic.{pointwise}
 use Rattle.std.specs.List.{ends_with}
 use Rattle.std.specs.Prelude.{◌&&◌, Bool, Err, List, [], ◌∷◌, Ok, Result, codes, if◌then◌else◌, length, nat_eq, nat_lt, ℕ}
 
--- What a call of the program asks for: [--force] -o X.specs GCC, or --add X.specs OPTION.. (this project's profile).
+-- What a call of the program asks for: [--force] -o X.specs GCC, or --add X.specs OPTION.., or --row X.specs OPTION.. (this project's
+-- profile).
 
 -- a name before the ending, which a slash isn't the last byte of
 abbrev pub is_specs : List ℕ → Bool
@@ -24,14 +27,14 @@ order_of manner (option ∷ output ∷ []) = Err Misused
 order_of manner (option ∷ []) = Err Misused
 order_of manner [] = Err Misused
 
--- the options for a machine whose words are added, at least one
-abbrev pub added_to : List ℕ → List (List ℕ) → Result Call CallFault
-added_to path options = if is_specs path then Ok (Add path options) else Err (NotSpecs path)
+-- the options for a machine whose words are asked for, at least one
+abbrev pub row_of : Fate → List ℕ → List (List ℕ) → Result Call CallFault
+row_of fate path options = if is_specs path then Ok (Row fate path options) else Err (NotSpecs path)
 
-abbrev pub addition_of : List (List ℕ) → Result Call CallFault
-addition_of (path ∷ option ∷ options) = added_to path (option ∷ options)
-addition_of (path ∷ []) = Err Misused
-addition_of [] = Err Misused
+abbrev pub row_order_of : Fate → List (List ℕ) → Result Call CallFault
+row_order_of fate (path ∷ option ∷ options) = row_of fate path (option ∷ options)
+row_order_of fate (path ∷ []) = Err Misused
+row_order_of fate [] = Err Misused
 
 abbrev pub question_of : List ℕ → Result Call CallFault
 question_of word =
@@ -43,5 +46,6 @@ call_of [] = Err Misused
 call_of (word ∷ []) = question_of word
 call_of (word ∷ next ∷ words) =
     if pointwise nat_eq word (codes "--force") then order_of Forced (next ∷ words)
-    else if pointwise nat_eq word (codes "--add") then addition_of (next ∷ words)
+    else if pointwise nat_eq word (codes "--add") then row_order_of Added (next ∷ words)
+    else if pointwise nat_eq word (codes "--row") then row_order_of Printed (next ∷ words)
     else order_of Compared (word ∷ next ∷ words)

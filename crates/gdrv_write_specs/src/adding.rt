@@ -1,4 +1,4 @@
-//! The words for options of a machine are added beside a spec file.
+//! The words for options of a machine are added beside a spec file, or printed.
 
 use crate::alike::FolderName;
 use crate::asking::{question_about, text};
@@ -10,10 +10,11 @@ use crate::natives::with_natives;
 use crate::placing::{driver_at, stem_of};
 use crate::row_texts::Ways;
 use crate::rows::{Row, naming_in, push_names, push_row, row_of};
-use crate::work_folder::{WorkFolder, join, write};
+use crate::work_folder::{WorkFolder, absolute, join, write};
 use drv_gcc::values;
 use drv_words::{Listing, Word};
 use std::alloc::Global;
+use std::env::var;
 use std::fs;
 
 /// The endings of the files beside the one that names the gcc.
@@ -108,8 +109,8 @@ fn put_row(
     work.put(rt, b".options", &sort_lines(alloc, &names)?)
 }
 
-/// Adds the row of these options in a folder of work, tries it, and puts it in place.
-fn add_in(pair: Pair<'_>, stem: &Word, lines: &[Word], key: &Word) -> Result<(), Fault> {
+/// The row of these options, which a folder of work has then. Its plans are compared with gcc's.
+fn tried_row(pair: Pair<'_>, stem: &Word, lines: &[Word], key: &Word) -> Result<Row, Fault> {
     let Pair { rt, work, .. } = pair;
     copy_files(rt, work, stem)?;
     let whole = text_of(rt.alloc(), lines)?;
@@ -120,6 +121,13 @@ fn add_in(pair: Pair<'_>, stem: &Word, lines: &[Word], key: &Word) -> Result<(),
     if pair.is_other(key)? {
         return Err(Fault::NoRow(key.clone()?));
     }
+    Ok(row)
+}
+
+/// Puts the row of these options in place.
+fn add_in(pair: Pair<'_>, stem: &Word, lines: &[Word], key: &Word) -> Result<(), Fault> {
+    let Pair { rt, work, .. } = pair;
+    let _row = tried_row(pair, stem, lines, key)?;
     work.place_file(rt, stem, b".options")?;
     work.place_file(rt, stem, b".gcc")
 }
@@ -135,15 +143,44 @@ fn gcc_with_rows(alloc: Global, path: &Word, lines: &[Word]) -> Result<Word, Fau
     }
 }
 
-/// Asks the gcc of a spec file for the words that it makes of these options, and adds them beside
-/// that file. If its plans by them differ from gcc's, nothing is written.
-pub fn add_words(rt: &HostRuntime, output: &Word, options: &[Word]) -> Result<(), Fault> {
-    let stem = stem_of(rt, output)?;
+/// What is asked for a row.
+#[derive(Drop)]
+struct Question {
+    /// The spec file without its ending.
+    stem: Word,
+    /// The lines of the file beside it that names the gcc.
+    lines: Listing<Word>,
+    /// That gcc.
+    gcc: Word,
+    /// The options.
+    key: Word,
+}
+
+/// The question for the row of these options by the gcc of a spec file.
+fn question_of(rt: &HostRuntime, specs: &Word, options: &[Word]) -> Result<Question, Fault> {
+    let stem = stem_of(rt, specs)?;
     let path = join(rt.alloc(), &stem, b".gcc")?;
     let lines = lines_of(rt, &path)?;
     let gcc = gcc_with_rows(rt.alloc(), &path, lines.as_slice())?;
     let whole = text_of(rt.alloc(), lines.as_slice())?;
     let key = key_by(rt.alloc(), whole.as_bytes(), options)?;
+    Ok(Question {
+        stem,
+        lines,
+        gcc,
+        key,
+    })
+}
+
+/// Asks the gcc of a spec file for the words that it makes of these options, and adds them beside
+/// that file. If its plans by them differ from gcc's, nothing is written.
+pub fn add_words(rt: &HostRuntime, specs: &Word, options: &[Word]) -> Result<(), Fault> {
+    let Question {
+        stem,
+        lines,
+        gcc,
+        key,
+    } = question_of(rt, specs, options)?;
     let work = WorkFolder::new(rt, &stem, &driver_at(rt)?)?;
     let pair = Pair {
         rt,
@@ -153,4 +190,35 @@ pub fn add_words(rt: &HostRuntime, output: &Word, options: &[Word]) -> Result<()
     let done = add_in(pair, &stem, lines.as_slice(), &key);
     work.remove(rt);
     done
+}
+
+/// A place in the folder of temporary files.
+fn temporary_place(rt: &HostRuntime) -> Result<Word, Fault> {
+    let folder = match var(rt, "TMPDIR") {
+        Ok(folder) if !folder.is_empty() => Word::from_vec(folder.into_bytes()),
+        _ => Word::from_bytes(rt.alloc(), b"/tmp")?,
+    };
+    absolute(rt, &join(rt.alloc(), &folder, b"/row")?)
+}
+
+/// Asks the gcc of a spec file for the words that it makes of these options, and gives them as a
+/// row. No row has plans that differ from gcc's, and nothing is written beside the spec file.
+pub fn row_text(rt: &HostRuntime, specs: &Word, options: &[Word]) -> Result<Word, Fault> {
+    let Question {
+        stem,
+        lines,
+        gcc,
+        key,
+    } = question_of(rt, specs, options)?;
+    let work = WorkFolder::new(rt, &temporary_place(rt)?, &driver_at(rt)?)?;
+    let pair = Pair {
+        rt,
+        work: &work,
+        gcc: &gcc,
+    };
+    let tried = tried_row(pair, &stem, lines.as_slice(), &key);
+    work.remove(rt);
+    let mut text = Word::empty(rt.alloc());
+    push_row(&mut text, &tried?)?;
+    Ok(text)
 }

@@ -24,12 +24,14 @@ pub fn text(word: &[u8]) -> io::Result<&str> {
     str::from_utf8(word).map_err(|_| Error::from(ErrorKind::InvalidInput))
 }
 
-/// Gives a command its words, and has it run in a folder, with messages in English.
+/// Gives a command its words, and has it run in a folder, with messages in English. The spec file
+/// that the caller names for drivers is not that of a driver that is tried.
 fn prepare(made: &mut Command, at: &Word, words: &[Word]) -> io::Result<()> {
     for word in words {
         made.arg(text(word.as_bytes())?)?;
     }
     made.env("LC_ALL", "C")?;
+    made.env("GDRV_CC_SPECS", "")?;
     made.current_dir(text(at.as_bytes())?)?;
     Ok(())
 }

@@ -1,8 +1,8 @@
 //! What a call of the program asks for.
 
 ghost use Rattle.drv_words.specs.Gives.{Gives};
-ghost use Rattle.gdrv_write_specs.specs.Calls.{added_to, addition_of, call_of, is_specs};
-ghost use Rattle.gdrv_write_specs.specs.Calls.{order_of, question_of, written_to};
+ghost use Rattle.gdrv_write_specs.specs.Calls.{call_of, is_specs, order_of, question_of};
+ghost use Rattle.gdrv_write_specs.specs.Calls.{row_of, row_order_of, written_to};
 ghost use Rattle.gdrv_write_specs.specs.declared.calling.CallFault.TheVariants.{Memory};
 ghost use Rattle.std.specs.Prelude.{◌≡◌, IfOk};
 
@@ -18,6 +18,15 @@ pub enum Manner {
     Forced,
 }
 
+/// What becomes of a row.
+#[derive(Clone, Copy, Debug)]
+pub enum Fate {
+    /// It is added to those beside the spec file.
+    Added,
+    /// It is printed, and nothing is written.
+    Printed,
+}
+
 /// What a call asks for.
 #[derive(Debug, Drop)]
 pub enum Call {
@@ -27,8 +36,8 @@ pub enum Call {
     Version,
     /// The spec file of this path for this gcc.
     Write(Manner, Word, Word),
-    /// The words of these options for a machine, beside the spec file of this path.
-    Add(Word, Listing<Word>),
+    /// The words of these options for a machine, by the gcc of the spec file of this path.
+    Row(Fate, Word, Listing<Word>),
 }
 
 /// Why a call asks for nothing.
@@ -83,24 +92,24 @@ fn order_of(manner: Manner, words: &[Word]) -> Result<Call, CallFault>
     }
 }
 
-/// The words of options that are added beside the spec file of this path.
-fn added_to(alloc: Global, path: &Word, options: &[Word]) -> Result<Call, CallFault>
-    ensures { Gives Memory (λ call. call) result (added_to path.now options.now) }
+/// The row of these options for the spec file of this path.
+fn row_of(alloc: Global, fate: Fate, path: &Word, options: &[Word]) -> Result<Call, CallFault>
+    ensures { Gives Memory (λ call. call) result (row_of fate path.now options.now) }
 {
     let path = path.clone()?;
     if is_specs(path.as_bytes()) {
         let options = copy_words(alloc, options)?;
-        return Ok(Call::Add(path, options));
+        return Ok(Call::Row(fate, path, options));
     }
     Err(CallFault::NotSpecs(path))
 }
 
-/// The words that are added.
-fn addition_of(alloc: Global, words: &[Word]) -> Result<Call, CallFault>
-    ensures { Gives Memory (λ call. call) result (addition_of words.now) }
+/// The row that words ask for.
+fn row_order_of(alloc: Global, fate: Fate, words: &[Word]) -> Result<Call, CallFault>
+    ensures { Gives Memory (λ call. call) result (row_order_of fate words.now) }
 {
     match words {
-        [path, options @ ..] if !options.is_empty() => added_to(alloc, path, options),
+        [path, options @ ..] if !options.is_empty() => row_of(alloc, fate, path, options),
         _ => Err(CallFault::Misused),
     }
 }
@@ -121,8 +130,8 @@ fn question_of(word: &[u8]) -> Result<Call, CallFault>
 /// What a call with these words asks for.
 ///
 /// # Errors
-/// Lack of memory; the words are others than `[--force] -o X.specs GCC`, `--add X.specs OPTION..` or
-/// a question; the name of the spec file has another ending.
+/// Lack of memory; the words are others than `[--force] -o X.specs GCC`, `--add X.specs OPTION..`,
+/// `--row X.specs OPTION..` or a question; the name of the spec file has another ending.
 pub fn call_of(alloc: Global, words: &[Word]) -> Result<Call, CallFault>
     ensures { Gives Memory (λ call. call) result (call_of words.now) }
 {
@@ -132,7 +141,12 @@ pub fn call_of(alloc: Global, words: &[Word]) -> Result<Call, CallFault>
         [word, rest @ ..] if word.as_bytes() == b"--force".as_slice() => {
             order_of(Manner::Forced, rest)
         }
-        [word, rest @ ..] if word.as_bytes() == b"--add".as_slice() => addition_of(alloc, rest),
+        [word, rest @ ..] if word.as_bytes() == b"--add".as_slice() => {
+            row_order_of(alloc, Fate::Added, rest)
+        }
+        [word, rest @ ..] if word.as_bytes() == b"--row".as_slice() => {
+            row_order_of(alloc, Fate::Printed, rest)
+        }
         words => order_of(Manner::Compared, words),
     }
 }

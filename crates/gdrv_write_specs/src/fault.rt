@@ -123,7 +123,7 @@ pub fn misuse_text(alloc: Global, fault: &CallFault) -> Result<Word, AllocError>
         CallFault::Misused => {
             line(
                 alloc,
-                b"expected [--force] -o X.specs GCC, --add X.specs OPTION.., --help or --version",
+                b"expected [--force] -o X.specs GCC, --add X.specs OPTION.., --row X.specs OPTION.., --help or --version",
                 b"",
                 b"",
             )

@@ -3,6 +3,7 @@
 pub const HELP: &[u8] = b"\
 Usage: gdrv-write-specs [--force] -o X.specs GCC
        gdrv-write-specs --add X.specs OPTION..
+       gdrv-write-specs --row X.specs OPTION..
 
 Writes a spec file, by which gdrv-cc does the work of GCC, which is the name or
 the path of a gcc. It asks this gcc for its spec texts, its folders, programs
@@ -11,5 +12,5 @@ shows the lines. --force writes the file all the same.
 
 Beside X.specs it writes X.gcc and X.options, which gdrv-cc reads too. Where
 GCC makes other words of the options for its machine, X.gcc has them: --add asks
-for those of these OPTIONs of one line.
+for those of these OPTIONs of one line, and --row prints them.
 ";

@@ -39,8 +39,8 @@ mod version;
 mod wording;
 mod work_folder;
 
-use adding::add_words;
-use calling::{Call, CallFault, call_of};
+use adding::{add_words, row_text};
+use calling::{Call, CallFault, Fate, call_of};
 use drv_system::{arguments, complain};
 use drv_words::Word;
 use fault::{Fault, misuse_text};
@@ -94,13 +94,26 @@ fn end_call(rt: &HostRuntime, done: Result<(), Fault>) -> ExitCode {
     }
 }
 
+/// Prints a row, or says why there is none.
+fn print_row(rt: &HostRuntime, row: Result<Word, Fault>) -> ExitCode {
+    match row {
+        Ok(text) => print(rt, text.as_bytes()),
+        Err(fault) => refuse(rt, fault.text(rt.alloc())),
+    }
+}
+
 /// Does what a call asks for.
 fn act(rt: &HostRuntime, call: Result<Call, CallFault>) -> ExitCode {
     match call {
         Ok(Call::Help) => print(rt, HELP),
         Ok(Call::Version) => print_version(rt),
         Ok(Call::Write(manner, output, gcc)) => end_call(rt, write_file(rt, manner, &output, &gcc)),
-        Ok(Call::Add(output, options)) => end_call(rt, add_words(rt, &output, options.as_slice())),
+        Ok(Call::Row(Fate::Added, path, options)) => {
+            end_call(rt, add_words(rt, &path, options.as_slice()))
+        }
+        Ok(Call::Row(Fate::Printed, path, options)) => {
+            print_row(rt, row_text(rt, &path, options.as_slice()))
+        }
         Err(fault) => refuse(rt, misuse_text(rt.alloc(), &fault)),
     }
 }

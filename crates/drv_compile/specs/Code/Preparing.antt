@@ -29,18 +29,18 @@ IsOverwriting name call events text =
     (output : List ℕ) × (call.output ≡ Some output) × Overwrites call.inputs call.output events true × (text ≡ overwritten_text name output)
 
 -- what is done for a line, by who carries it out
-abbrev pub IsPrepared : Facts → GccLine → Call → Prepared → Type 0
-IsPrepared F line call prepared =
-    ((driven : Driven) × IsWorker F line.chain call line.given (Driver driven)
+abbrev pub IsPrepared : Facts → GccLine → Call → List HostEvent → Prepared → Type 0
+IsPrepared F line call events prepared =
+    ((driven : Driven) × IsWorker F line.chain call line.given events (Driver driven)
     × IsPlanned F line.request.now.calling.now line.chain driven line.request.now.seed prepared)
-    ⊎ ((options : List ℕ) × IsWorker F line.chain call line.given (Compiler options)
+    ⊎ ((options : List ℕ) × IsWorker F line.chain call line.given events (Compiler options)
     × (prepared ≡ handed_on line.request.now.calling.now line.chain options line.request.now.args.now line.given))
 
 -- why nothing is done for a line: no driver takes it, or the driver refuses its items
-abbrev pub IsUnplanned : Facts → GccLine → Call → List ℕ → Type 0
-IsUnplanned F line call text =
-    Undriven F line.request.now.calling.now line.chain call line.given text
-    ⊎ ((driven : Driven) × IsWorker F line.chain call line.given (Driver driven)
+abbrev pub IsUnplanned : Facts → GccLine → Call → List HostEvent → List ℕ → Type 0
+IsUnplanned F line call events text =
+    Undriven F line.request.now.calling.now line.chain call line.given events text
+    ⊎ ((driven : Driven) × IsWorker F line.chain call line.given events (Driver driven)
     × IsFailure F line.request.now.calling.now.name driven.line line.request.now.seed text)
 
 -- a line that is carried out, as `Performs` says

@@ -1,7 +1,8 @@
 //! Whole calls of `gdrv-cc`. Beside the script, lines `leads NAME PATH` say which path the file has
 //! that a name leads to; any other name leads to none. Lines `usable NAME` say in which folders files
-//! can be made, beside `/tmp`. The program lies at `/bin/` and its name. Printed is also what the host
-//! was asked, and which variable was set after how many events.
+//! can be made, beside `/tmp`. Lines `makes OPTIONS ROW` say which row the compiler of the spec file
+//! gives for options for its machine. The program lies at `/bin/` and its name. Printed is also what
+//! the host was asked, and which variable was set after how many events.
 
 ghost use Rattle.std.specs.Prelude.{◌≡◌, [], IfOk, IfSome};
 
@@ -23,6 +24,8 @@ use std::marker::Model;
 struct ScriptHost {
     paths: Listing<(Word, Word)>,
     folders: Listing<Word>,
+    rows: Listing<(Word, Word)>,
+    no_row: Word,
     notes: Vec<HostEvent>,
 }
 
@@ -41,6 +44,8 @@ impl ScriptHost {
         ScriptHost {
             paths: Listing::new(alloc),
             folders: Listing::new(alloc),
+            rows: Listing::new(alloc),
+            no_row: Word::empty(alloc),
             notes: Vec::new(alloc),
         }
     }
@@ -55,6 +60,11 @@ impl ScriptHost {
         Ok(self.folders.push(name.clone()?)?)
     }
 
+    /// Adds the row that the compiler gives for options.
+    fn add_row(&mut self, options: &Word, row: &Word) -> Result<(), AllocError> {
+        Ok(self.rows.push((options.clone()?, row.clone()?))?)
+    }
+
     /// Adds what a line says. A line of the script adds nothing.
     fn add(&mut self, line: &[Word]) -> Result<(), AllocError> {
         match line {
@@ -62,6 +72,9 @@ impl ScriptHost {
                 self.add_path(name, path)
             }
             [what, name] if what.as_bytes() == b"usable".as_slice() => self.add_folder(name),
+            [what, options, row] if what.as_bytes() == b"makes".as_slice() => {
+                self.add_row(options, row)
+            }
             _ => Ok(()),
         }
     }
@@ -120,6 +133,19 @@ impl Host<ScriptSystem> for ScriptHost {
         Ok(usable)
     }
 
+    /// The row that the script lists for the options; the question is noted.
+    fn row_of(&mut self, specs: &Word, options: &Word) -> Result<Word, AllocError> {
+        let of = specs.clone()?;
+        let asked = options.clone()?;
+        let row = match path_of(self.rows.as_slice(), options)? {
+            Some(row) => row,
+            None => self.no_row.clone()?,
+        };
+        let noted = row.clone()?;
+        self.notes.push(HostEvent::Worded(of, asked, noted))?;
+        Ok(row)
+    }
+
     /// The system itself keeps no variables of children.
     fn set_for_children(
         &mut self,
@@ -162,6 +188,14 @@ fn add_note(note: &HostEvent, out: &mut Transcript) -> Result<(), AllocError> {
             } else {
                 b": not usable"
             })?;
+        }
+        HostEvent::Worded(specs, options, row) => {
+            out.add(b"asked for ")?;
+            out.add_quoted(options)?;
+            out.add(b" by ")?;
+            out.add_quoted(specs)?;
+            out.add(b": ")?;
+            out.add_quoted(row)?;
         }
         HostEvent::Set(at, variable) => {
             out.add(b"set after ")?;

@@ -1,18 +1,16 @@
-use Rattle.drv_compile.proofs.DriverCalls.{machined_compiler, machined_driver}
+use Rattle.drv_compile.proofs.DriverCalls.{machined_as}
 use Rattle.drv_compile.proofs.driving.machined_call.Goals as goal
-use Rattle.std.proofs.Common.{refl}
+use Rattle.drv_compile.specs.Machines.{row_of}
+use Rattle.drv_compile.specs.Suffixes.{suffixed_by}
+use Rattle.std.proofs.Common.{◌∙◌, ap}
 use Rattle.std.specs.Option.{option_copied}
 
--- machined_call (src/driving.rt). Who carries out a line by itself, with this file that has its texts, and by these rows for its machines.
+-- machined_call (src/driving.rt). Who carries out a line by itself, by these files.
 
-pub returns-in-Lacks : goal.returns-in-Lacks
-returns-in-Lacks c =
-    machined_compiler c.args.path (option_copied c.args.rows) (option_copied c.for_machines-text.result) c.args.call c.args.given.now
-    _ c.in-Lacks.options (c.for_machines-text.ensures.rows c.args.call.items c.args.call.children) c.in_ok-options.ensures c.in-Lacks.is
-
-pub returns-in_ok-all-in-Made : goal.returns-in_ok-all-in-Made
-returns-in_ok-all-in-Made c =
-    machined_driver c.args.path (option_copied c.args.rows) (option_copied c.for_machines-text.result) c.args.call c.args.given.now
-    _ c.in-Made.items _ _ c.in-Made.children _ (c.for_machines-text.ensures.rows c.args.call.items c.args.call.children)
-    c.in_ok-options.ensures c.in-Made.is
-    (c.for_machines-text.ensures.suffix c.in-Made.items) c.in_ok-suffixed-in-Made.ensures c.in_ok-all-in-Made.ensures refl
+pub returns : goal.returns
+returns g c =
+    machined_as c.args.line.now.chain.specs c.args.files c.args.call c.args.line.now.given (option_copied c.for_machines-lines.result)
+    _ c.in_ok-row.row c.in_ok-made.made _ _ c.made_call.result
+    (λ items. c.for_machines-lines.ensures.rows items ∙ ap (λ rows. row_of rows items) c.slice_of.ensures)
+    (λ items. c.for_machines-lines.ensures.suffix items ∙ ap (λ rows. suffixed_by rows items) c.slice_of.ensures)
+    c.as_slice.ensures c.in_ok-row.ensures c.in_ok-made.ensures c.made_call.ensures

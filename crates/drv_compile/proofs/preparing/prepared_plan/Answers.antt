@@ -1,3 +1,4 @@
+use Rattle.drv_compile.proofs.Noting.{memory_noted_over, noted_as}
 use Rattle.drv_compile.proofs.Prepared.{prepared_by_compiler, prepared_by_driver, undriven_plan}
 use Rattle.drv_compile.proofs.preparing.prepared_plan.Goals as goal
 use Rattle.drv_system.proofs.AskedCalls.{asked_further, extends_before}
@@ -5,21 +6,26 @@ use Rattle.drv_system.proofs.AskedCalls.{asked_further, extends_before}
 -- prepared_plan (src/preparing.rt). What a call does for a line that nothing refuses.
 
 pub returns-in_err-driven-clause-plans : goal.returns-in_err-driven-clause-plans
-returns-in_err-driven-clause-plans g c F e =
-    undriven_plan F c.args.line.now c.args.call _ c.from_residual.result
-    c.from_residual.ensures.1 (c.in_err-driven.ensures.drives F e)
+returns-in_err-driven-clause-plans g c =
+    noted_as _ _ _ _ (λ events tells F e. undriven_plan F c.args.line.now c.args.call events _ c.from_residual.result
+    c.from_residual.ensures.1 (tells F e)) c.in_err-driven.ensures.drives
 
 pub returns-in-Driver-clause-asks : goal.returns-in-Driver-clause-asks
 returns-in-Driver-clause-asks g c = asked_further c.worker_of.ensures.asks c.prepare_plan.ensures.asks
 
 pub returns-in-Driver-clause-plans : goal.returns-in-Driver-clause-plans
-returns-in-Driver-clause-plans g c F e =
-    prepared_by_driver F c.args.line.now c.args.call _ c.in-Driver.driven
-    c.prepare_plan.result (c.in_ok-driven.ensures.drives F (extends_before c.prepare_plan.ensures.asks e)) c.in-Driver.is
-    (c.prepare_plan.ensures.plans F e)
+returns-in-Driver-clause-plans g c =
+    noted_as _ _ _ _ (λ events works F e. prepared_by_driver F c.args.line.now c.args.call events _ c.in-Driver.driven
+    c.prepare_plan.result (works F (extends_before c.prepare_plan.ensures.asks e)) c.in-Driver.is
+    (c.prepare_plan.ensures.plans F e)) c.in_ok-driven.ensures.drives
+
+pub returns-in_err-prepared-in-Compiler-clause-plans : goal.returns-in_err-prepared-in-Compiler-clause-plans
+returns-in_err-prepared-in-Compiler-clause-plans g c =
+    memory_noted_over _ _ _ c.from_residual-in_err-prepared-in-Compiler.result _ _ _ c.in_ok-driven.ensures.drives
+    c.from_residual-in_err-prepared-in-Compiler.ensures.1
 
 pub returns-in_ok-prepared-in-Compiler-clause-plans : goal.returns-in_ok-prepared-in-Compiler-clause-plans
-returns-in_ok-prepared-in-Compiler-clause-plans g c F e =
-    prepared_by_compiler F c.args.line.now c.args.call _
-    c.in-Compiler.options _ c.in_ok-prepared-in-Compiler.prepared (c.in_ok-driven.ensures.drives F e) c.in-Compiler.is c.as_bytes.ensures
-    c.in_ok-prepared-in-Compiler.ensures.hands
+returns-in_ok-prepared-in-Compiler-clause-plans g c =
+    noted_as _ _ _ _ (λ events works F e. prepared_by_compiler F c.args.line.now c.args.call events _
+    c.in-Compiler.options _ c.in_ok-prepared-in-Compiler.prepared (works F e) c.in-Compiler.is c.as_bytes.ensures
+    c.in_ok-prepared-in-Compiler.ensures.hands) c.in_ok-driven.ensures.drives

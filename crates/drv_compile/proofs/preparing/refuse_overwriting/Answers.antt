@@ -1,4 +1,5 @@
-use Rattle.drv_compile.proofs.Prepared.{memory_noted, no_overwriting, not_overwriting, overwriting_told}
+use Rattle.drv_compile.proofs.Noting.{memory_noted}
+use Rattle.drv_compile.proofs.Prepared.{no_overwriting, not_overwriting, overwriting_told}
 use Rattle.drv_compile.proofs.preparing.refuse_overwriting.Goals as goal
 use Rattle.std.proofs.Common.{rules}
 

@@ -1,0 +1,12 @@
+use Rattle.drv_compile.proofs.DriverCalls.{made_driver}
+use Rattle.drv_compile.proofs.driving.made_call.Goals as goal
+use Rattle.std.proofs.Common.{refl}
+use Rattle.std.specs.Option.{option_copied}
+
+-- made_call (src/driving.rt). Who carries out a line with these items, with this file that has its texts, and with the suffix of programs
+-- that the rows name.
+
+pub returns-in_ok-all-in-Made : goal.returns-in_ok-all-in-Made
+returns-in_ok-all-in-Made c =
+    made_driver c.args.path (option_copied c.args.rows) c.args.given.now c.args.made c.in-Made.items _ _ c.in-Made.children _
+    c.in-Made.is c.in_ok-suffixed-in-Made.ensures c.in_ok-all-in-Made.ensures refl
