@@ -1,15 +1,18 @@
-use Rattle.drv_args.specs.Fronts.{by_row, start_of}
+use Rattle.drv_args.specs.Fronts.{Alone, by_row, item, start_of}
 use Rattle.drv_args.specs.Code.Lookup.{may_begin, may_fit}
-use Rattle.drv_args.specs.Options.{OptionRow, first_row, form_fits, option_table, row_fits}
+use Rattle.drv_args.specs.Options.{OptionRow, first_row, form_fits, option_table, row, row_fits}
+use Rattle.drv_args.specs.declared.option_table.Effect.TheVariants as effect
+use Rattle.drv_args.specs.declared.option_table.Effect.{Effect}
 use Rattle.drv_args.specs.declared.option_table.Form.TheVariants.{Either, Exact, Joined, Separate}
 use Rattle.drv_args.specs.declared.option_table.Form.{Form}
+use Rattle.drv_args.specs.declared.option_table.Tool.TheVariants as tool
 use Rattle.drv_words.specs.Bytes.{hyphen}
 use Rattle.std.proofs.Common.{◌≡◌, ◌==◌, ◌&&◌, ◌||◌, ◌≤◌, Bool, List, [], ◌∷◌, Option, ap, arith, cond, false, find, get_or, length, refl}
-use Rattle.std.proofs.Common.{subst, sym, take, true, ◌∙◌, ℕ}
+use Rattle.std.proofs.Common.{None, subst, sym, take, true, ◌∙◌, ℕ}
 use Rattle.std.proofs.lemmas.Bool.{ne_eqb}
 use Rattle.std.specs.Cmp.Lexicographic.{pointwise}
 use Rattle.std.specs.List.{filter, list_any}
-use Rattle.std.specs.Prelude.{nat_eq}
+use Rattle.std.specs.Prelude.{codes, nat_eq}
 
 -- For the look-up of options: the first row that fits a word is among the rows for its second byte.
 -- Names: `option` is the option of a row of the table. `letter` is the byte after the hyphen. `rows` is rows of the table. `option_table`
@@ -132,3 +135,51 @@ no_rows letter n35 n45 n65 n66 n68 n69 n73 n76 n77 n83 n84 n85 n87 n88 n97 n99 n
       not_at 120 letter n120,
       not_at 122 letter n122,
     ) refl)
+
+-- two tests of which the second fails
+second_false : (a b : Bool) → b ≡ false → (a && (b && true)) ≡ false
+second_false true b e = rw e refl
+second_false false b e = refl
+
+-- an option that begins with -W and ends with a comma does not fit a word that has another byte there
+comma_differs : (b c fourth : ℕ) (rest : List ℕ) (e : Effect) → (fourth ≡ 44 → ⊥)
+    → row_fits (45 ∷ 87 ∷ c ∷ fourth ∷ rest) (row (45 ∷ 87 ∷ b ∷ 44 ∷ []) Joined e) ≡ false
+comma_differs b c fourth rest e differs = second_false (b == c) (44 == fourth) (not_at 44 fourth differs)
+
+-- none of three rows passes
+none_of_three : (p : OptionRow → Bool) (r s t : OptionRow) → p r ≡ false → p s ≡ false → p t ≡ false → find p (r ∷ s ∷ t ∷ []) ≡ None
+none_of_three p r s t e f g = rw (e, f, g) refl
+
+-- so no row fits a word that begins with -W and has no comma as its fourth byte
+unlisted_word : (c fourth : ℕ) (rest : List ℕ) → (fourth ≡ 44 → ⊥) → first_row (45 ∷ 87 ∷ c ∷ fourth ∷ rest) ≡ None
+unfolding option_table
+unlisted_word c fourth rest differs =
+    sym (first_among 87 (c ∷ fourth ∷ rest))
+    ∙ none_of_three (row_fits (45 ∷ 87 ∷ c ∷ fourth ∷ rest)) (row (codes "-Wl,") Joined (effect.Pieces tool.Linker))
+    (row (codes "-Wa,") Joined (effect.Pieces tool.Assembler)) (row (codes "-Wp,") Joined (effect.Pieces tool.Preprocessor))
+    (comma_differs 108 c fourth rest (effect.Pieces tool.Linker) differs)
+    (comma_differs 97 c fourth rest (effect.Pieces tool.Assembler) differs)
+    (comma_differs 112 c fourth rest (effect.Pieces tool.Preprocessor) differs)
+
+-- the same of a word whose bytes are read one by one
+pub unlisted : (word : List ℕ) → 4 ≤ length word → get_or word 0 0 ≡ 45 → get_or word 1 0 ≡ 87 → (get_or word 3 0 ≡ 44 → ⊥)
+    → first_row word ≡ None
+unlisted [] long first second differs = absurd (omega arith)
+unlisted (a ∷ []) long first second differs = absurd (omega arith)
+unlisted (a ∷ b ∷ []) long first second differs = absurd (omega arith)
+unlisted (a ∷ b ∷ c ∷ []) long first second differs = absurd (omega arith)
+unlisted (a ∷ b ∷ c ∷ fourth ∷ rest) long first second differs = rw (first, second) (unlisted_word c fourth rest differs)
+
+-- a word that no row fits, after its hyphen
+unlisted_at_dash : (letter : ℕ) (rest : List ℕ) → first_row (hyphen ∷ letter ∷ rest) ≡ None
+    → Alone (item effect.Switch (hyphen ∷ letter ∷ rest) []) ≡ start_of (hyphen ∷ letter ∷ rest)
+unlisted_at_dash letter rest none = ap (λ found. by_row found (hyphen ∷ letter ∷ rest)) (sym none)
+
+-- a word that no row fits is a switch
+pub unlisted_start : (word : List ℕ) → 2 ≤ length word → get_or word 0 0 ≡ hyphen → first_row word ≡ None
+    → Alone (item effect.Switch word []) ≡ start_of word
+unlisted_start [] long first none = absurd (omega arith)
+unlisted_start (a ∷ []) long first none = absurd (omega arith)
+unlisted_start (a ∷ b ∷ rest) long first none =
+    let P : ℕ → Type 0 = λ d. first_row (d ∷ b ∷ rest) ≡ None → Alone (item effect.Switch (d ∷ b ∷ rest) []) ≡ start_of (d ∷ b ∷ rest) in
+    subst P (sym first) (unlisted_at_dash b rest) none

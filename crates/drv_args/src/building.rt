@@ -289,6 +289,13 @@ impl LineBuilder {
         self.add_input(Input::Library(join(alloc, option, argument)?))
     }
 
+    /// Adds a switch that is a word of its own.
+    pub(crate) fn note_switch(&mut self, alloc: Global, option: &[u8]) -> Result<(), AllocError>
+        ensures { OnOk result (self.new ≡ noted self.old (item given.Switch option.now [])) }
+    {
+        self.add_name(alloc, option)
+    }
+
     /// Adds an item whose option and argument are one word. The word of a library is copied whole.
     pub(crate) fn note_whole(
         &mut self,

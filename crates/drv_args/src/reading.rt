@@ -6,12 +6,12 @@ ghost use Rattle.drv_args.specs.Code.Building.{is_whole, line_with, start_shown}
 ghost use Rattle.drv_args.specs.Fronts.{by_effect, is_bad, items_of, start_of};
 ghost use Rattle.drv_args.specs.Lines.{line_of_items, line_read};
 ghost use Rattle.drv_args.specs.Code.Lookup.{shown};
-ghost use Rattle.drv_args.specs.Options.{form_fits, row_fits};
+ghost use Rattle.drv_args.specs.Options.{first_row, form_fits, row_fits};
 ghost use Rattle.drv_args.specs.declared.fault.ArgsFault.TheVariants as fault;
 ghost use Rattle.drv_words.specs.Gives.{Gives};
 ghost use Rattle.std.specs.List.{starts_with};
 ghost use Rattle.std.specs.Option.{option_map};
-ghost use Rattle.std.specs.Prelude.{◌≡◌, ◌≤◌, IfOk, IfSome, drop, find, length, map};
+ghost use Rattle.std.specs.Prelude.{◌≡◌, ◌≤◌, IfOk, IfSome, IsTrue, None, drop, find, length, map};
 ghost use Rattle.std.specs.Prelude.{nat_eq, true};
 
 use crate::building::LineBuilder;
@@ -86,6 +86,8 @@ enum Start<'a> {
         option: &'a [u8],
         argument: &'a [u8],
     },
+    /// It is a switch, since no row fits it.
+    Switch(&'a [u8]),
     /// It needs the next word as its argument.
     Wants {
         effect: Effect,
@@ -144,7 +146,23 @@ fn start_by_row<'a>(row: Row, word: &'a [u8]) -> Start<'a>
     }
 }
 
+/// Whether no row fits a word that begins with `-W`, which its fourth byte tells: each option that
+/// begins so ends with a comma there. Most options of a line are such words.
+#[tactic(auto, using(crate::proofs::Lookups::unlisted))]
+fn is_unlisted(word: &[u8]) -> bool
+    ensures { IsTrue result → first_row word.now ≡ None }
+{
+    let [b'-', b'W', _, fourth, ..] = word else {
+        return false;
+    };
+    if *fourth == b',' {
+        return false;
+    }
+    true
+}
+
 /// How a word begins a front.
+#[tactic(auto, using(crate::proofs::Lookups::unlisted_start))]
 fn start_of<'a>(word: &'a [u8]) -> Start<'a>
     ensures start { start_shown result ≡ start_of word.now }
     ensures whole { is_whole word.now result }
@@ -156,13 +174,12 @@ fn start_of<'a>(word: &'a [u8]) -> Start<'a>
             argument: &[],
         };
     };
+    if is_unlisted(word) {
+        return Start::Switch(word);
+    }
     match first_fit(rows_after(*letter), word) {
         Some(row) => start_by_row(row, word),
-        None => Start::Alone {
-            effect: Effect::Switch,
-            option: word,
-            argument: &[],
-        },
+        None => Start::Switch(word),
     }
 }
 
@@ -181,6 +198,10 @@ fn note_words(alloc: Global, builder: &mut LineBuilder, words: &[Word]) -> Resul
                 argument,
             } => {
                 builder.note_whole(alloc, effect, bytes, option, argument)?;
+                left = following;
+            }
+            Start::Switch(option) => {
+                builder.note_switch(alloc, option)?;
                 left = following;
             }
             Start::Wants { effect, option } => {

@@ -10,6 +10,7 @@ use Rattle.drv_args.specs.declared.line.Input.TheVariants as input
 use Rattle.drv_args.specs.declared.line.Input.{Input}
 use Rattle.drv_args.specs.declared.line.Line.{Line}
 use Rattle.drv_args.specs.declared.line.Settings.{Settings}
+use Rattle.drv_args.specs.declared.option_table.Effect.TheVariants as effect
 use Rattle.drv_args.specs.declared.option_table.Setting.TheVariants as setting
 use Rattle.drv_args.specs.declared.option_table.Setting.{Setting}
 use Rattle.drv_args.specs.declared.option_table.Tool.TheVariants as tool
@@ -90,11 +91,13 @@ with_pieces b tool.Linker pieces = with_inputs b (map input.LinkWord pieces)
 -- the code's value without its references
 abbrev pub start_shown : CodeStart → Start
 start_shown (code.Alone effect option argument) = fronts.Alone (item effect option.now argument.now)
+start_shown (code.Switch option) = fronts.Alone (item effect.Switch option.now [])
 start_shown (code.Wants effect option) = fronts.Wants effect option.now
 start_shown code.Bad = fronts.Bad
 
 -- the option and the argument of an item that is one word make up that word
 abbrev pub is_whole : List ℕ → CodeStart → Type 0
 is_whole word (code.Alone effect option argument) = option.now ++ argument.now ≡ word
+is_whole word (code.Switch option) = option.now ≡ word
 is_whole word (code.Wants effect option) = ⊤
 is_whole word code.Bad = ⊤

@@ -1,5 +1,7 @@
 use Rattle.drv_args.proofs.LineSteps.{alone_next, last_line, wants_next}
 use Rattle.drv_args.proofs.reading.note_words.Goals as goal
+use Rattle.drv_args.specs.declared.option_table.Effect.TheVariants as given
+use Rattle.std.proofs.Common.{[]}
 
 -- note_words (src/reading.rt). Adds words to a line.
 
@@ -8,6 +10,13 @@ loop-left-preserved-in-Alone c =
     alone_next c.loop-left.left.now c.word-item.result c.as_bytes-bytes.result.now c.loop-left.builder c.note_whole.new.self
     c.in-Alone.effect c.in-Alone.option.now c.in-Alone.argument.now _
     c.in-len1-up.len_at_least c.word-item.is c.as_bytes-bytes.ensures c.in-Alone.ensures.start c.in_ok-note_whole-in-Alone.ensures
+    c.loop-left.invariant
+
+pub loop-left-preserved-in-Switch : goal.loop-left-preserved-in-Switch
+loop-left-preserved-in-Switch c =
+    alone_next c.loop-left.left.now c.word-item.result c.as_bytes-bytes.result.now c.loop-left.builder c.note_switch.new.self
+    given.Switch c.in-Switch.option.now [] _
+    c.in-len1-up.len_at_least c.word-item.is c.as_bytes-bytes.ensures c.in-Switch.ensures.start c.in_ok-note_switch-in-Switch.ensures
     c.loop-left.invariant
 
 pub loop-left-preserved : goal.loop-left-preserved
