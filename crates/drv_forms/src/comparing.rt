@@ -61,14 +61,23 @@ fn is_one_of(words: &[Word], word: &Word, next: &mut usize) -> bool
     }
 }
 
-/// Whether a command has this word, whose next place among the command's is tried first.
-fn has_word(command: &Command, word: &Word, next: &mut usize) -> bool
-    ensures { result ≡ is_among (words_of command.now) word.now }
+/// A command whose words are looked for one after another.
+#[derive(Drop)]
+struct Sought<'a> {
+    command: &'a Command,
+    /// The place among its words that is tried first.
+    next: usize,
+}
+
+/// Whether a command has this word.
+fn has_word(sought: &mut Sought<'_>, word: &Word) -> bool
+    ensures is { result ≡ is_among (words_of sought.old.command.now) word.now }
+    ensures same { sought.new.command.now ≡ sought.old.command.now }
 {
-    if word == &command.program {
+    if word == &sought.command.program {
         return true;
     }
-    is_one_of(command.words.as_slice(), word, next)
+    is_one_of(sought.command.words.as_slice(), word, &mut sought.next)
 }
 
 /// Adds a word after a mark.
@@ -87,14 +96,14 @@ fn push_missing(
     alloc: Global,
     text: &mut Vec<u8>,
     mark: u8,
-    other: &Command,
+    other: &mut Sought<'_>,
     word: &Word,
-    next: &mut usize,
 ) -> Result<(), AllocError>
-    ensures { OnOk result (text.new.items
-        ≡ text.old.items ++ word_text mark (words_of other.now) word.now) }
+    ensures text { OnOk result (text.new.items
+        ≡ text.old.items ++ word_text mark (words_of other.old.command.now) word.now) }
+    ensures same { other.new.command.now ≡ other.old.command.now }
 {
-    if has_word(other, word, next) {
+    if has_word(other, word) {
         return Ok(());
     }
     push_word(alloc, text, mark, word)
@@ -105,15 +114,14 @@ fn push_all_missing(
     alloc: Global,
     text: &mut Vec<u8>,
     mark: u8,
-    other: &Command,
+    other: &mut Sought<'_>,
     words: &[Word],
 ) -> Result<(), AllocError>
     ensures { OnOk result (text.new.items
-        ≡ text.old.items ++ flat_map (word_text mark (words_of other.now)) words.now) }
+        ≡ text.old.items ++ flat_map (word_text mark (words_of other.old.command.now)) words.now) }
 {
-    let mut next = 0;
     for word in words {
-        push_missing(alloc, text, mark, other, word, &mut next)?;
+        push_missing(alloc, text, mark, other, word)?;
     }
     Ok(())
 }
@@ -129,8 +137,12 @@ fn push_only(
     ensures { OnOk result (text.new.items
         ≡ text.old.items ++ only_text mark command.now other.now) }
 {
-    push_missing(alloc, text, mark, other, &command.program, &mut 0)?;
-    push_all_missing(alloc, text, mark, other, command.words.as_slice())
+    let mut other = Sought {
+        command: other,
+        next: 0,
+    };
+    push_missing(alloc, text, mark, &mut other, &command.program)?;
+    push_all_missing(alloc, text, mark, &mut other, command.words.as_slice())
 }
 
 /// The text of one line.
