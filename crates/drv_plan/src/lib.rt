@@ -12,4 +12,4 @@ mod sources;
 pub use fault::PlanFault;
 pub use languages::{Chosen, language};
 pub use laws::{plan_law, reload_law};
-pub use planning::plan;
+pub use planning::{Specified, plan, plan_along};

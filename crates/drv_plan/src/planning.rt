@@ -6,10 +6,12 @@
 ghost use Rattle.drv_machine.specs.declared.fault.MachineFault.TheVariants as machine;
 ghost use Rattle.drv_plan.specs.Denoted.{denoted, finished, plan_of, planned, then_by};
 ghost use Rattle.drv_plan.specs.Denoted.{with_command, with_inputs, with_link, with_text};
+ghost use Rattle.drv_search.specs.Search.{prefixes_of};
 ghost use Rattle.drv_system.specs.Asking.{Asks, Extends};
 ghost use Rattle.drv_system.specs.Code.Asked.{Asked};
 ghost use Rattle.drv_system.specs.Facts.{Facts};
 ghost use Rattle.drv_system.specs.Gives.{GivesKnown};
+ghost use Rattle.drv_system.specs.Known.{Is};
 ghost use Rattle.std.specs.Prelude.{◌≡◌, ◌==◌, ◌≢◌, IfErr, IfOk, Some, length};
 
 use crate::PlanFault;
@@ -151,6 +153,44 @@ fn plan_in<'a, S: System>(
     plan_inputs(alloc, set, inputs, &mut progress, outside)
 }
 
+/// A line with its specs, and the seed of the names of temporaries.
+#[derive(Clone, Copy)]
+pub struct Specified<'a> {
+    pub line: &'a Line,
+    pub set: &'a SpecSet,
+    pub seed: u32,
+}
+
+/// The plan of a line with its specs, as `plan` gives it, along the prefixes of its `-B`.
+///
+/// # Errors
+/// Those of `plan`.
+#[tactic(auto, using(drv_system::proofs::Asking::asks_nothing))]
+pub fn plan_along<S: System>(
+    alloc: Global,
+    given: &Specified<'_>,
+    prefixes: &Prefixes,
+    sys: &mut S,
+    facts: &mut FactTable,
+) -> Result<Plan, PlanFault>
+    ensures asks { Asks (S.events sys.old) (S.events sys.new) facts.old facts.new }
+    ensures plans { (F : Facts) → Extends facts.new F
+        → prefixes_of F given.now.line.now.settings.prefixes ≡ Is prefixes.now
+        → GivesKnown PlanFault.Memory (λ p. p) result
+        (denoted F given.now.line.now given.now.set.now given.now.seed) }
+    ensures apart { IfErr result (λ fault. fault ≢ PlanFault.Machine machine.Memory) }
+{
+    let context = Context::new(alloc, given.line, given.set, prefixes, given.seed)?;
+    let inputs = given.line.inputs.as_slice();
+    plan_in(
+        alloc,
+        given.set,
+        inputs,
+        context,
+        &mut Outside { sys, facts },
+    )
+}
+
 /// The plan of a line with its specs: each source, with the text of its language, in the order of
 /// the line, and the link, if there is one (GCC manual, "Overall Options" and "Spec Files"). Names
 /// of temporaries contain this seed. The system is asked only if the table has no answer.
@@ -173,12 +213,5 @@ pub fn plan<S: System>(
     ensures apart { IfErr result (λ fault. fault ≢ PlanFault.Machine machine.Memory) }
 {
     let prefixes = Prefixes::new(alloc, line.settings.prefixes.as_slice(), sys, facts)?;
-    let context = Context::new(alloc, line, set, &prefixes, seed)?;
-    plan_in(
-        alloc,
-        set,
-        line.inputs.as_slice(),
-        context,
-        &mut Outside { sys, facts },
-    )
+    plan_along(alloc, &Specified { line, set, seed }, &prefixes, sys, facts)
 }

@@ -19,6 +19,13 @@ use drv_words::{Job, Listing, Word};
 use std::alloc::{AllocError, Global};
 use std::mem;
 
+/// An input of the line, or what is known of it, at its place.
+#[derive(Drop)]
+pub(crate) struct Placed<T> {
+    pub(crate) place: usize,
+    pub(crate) of: T,
+}
+
 /// The progress of a plan: what goes on from one input to the next, and the results so far.
 #[derive(Drop)]
 pub(crate) struct Progress<'a> {
@@ -150,26 +157,25 @@ impl<'a> Progress<'a> {
         Ok(into_job(done))
     }
 
-    /// Runs the text of the source at this place of the line, and adds its job.
+    /// Runs the text of a source, and adds its job.
     ///
     /// # Errors
     /// The machine's refusal of the text.
     pub(crate) fn add_source<S: System>(
         &mut self,
         alloc: Global,
-        place: usize,
-        source: Source<'a>,
+        source: Placed<Source<'a>>,
         text: &SpecTree,
         outside: &mut Outside<'_, S>,
     ) -> Result<(), PlanFault>
         ensures asks { Asked S.events outside.old outside.new }
         ensures works { (F : Facts) → Extends outside.new.facts.now F
             → GivesKnown PlanFault.Memory (λ _. self.new) result
-            (with_source F place source.entry text.now self.old) }
+            (with_source F source.entry.place source.entry.of text.now self.old) }
     {
-        self.context.set_input(Some(source));
+        self.context.set_input(Some(source.of));
         let job = self.work(alloc, text, outside)?;
-        self.add_job(of_source(place, job))?;
+        self.add_job(of_source(source.place, job))?;
         Ok(())
     }
 

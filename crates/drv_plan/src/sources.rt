@@ -12,7 +12,7 @@ ghost use Rattle.std.specs.Prelude.{◌≡◌, Ok};
 
 use crate::PlanFault;
 use crate::languages::{Chosen, language};
-use crate::progress::Progress;
+use crate::progress::{Placed, Progress};
 use drv_args::Input;
 use drv_machine::Source;
 use drv_specs::SpecSet;
@@ -33,8 +33,7 @@ fn source_of<'a>(name: &'a Word, chosen: &Chosen<'a>) -> Source<'a>
 /// Adds a file: runs its text, or leaves it to the linker.
 fn add_file<'a, S: System>(
     alloc: Global,
-    place: usize,
-    name: &'a Word,
+    name: Placed<&'a Word>,
     chosen: Option<Chosen<'a>>,
     progress: &mut Progress<'a>,
     outside: &mut Outside<'_, S>,
@@ -42,34 +41,41 @@ fn add_file<'a, S: System>(
     ensures asks { Asked S.events outside.old outside.new }
     ensures works { (F : Facts) → Extends outside.new.facts.now F
         → GivesKnown PlanFault.Memory (λ _. progress.new) result
-        (with_file F place name.now (Ok chosen.entry) progress.old) }
+        (with_file F name.entry.place name.entry.of.now (Ok chosen.entry) progress.old) }
 {
     let Some(chosen) = chosen else {
-        progress.add_object(name)?;
+        progress.add_object(name.of)?;
         return Ok(());
     };
-    let source = source_of(name, &chosen);
-    progress.add_source(alloc, place, source, chosen.tree, outside)
+    let source = source_of(name.of, &chosen);
+    let placed = Placed {
+        place: name.place,
+        of: source,
+    };
+    progress.add_source(alloc, placed, chosen.tree, outside)
 }
 
 /// Adds an input: a file in its language, or a word for the link, which has none.
 fn add_input<'a, S: System>(
     alloc: Global,
     set: &'a SpecSet,
-    place: usize,
-    input: &'a Input,
+    input: Placed<&'a Input>,
     progress: &mut Progress<'a>,
     outside: &mut Outside<'_, S>,
 ) -> Result<(), PlanFault>
     ensures asks { Asked S.events outside.old outside.new }
     ensures works { (F : Facts) → Extends outside.new.facts.now F
         → GivesKnown PlanFault.Memory (λ _. progress.new) result
-        (with_input F set.now place input.now progress.old) }
+        (with_input F set.now input.entry.place input.entry.of.now progress.old) }
 {
-    match input {
+    match input.of {
         Input::File { name, .. } => {
-            let chosen = language(alloc, input, set)?;
-            add_file(alloc, place, name, chosen, progress, outside)
+            let chosen = language(alloc, input.of, set)?;
+            let named = Placed {
+                place: input.place,
+                of: name,
+            };
+            add_file(alloc, named, chosen, progress, outside)
         }
         Input::Library(word) => {
             progress.add_word(word)?;
@@ -101,7 +107,7 @@ pub(crate) fn add_inputs<'a, S: System>(
         (with_inputs F set.now 0 inputs.now progress.old) }
 {
     for (place, input) in inputs.iter().enumerate() {
-        add_input(alloc, set, place, input, progress, outside)?;
+        add_input(alloc, set, Placed { place, of: input }, progress, outside)?;
     }
     Ok(())
 }

@@ -9,9 +9,11 @@ use Rattle.std.proofs.Common.{Ok, ap, ◌∙◌}
 -- a file with a text is a source, which is processed
 pub returns-clause-works : goal.returns-clause-works
 returns-clause-works g c F e =
-    given_alike _ c.add_source.result (with_source F c.args.place c.source_of-source.result c.chosen.inside.tree.now c.args.progress.now)
-    (with_file F c.args.place c.args.name.now (Ok c.args.chosen) c.args.progress.now)
-    (ap (λ chosen. with_file F c.args.place c.args.name.now (Ok chosen) c.args.progress.now) c.in-Some.is
-    ∙ source_chosen F c.args.place c.args.name.now c.in-Some.chosen c.source_of-source.result c.chosen.inside.tree.now c.args.progress.now
+    given_alike _ c.add_source.result (with_source F c.args.name.place c.source_of-source.result c.chosen.inside.tree.now
+    c.args.progress.now)
+    (with_file F c.args.name.place c.args.name.of.now (Ok c.args.chosen) c.args.progress.now)
+    (ap (λ chosen. with_file F c.args.name.place c.args.name.of.now (Ok chosen) c.args.progress.now) c.in-Some.is
+    ∙ source_chosen F c.args.name.place c.args.name.of.now c.in-Some.chosen c.source_of-source.result c.chosen.inside.tree.now
+    c.args.progress.now
     c.source_of-source.ensures (ap (λ (v : Chosen). v.text) c.chosen.view_is))
     (c.add_source.ensures.works F e)

@@ -2,17 +2,19 @@ use Rattle.drv_plan.proofs.Steps.{refusal_given, source_refused, source_worked}
 use Rattle.drv_plan.proofs.progress.Progress.add_source.Goals as goal
 use Rattle.drv_plan.specs.Denoted.{with_source}
 
--- add_source (src/progress.rt). Runs the text of the source at this place of the line, and adds its job.
+-- add_source (src/progress.rt). Runs the text of a source, and adds its job.
 
 pub returns-in_err-job-clause-works : goal.returns-in_err-job-clause-works
 returns-in_err-job-clause-works g c F e =
-    refusal_given c.in_err-job.field-0.0 c.from_residual.result _ (with_source F c.args.place c.args.source c.args.text.now c.args.self.now)
+    refusal_given c.in_err-job.field-0.0 c.from_residual.result _ (with_source F c.args.source.place c.args.source.of c.args.text.now
+    c.args.self.now)
     c.from_residual.ensures.1
-    (source_refused F c.args.place c.args.source c.args.text.now c.args.self.now c.set_input.new.self c.in_err-job.field-0.0
+    (source_refused F c.args.source.place c.args.source.of c.args.text.now c.args.self.now c.set_input.new.self c.in_err-job.field-0.0
     c.set_input.ensures (c.in_err-job.ensures.works F e))
 
 pub returns-clause-works : goal.returns-clause-works
 returns-clause-works g c F e =
-    source_worked F c.args.place c.args.source c.args.text.now c.args.self.now c.set_input.new.self c.in_ok-job.job c.of_source.result
+    source_worked F c.args.source.place c.args.source.of c.args.text.now c.args.self.now c.set_input.new.self c.in_ok-job.job
+    c.of_source.result
     c.work.new.self c.add_job.new.self c.set_input.ensures (c.in_ok-job.ensures.works F e)
     c.of_source.ensures c.in_ok-add_job.ensures
