@@ -72,11 +72,18 @@ fn file_text<S: System>(
     text_read(alloc, if_missing, path, answer)
 }
 
+/// Entries that a load changes.
+#[derive(Drop)]
+struct Loading {
+    set: Entries,
+    /// How many more files may be read.
+    files: usize,
+}
+
 /// Carries out the directives of a settled text, within which `levels` more files may be nested.
 #[tactic(auto, using(drv_system::proofs::AskedCalls::asked_further))]
 fn carry_out<S: System>(
-    entries: &mut Entries,
-    files: &mut usize,
+    loading: &mut Loading,
     levels: usize,
     text: &[u8],
     prefixes: &Prefixes,
@@ -84,9 +91,9 @@ fn carry_out<S: System>(
 ) -> Result<(), SpecsFault>
     ensures asks { Asked S.events outside.old outside.new }
     ensures carried { (F : Facts) → Extends outside.new.facts.now F
-        → GivesKnown fault.Memory (λ _. record { set = entries.new; files = files.new }) result
-        (all_carried (including F prefixes.now levels)
-        (record { set = entries.old; files = files.old }) (read_settled text.now)) }
+        → GivesKnown fault.Memory (λ _. record { set = loading.new.set; files = loading.new.files })
+        result (all_carried (including F prefixes.now levels)
+        (record { set = loading.old.set; files = loading.old.files }) (read_settled text.now)) }
 {
     let mut reader = Reader::new(text);
     while let Some(directive) = reader.next() {
@@ -96,21 +103,15 @@ fn carry_out<S: System>(
                 if levels == 0 {
                     return Err(SpecsFault::IncludeTooDeep);
                 }
-                if *files == 0 {
+                if loading.files == 0 {
                     return Err(SpecsFault::TooManyIncludes);
                 }
-                *files -= 1;
-                let text = file_text(entries.alloc(), if_missing, file, prefixes, outside)?;
-                carry_out(
-                    entries,
-                    files,
-                    levels - 1,
-                    text.as_slice(),
-                    prefixes,
-                    outside,
-                )?;
+                loading.files -= 1;
+                let alloc = loading.set.alloc();
+                let text = file_text(alloc, if_missing, file, prefixes, outside)?;
+                carry_out(loading, levels - 1, text.as_slice(), prefixes, outside)?;
             }
-            other => entries.change(other)?,
+            other => loading.set.change(other)?,
         }
     }
     Ok(())
@@ -130,12 +131,14 @@ fn worked_entries<S: System>(
         → GivesKnown fault.Memory (λ worked. worked) result
         (worked F prefixes.now entries files (read_settled text.now)) }
 {
-    let mut entries = entries;
-    let mut files = files;
+    let mut loading = Loading {
+        set: entries,
+        files,
+    };
     // The text at hand is the first level.
     let levels = MOST_LEVELS - 1;
-    carry_out(&mut entries, &mut files, levels, text, prefixes, outside)?;
-    Ok(entries)
+    carry_out(&mut loading, levels, text, prefixes, outside)?;
+    Ok(loading.set)
 }
 
 /// A copy of entries after the directives of a settled text, which may read `files` more files.

@@ -13,8 +13,8 @@ abbrev pub invariant-loop-directive : goal.invariant-loop-directive
 invariant-loop-directive g l = record {
   asks : Asked g.S.System.events l.fn.outside l.outside;
   rest : (F : Facts) → Extends l.outside.facts.now F
-      → all_carried (including F l.prefixes l.levels) (record { set = l.entries; files = l.files }) l.reader
-      ≡ all_carried (including F l.prefixes l.levels) (record { set = l.fn.entries; files = l.fn.files }) (read_settled l.text);
+      → all_carried (including F l.prefixes l.levels) (record { set = l.loading.set; files = l.loading.files }) l.reader
+      ≡ all_carried (including F l.prefixes l.levels) (record { set = l.fn.loading.set; files = l.fn.loading.files }) (read_settled l.text);
 }
 
 -- each turn leaves fewer directives, so the loop ends

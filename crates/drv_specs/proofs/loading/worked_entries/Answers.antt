@@ -16,5 +16,5 @@ returns-in_err-carry_out-clause-works g c F e =
 pub returns-clause-works : goal.returns-clause-works
 returns-clause-works g c F e =
     worked_given F c.args.prefixes.now c.args.entries c.args.entries refl c.args.files (read_settled c.args.text.now)
-    (record { set = c.carry_out.new.entries; files = c.carry_out.new.files })
+    (record { set = c.carry_out.new.loading.set; files = c.carry_out.new.loading.files })
     (c.in_ok-carry_out.ensures.carried F e)
