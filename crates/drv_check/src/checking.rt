@@ -11,7 +11,7 @@ ghost use Rattle.std.specs.Prelude.{◌≡◌, IfOk};
 use crate::findings::{Checking, MOST_FILES, Note, empty_check};
 use crate::including::Inclusion;
 use crate::judging::judge;
-use crate::opening::{OpenFile, open};
+use crate::opening::{FilePiece, Nesting, OpenFile, Search, open};
 use crate::stepping::step;
 use drv_search::Prefixes;
 use drv_system::{FactTable, Outside, System};
@@ -23,24 +23,24 @@ pub(crate) const MOST_LEVELS: usize = 16;
 
 /// Checks an open file, within which `levels` more files may be nested.
 fn check_file<S: System>(
-    alloc: Global,
+    search: &Search<'_>,
     checking: &mut Checking,
     levels: usize,
     file: &OpenFile,
-    prefixes: &Prefixes,
     outside: &mut Outside<'_, S>,
 ) -> Result<(), AllocError>
     ensures asks { Asked S.events outside.old outside.new }
     ensures checks { (F : Facts) → Extends outside.new.facts.now F
-        → IfOk result (λ _. file_checked F prefixes.now levels checking.old file.now
+        → IfOk result (λ _. file_checked F search.now.prefixes.now levels checking.old file.now
         ≡ Is checking.new) }
 {
     for piece in file.pieces.as_slice() {
-        let next = step(alloc, checking, levels, file, piece, prefixes, outside)?;
+        let here = FilePiece { file, piece };
+        let next = step(search, checking, levels, &here, outside)?;
         let Some(inner) = next else {
             continue;
         };
-        check_file(alloc, checking, levels - 1, &inner, prefixes, outside)?;
+        check_file(search, checking, levels - 1, &inner, outside)?;
     }
     Ok(())
 }
@@ -48,31 +48,26 @@ fn check_file<S: System>(
 /// Checks a file of the call.
 #[tactic(auto, using(drv_system::proofs::AskedCalls::asked_further))]
 fn check_called<S: System>(
-    alloc: Global,
+    search: &Search<'_>,
     checking: &mut Checking,
     name: &Word,
-    prefixes: &Prefixes,
     outside: &mut Outside<'_, S>,
 ) -> Result<(), AllocError>
     ensures asks { Asked S.events outside.old outside.new }
     ensures checks { (F : Facts) → Extends outside.new.facts.now F
-        → IfOk result (λ _. called F prefixes.now checking.old name.now ≡ Is checking.new) }
+        → IfOk result (λ _. called F search.now.prefixes.now checking.old name.now ≡ Is checking.new) }
 {
     checking.files = MOST_FILES;
     let inclusion = Inclusion {
         may_miss: false,
         file: name.clone()?,
     };
-    match open(
-        alloc,
-        checking,
-        MOST_LEVELS,
-        None,
-        &inclusion,
-        prefixes,
-        outside,
-    )? {
-        Some(file) => check_file(alloc, checking, MOST_LEVELS - 1, &file, prefixes, outside),
+    let nesting = Nesting {
+        from: None,
+        levels: MOST_LEVELS,
+    };
+    match open(search, checking, nesting, &inclusion, outside)? {
+        Some(file) => check_file(search, checking, MOST_LEVELS - 1, &file, outside),
         None => Ok(()),
     }
 }
@@ -80,18 +75,17 @@ fn check_called<S: System>(
 /// Checks the files of the call.
 #[tactic(auto, using(drv_system::proofs::AskedCalls::asked_further))]
 pub(crate) fn check_all<S: System>(
-    alloc: Global,
+    search: &Search<'_>,
     checking: &mut Checking,
     names: &[Word],
-    prefixes: &Prefixes,
     outside: &mut Outside<'_, S>,
 ) -> Result<(), AllocError>
     ensures asks { Asked S.events outside.old outside.new }
     ensures checks { (F : Facts) → Extends outside.new.facts.now F
-        → IfOk result (λ _. all_called F prefixes.now checking.old names.now ≡ Is checking.new) }
+        → IfOk result (λ _. all_called F search.now.prefixes.now checking.old names.now ≡ Is checking.new) }
 {
     for name in names {
-        check_called(alloc, checking, name, prefixes, outside)?;
+        check_called(search, checking, name, outside)?;
     }
     Ok(())
 }
@@ -125,37 +119,35 @@ fn faults_alone(alloc: Global, checking: Checking) -> Result<Checking, AllocErro
 /// Checks the files that are loaded first, and keeps their faults alone.
 #[tactic(auto, using(drv_system::proofs::AskedCalls::asked_further))]
 fn check_base<S: System>(
-    alloc: Global,
+    search: &Search<'_>,
     over: &[Word],
-    prefixes: &Prefixes,
     outside: &mut Outside<'_, S>,
 ) -> Result<Checking, AllocError>
     ensures asks { Asked S.events outside.old outside.new }
     ensures checks { (F : Facts) → Extends outside.new.facts.now F
-        → IfOk result (λ checking. based F prefixes.now over.now ≡ Is checking) }
+        → IfOk result (λ checking. based F search.now.prefixes.now over.now ≡ Is checking) }
 {
-    let mut checking = empty_check(alloc)?;
-    check_all(alloc, &mut checking, over, prefixes, outside)?;
-    faults_alone(alloc, checking)
+    let mut checking = empty_check(search.alloc)?;
+    check_all(search, &mut checking, over, outside)?;
+    faults_alone(search.alloc, checking)
 }
 
 /// Checks files over the built-in set and over those that are loaded first.
 #[tactic(auto, using(drv_system::proofs::AskedCalls::asked_further))]
 fn check_over<S: System>(
-    alloc: Global,
+    search: &Search<'_>,
     over: &[Word],
     names: &[Word],
-    prefixes: &Prefixes,
     outside: &mut Outside<'_, S>,
 ) -> Result<Checking, AllocError>
     ensures asks { Asked S.events outside.old outside.new }
     ensures checks { (F : Facts) → Extends outside.new.facts.now F
-        → IfOk result (λ checking. checked_over F prefixes.now over.now names.now ≡ Is checking) }
+        → IfOk result (λ checking. checked_over F search.now.prefixes.now over.now names.now ≡ Is checking) }
 {
-    let mut checking = check_base(alloc, over, prefixes, outside)?;
+    let mut checking = check_base(search, over, outside)?;
     let first = checking.sources.len();
-    check_all(alloc, &mut checking, names, prefixes, outside)?;
-    judge(alloc, &mut checking, first)?;
+    check_all(search, &mut checking, names, outside)?;
+    judge(search.alloc, &mut checking, first)?;
     Ok(checking)
 }
 
@@ -180,5 +172,9 @@ pub fn check_files<S: System>(
         → IfOk result (λ checking. checked F over.now names.now ≡ Is checking) }
 {
     let prefixes = Prefixes::new(alloc, &[], sys, facts)?;
-    check_over(alloc, over, names, &prefixes, &mut Outside { sys, facts })
+    let search = Search {
+        alloc,
+        prefixes: &prefixes,
+    };
+    check_over(&search, over, names, &mut Outside { sys, facts })
 }

@@ -11,6 +11,7 @@ ghost use Rattle.std.specs.Prelude.{◌≡◌, IfOk, Some};
 
 use crate::checking::is_fault;
 use crate::findings::{Checking, Finding, MOST_FILES, Source, Spot};
+use crate::opening::Search;
 use crate::spots::place_in;
 use crate::stopping::check_until;
 use crate::told::push_place;
@@ -80,40 +81,50 @@ fn note_of(alloc: Global, checking: &Checking) -> Result<Word, AllocError>
 /// The note of files, each found along these prefixes.
 #[tactic(auto, using(drv_system::proofs::AskedCalls::asked_further, crate::proofs::FaultNotes::notes_along))]
 fn note_along<S: System>(
-    alloc: Global,
+    search: &Search<'_>,
     set: SpecSet,
-    prefixes: &Prefixes,
     names: &[Word],
     outside: &mut Outside<'_, S>,
 ) -> Result<Word, AllocError>
     ensures asks { Asked S.events outside.old outside.new }
     ensures note { (F : Facts) → Extends outside.new.facts.now F
-        → IfOk result (λ note. noted_along F prefixes.now set names.now ≡ Is note) }
+        → IfOk result (λ note. noted_along F search.now.prefixes.now set names.now ≡ Is note) }
 {
-    let mut checking = unchecked_over(alloc, set);
-    check_until(alloc, &mut checking, names, prefixes, outside)?;
-    note_of(alloc, &checking)
+    let mut checking = unchecked_over(search.alloc, set);
+    check_until(search, &mut checking, names, outside)?;
+    note_of(search.alloc, &checking)
+}
+
+/// Spec files that a line names.
+#[derive(Clone, Copy)]
+pub struct SpecFiles<'a> {
+    /// The folders of `-B`, along which each is found.
+    pub folders: &'a [Word],
+    pub names: &'a [Word],
 }
 
 /// Where the driver refuses files that are loaded over a set, in their order, as a note: the place
-/// of the first fault in its file. Each is found along the folders of `-B`. There is no note where
-/// none of them is refused, or where the fault is in no file. It asks the system only where the table
-/// has no answer, and nothing after that fault.
+/// of the first fault in its file. There is no note where none of them is refused, or where the
+/// fault is in no file. It asks the system only where the table has no answer, and nothing after
+/// that fault.
 ///
 /// # Errors
 /// Lack of memory; nothing else is refused.
 pub fn fault_note<S: System>(
     alloc: Global,
     set: SpecSet,
-    folders: &[Word],
-    names: &[Word],
+    files: &SpecFiles<'_>,
     sys: &mut S,
     facts: &mut FactTable,
 ) -> Result<Word, AllocError>
     ensures asks { Asks (S.events sys.old) (S.events sys.new) facts.old facts.new }
     ensures note { (F : Facts) → Extends facts.new F
-        → IfOk result (λ note. fault_note F set folders.now names.now ≡ Is note) }
+        → IfOk result (λ note. fault_note F set files.now.folders.now files.now.names.now ≡ Is note) }
 {
-    let prefixes = Prefixes::new(alloc, folders, sys, facts)?;
-    note_along(alloc, set, &prefixes, names, &mut Outside { sys, facts })
+    let prefixes = Prefixes::new(alloc, files.folders, sys, facts)?;
+    let search = Search {
+        alloc,
+        prefixes: &prefixes,
+    };
+    note_along(&search, set, files.names, &mut Outside { sys, facts })
 }

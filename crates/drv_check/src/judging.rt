@@ -9,7 +9,7 @@ ghost use Rattle.std.specs.Prelude.{◌≡◌, ◌++◌, IfOk, OnOk, drop, map};
 
 use crate::bytes::blanks_before;
 use crate::findings::{Checking, Finding, Source, Warning};
-use crate::opening::{OpenFile, open_file};
+use crate::opening::{FilePiece, OpenFile, open_file};
 use crate::pieces::Piece;
 use crate::pointing::colon_in;
 use crate::stepping::push_warnings;
@@ -19,6 +19,13 @@ use crate::warning::Mark;
 use drv_specs::SpecSet;
 use drv_words::{Listing, Word};
 use std::alloc::{AllocError, Global};
+
+/// The whole of the files: the set that they make, and the names of texts that they run.
+#[derive(Clone, Copy)]
+struct Whole<'a> {
+    set: &'a SpecSet,
+    worked: &'a [Word],
+}
 
 /// The key of a pair that a piece puts.
 fn key_in(text: &[u8]) -> Option<&[u8]>
@@ -80,18 +87,17 @@ fn push_pair(marks: &mut Vec<Mark>, later: &[Piece], text: &[u8]) -> Result<(), 
 /// What the whole of the files shows of a piece before these in its file.
 fn whole_marks(
     alloc: Global,
-    set: &SpecSet,
-    worked: &[Word],
+    whole: &Whole<'_>,
     later: &[Piece],
     text: &[u8],
 ) -> Result<Vec<Mark>, AllocError>
     ensures { IfOk result
-        (λ marks. marks.items ≡ whole_marks set.now worked.now later.now text.now) }
+        (λ marks. marks.items ≡ whole_marks whole.now.set.now whole.now.worked.now later.now text.now) }
 {
     let mut marks = Vec::new(alloc);
     push_pair(&mut marks, later, text)?;
-    push_unused(&mut marks, set, worked, text)?;
-    push_own(alloc, &mut marks, set, text)?;
+    push_unused(&mut marks, whole.set, whole.worked, text)?;
+    push_own(alloc, &mut marks, whole.set, text)?;
     Ok(marks)
 }
 
@@ -99,19 +105,17 @@ fn whole_marks(
 fn judge_piece(
     alloc: Global,
     findings: &mut Listing<Finding>,
-    set: &SpecSet,
-    worked: &[Word],
-    file: &OpenFile,
+    whole: &Whole<'_>,
+    here: &FilePiece<'_>,
     later: &[Piece],
-    piece: &Piece,
 ) -> Result<(), AllocError>
     ensures { OnOk result
         (findings.new ≡ findings.old
-        ++ map (finding_of file.now piece.now)
-        (whole_marks set.now worked.now later.now piece.now.text)) }
+        ++ map (finding_of here.now.file.now here.now.piece.now)
+        (whole_marks whole.now.set.now whole.now.worked.now later.now here.now.piece.now.text)) }
 {
-    let marks = whole_marks(alloc, set, worked, later, piece.text.as_bytes())?;
-    push_warnings(findings, file, piece, marks.as_slice())
+    let marks = whole_marks(alloc, whole, later, here.piece.text.as_bytes())?;
+    push_warnings(findings, here.file, here.piece, marks.as_slice())
 }
 
 /// Adds what the whole of the files shows of one.
@@ -119,15 +123,15 @@ fn judge_piece(
 fn judge_file(
     alloc: Global,
     findings: &mut Listing<Finding>,
-    set: &SpecSet,
-    worked: &[Word],
+    whole: &Whole<'_>,
     file: &OpenFile,
 ) -> Result<(), AllocError>
-    ensures { OnOk result (findings.new ≡ findings.old ++ file_judged set.now worked.now file.now) }
+    ensures { OnOk result (findings.new ≡ findings.old
+        ++ file_judged whole.now.set.now whole.now.worked.now file.now) }
 {
     let mut left = file.pieces.as_slice();
     while let [piece, later @ ..] = left {
-        judge_piece(alloc, findings, set, worked, file, later, piece)?;
+        judge_piece(alloc, findings, whole, &FilePiece { file, piece }, later)?;
         left = later;
     }
     Ok(())
@@ -138,20 +142,20 @@ fn judge_file(
 fn judge_sources(
     alloc: Global,
     findings: &mut Listing<Finding>,
-    set: &SpecSet,
-    worked: &[Word],
+    whole: &Whole<'_>,
     first: usize,
     sources: &[Source],
 ) -> Result<(), AllocError>
     ensures { OnOk result
         (findings.new
-        ≡ findings.old ++ sources_judged set.now worked.now first (drop first sources.now)) }
+        ≡ findings.old
+        ++ sources_judged whole.now.set.now whole.now.worked.now first (drop first sources.now)) }
 {
     let mut number = first;
     while number < sources.len() {
         let source = &sources[number];
         let file = open_file(alloc, number, source.text.as_bytes())?;
-        judge_file(alloc, findings, set, worked, &file)?;
+        judge_file(alloc, findings, whole, &file)?;
         number += 1;
     }
     Ok(())
@@ -162,12 +166,10 @@ pub(crate) fn judge(alloc: Global, checking: &mut Checking, first: usize) -> Res
     ensures { OnOk result (checking.new ≡ judged first checking.old) }
 {
     let worked = names_worked(alloc, checking.sources.as_slice())?;
-    judge_sources(
-        alloc,
-        &mut checking.findings,
-        &checking.set,
-        worked.as_slice(),
-        first,
-        checking.sources.as_slice(),
-    )
+    let whole = Whole {
+        set: &checking.set,
+        worked: worked.as_slice(),
+    };
+    let sources = checking.sources.as_slice();
+    judge_sources(alloc, &mut checking.findings, &whole, first, sources)
 }

@@ -36,7 +36,7 @@ mod warning;
 
 pub use checking::check_files;
 pub use differing::texts_difference;
-pub use fault_notes::fault_note;
+pub use fault_notes::{SpecFiles, fault_note};
 pub use findings::{Checking, Finding, Note, Source, Spot, Warning};
 pub use laws::{
     covered_tests_are_true, first_fault_is_refusal, noted_fault_is_refusal, pieces_are_directives,

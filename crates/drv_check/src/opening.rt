@@ -18,6 +18,29 @@ use drv_system::{Outside, ReadAnswer, System};
 use drv_words::{Listing, Word};
 use std::alloc::{AllocError, Global};
 
+/// How files are found: along prefixes, with memory of an allocator.
+#[derive(Clone, Copy)]
+pub(crate) struct Search<'a> {
+    pub(crate) alloc: Global,
+    pub(crate) prefixes: &'a Prefixes,
+}
+
+/// Where a file is opened.
+#[derive(Clone, Copy)]
+pub(crate) struct Nesting {
+    /// The spot that includes it; a file of the call has none.
+    pub(crate) from: Option<Spot>,
+    /// How many more files may be nested.
+    pub(crate) levels: usize,
+}
+
+/// A piece of an open file.
+#[derive(Clone, Copy)]
+pub(crate) struct FilePiece<'a> {
+    pub(crate) file: &'a OpenFile,
+    pub(crate) piece: &'a Piece,
+}
+
 /// A file whose directives are checked.
 #[derive(Drop)]
 pub(crate) struct OpenFile {
@@ -68,15 +91,16 @@ fn read_text(
 /// The path of an included file, and its text.
 #[tactic(auto, using(drv_system::proofs::AskedCalls::asked_further))]
 fn find_text<S: System>(
-    alloc: Global,
+    search: &Search<'_>,
     inclusion: &Inclusion,
-    prefixes: &Prefixes,
     outside: &mut Outside<'_, S>,
 ) -> Result<(Word, Result<Word, SpecsFault>), AllocError>
     ensures asks { Asked S.events outside.old outside.new }
     ensures finds { (F : Facts) → Extends outside.new.facts.now F
-        → IfOk result (λ found. found_text F prefixes.now inclusion.now ≡ Is found) }
+        → IfOk result (λ found. found_text F search.now.prefixes.now inclusion.now ≡ Is found) }
 {
+    let alloc = search.alloc;
+    let prefixes = search.prefixes;
     let path = find_file(alloc, prefixes, &inclusion.file, outside.sys, outside.facts)?;
     outside.facts.read(outside.sys, &path)?;
     let answer = outside.facts.read_answer(&path);
@@ -111,25 +135,23 @@ fn take_text(
     }
 }
 
-/// Opens a file that is included at a spot, or adds why it can't be opened. `levels` more files may
-/// be nested.
+/// Opens a file, or adds why it can't be opened.
 #[tactic(auto, using(crate::proofs::FilesOpened::opens, crate::proofs::FilesOpened::opens_none, crate::proofs::FilesOpened::opens_deep))]
 pub(crate) fn open<S: System>(
-    alloc: Global,
+    search: &Search<'_>,
     checking: &mut Checking,
-    levels: usize,
-    from: Option<Spot>,
+    nesting: Nesting,
     inclusion: &Inclusion,
-    prefixes: &Prefixes,
     outside: &mut Outside<'_, S>,
 ) -> Result<Option<OpenFile>, AllocError>
     ensures asks { Asked S.events outside.old outside.new }
     ensures opens { (F : Facts) → Extends outside.new.facts.now F
-        → IfOk result (λ file. opened F prefixes.now levels checking.old from inclusion.now
-        ≡ Is (checking.new, file)) }
-    ensures within { IfOk result (λ file. IfSome file (λ _. 0 < levels)) }
+        → IfOk result (λ file. opened F search.now.prefixes.now nesting.levels checking.old
+        nesting.from inclusion.now ≡ Is (checking.new, file)) }
+    ensures within { IfOk result (λ file. IfSome file (λ _. 0 < nesting.levels)) }
 {
-    if levels == 0 {
+    let from = nesting.from;
+    if nesting.levels == 0 {
         add_note(checking, from, Note::Fault(SpecsFault::IncludeTooDeep))?;
         return Ok(None);
     }
@@ -138,6 +160,6 @@ pub(crate) fn open<S: System>(
         return Ok(None);
     }
     checking.files -= 1;
-    let (path, text) = find_text(alloc, inclusion, prefixes, outside)?;
-    take_text(alloc, checking, from, path, text)
+    let (path, text) = find_text(search, inclusion, outside)?;
+    take_text(search.alloc, checking, from, path, text)
 }

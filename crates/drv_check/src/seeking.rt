@@ -14,8 +14,7 @@ use crate::checking::MOST_LEVELS;
 use crate::fault_notes::unchecked_over;
 use crate::findings::{Checking, MOST_FILES, Source};
 use crate::including::{Inclusion, inclusion_in};
-use crate::opening::{OpenFile, open};
-use crate::pieces::Piece;
+use crate::opening::{FilePiece, Nesting, OpenFile, Search, open};
 use crate::stepping::spot_in;
 use drv_search::Prefixes;
 use drv_specs::SpecSet;
@@ -26,32 +25,26 @@ use std::alloc::{AllocError, Global};
 /// Opens the file that a piece includes, if it includes one. `levels` more files may be nested.
 #[tactic(auto, using(crate::proofs::FilesSought::sought_in, crate::proofs::FilesSought::sought_on))]
 fn open_next<S: System>(
-    alloc: Global,
+    search: &Search<'_>,
     checking: &mut Checking,
     levels: usize,
-    file: &OpenFile,
-    piece: &Piece,
-    prefixes: &Prefixes,
+    here: &FilePiece<'_>,
     outside: &mut Outside<'_, S>,
 ) -> Result<Option<OpenFile>, AllocError>
     ensures asks { Asked S.events outside.old outside.new }
     ensures opens { (F : Facts) → Extends outside.new.facts.now F
-        → IfOk result (λ next. sought F prefixes.now levels checking.old file.now piece.now
-        ≡ Is (checking.new, next)) }
+        → IfOk result (λ next. sought F search.now.prefixes.now levels checking.old
+        here.now.file.now here.now.piece.now ≡ Is (checking.new, next)) }
     ensures within { IfOk result (λ next. IfSome next (λ _. 0 < levels)) }
 {
-    match inclusion_in(alloc, piece.text.as_bytes())? {
+    let text = here.piece.text.as_bytes();
+    match inclusion_in(search.alloc, text)? {
         Some(inclusion) => {
-            let spot = spot_in(file, piece, blanks_before(piece.text.as_bytes()));
-            open(
-                alloc,
-                checking,
+            let nesting = Nesting {
+                from: Some(spot_in(here.file, here.piece, blanks_before(text))),
                 levels,
-                Some(spot),
-                &inclusion,
-                prefixes,
-                outside,
-            )
+            };
+            open(search, checking, nesting, &inclusion, outside)
         }
         None => Ok(None),
     }
@@ -59,24 +52,24 @@ fn open_next<S: System>(
 
 /// Opens what an open file includes, and what is included there. `levels` more files may be nested.
 fn seek_file<S: System>(
-    alloc: Global,
+    search: &Search<'_>,
     checking: &mut Checking,
     levels: usize,
     file: &OpenFile,
-    prefixes: &Prefixes,
     outside: &mut Outside<'_, S>,
 ) -> Result<(), AllocError>
     ensures asks { Asked S.events outside.old outside.new }
     ensures seeks { (F : Facts) → Extends outside.new.facts.now F → IsFile file.now
         → IfOk result (λ _. Seeks checking.old checking.new
-        (λ c. file_checked F prefixes.now levels c file.now)) }
+        (λ c. file_checked F search.now.prefixes.now levels c file.now)) }
 {
     for piece in file.pieces.as_slice() {
-        let next = open_next(alloc, checking, levels, file, piece, prefixes, outside)?;
+        let here = FilePiece { file, piece };
+        let next = open_next(search, checking, levels, &here, outside)?;
         let Some(inner) = next else {
             continue;
         };
-        seek_file(alloc, checking, levels - 1, &inner, prefixes, outside)?;
+        seek_file(search, checking, levels - 1, &inner, outside)?;
     }
     Ok(())
 }
@@ -84,32 +77,27 @@ fn seek_file<S: System>(
 /// Opens a file of the line, and what it includes.
 #[tactic(auto, using(drv_system::proofs::AskedCalls::asked_further))]
 fn seek_called<S: System>(
-    alloc: Global,
+    search: &Search<'_>,
     checking: &mut Checking,
     name: &Word,
-    prefixes: &Prefixes,
     outside: &mut Outside<'_, S>,
 ) -> Result<(), AllocError>
     ensures asks { Asked S.events outside.old outside.new }
     ensures seeks { (F : Facts) → Extends outside.new.facts.now F
         → IfOk result (λ _. Seeks checking.old checking.new
-        (λ c. called F prefixes.now c name.now)) }
+        (λ c. called F search.now.prefixes.now c name.now)) }
 {
     checking.files = MOST_FILES;
     let inclusion = Inclusion {
         may_miss: false,
         file: name.clone()?,
     };
-    match open(
-        alloc,
-        checking,
-        MOST_LEVELS,
-        None,
-        &inclusion,
-        prefixes,
-        outside,
-    )? {
-        Some(file) => seek_file(alloc, checking, MOST_LEVELS - 1, &file, prefixes, outside),
+    let nesting = Nesting {
+        from: None,
+        levels: MOST_LEVELS,
+    };
+    match open(search, checking, nesting, &inclusion, outside)? {
+        Some(file) => seek_file(search, checking, MOST_LEVELS - 1, &file, outside),
         None => Ok(()),
     }
 }
@@ -117,19 +105,18 @@ fn seek_called<S: System>(
 /// Opens the files of the line, and what they include.
 #[tactic(auto, using(drv_system::proofs::AskedCalls::asked_further))]
 fn seek_all<S: System>(
-    alloc: Global,
+    search: &Search<'_>,
     checking: &mut Checking,
     names: &[Word],
-    prefixes: &Prefixes,
     outside: &mut Outside<'_, S>,
 ) -> Result<(), AllocError>
     ensures asks { Asked S.events outside.old outside.new }
     ensures seeks { (F : Facts) → Extends outside.new.facts.now F
         → IfOk result (λ _. Seeks checking.old checking.new
-        (λ c. all_called F prefixes.now c names.now)) }
+        (λ c. all_called F search.now.prefixes.now c names.now)) }
 {
     for name in names {
-        seek_called(alloc, checking, name, prefixes, outside)?;
+        seek_called(search, checking, name, outside)?;
     }
     Ok(())
 }
@@ -138,17 +125,17 @@ fn seek_all<S: System>(
 /// theirs is read as a spec text: what a file changes opens no other one.
 #[tactic(auto, using(drv_system::proofs::AskedCalls::asked_further))]
 fn sources_found<S: System>(
-    alloc: Global,
+    search: &Search<'_>,
     names: &[Word],
-    prefixes: &Prefixes,
     outside: &mut Outside<'_, S>,
 ) -> Result<Listing<Source>, AllocError>
     ensures asks { Asked S.events outside.old outside.new }
     ensures opens { (F : Facts) → Extends outside.new.facts.now F
-        → IfOk result (λ sources. sources_found F prefixes.now names.now ≡ Is sources) }
+        → IfOk result (λ sources. sources_found F search.now.prefixes.now names.now ≡ Is sources) }
 {
+    let alloc = search.alloc;
     let mut checking = unchecked_over(alloc, SpecSet::empty(alloc));
-    seek_all(alloc, &mut checking, names, prefixes, outside)?;
+    seek_all(search, &mut checking, names, outside)?;
     Ok(checking.sources)
 }
 
@@ -170,5 +157,9 @@ pub fn sources_of<S: System>(
         → IfOk result (λ sources. sources_of F prefixes.now names.now ≡ Is sources) }
 {
     let found = Prefixes::new(alloc, prefixes, sys, facts)?;
-    sources_found(alloc, names, &found, &mut Outside { sys, facts })
+    let search = Search {
+        alloc,
+        prefixes: &found,
+    };
+    sources_found(&search, names, &mut Outside { sys, facts })
 }

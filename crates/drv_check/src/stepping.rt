@@ -12,7 +12,7 @@ ghost use Rattle.std.specs.Prelude.{◌≡◌, ◌<◌, ◌++◌, IfOk, IfSome, 
 use crate::bytes::{blanks_before, following};
 use crate::findings::{Checking, Finding, Note, Spot, add_note};
 use crate::including::inclusion_in;
-use crate::opening::{OpenFile, open};
+use crate::opening::{FilePiece, Nesting, OpenFile, Search, open};
 use crate::pieces::Piece;
 use crate::pointing::point;
 use crate::warning::{Mark, marks_of};
@@ -131,36 +131,30 @@ fn change<S: System>(
 /// Checks a piece: it changes the set, or opens a file. `levels` more files may be nested.
 #[tactic(auto, using(crate::proofs::PieceSteps::steps_in, crate::proofs::PieceSteps::steps_on))]
 pub(crate) fn step<S: System>(
-    alloc: Global,
+    search: &Search<'_>,
     checking: &mut Checking,
     levels: usize,
-    file: &OpenFile,
-    piece: &Piece,
-    prefixes: &Prefixes,
+    here: &FilePiece<'_>,
     outside: &mut Outside<'_, S>,
 ) -> Result<Option<OpenFile>, AllocError>
     ensures asks { Asked S.events outside.old outside.new }
     ensures steps { (F : Facts) → Extends outside.new.facts.now F
-        → IfOk result (λ next. step F prefixes.now levels checking.old file.now piece.now
-        ≡ Is (checking.new, next)) }
+        → IfOk result (λ next. step F search.now.prefixes.now levels checking.old
+        here.now.file.now here.now.piece.now ≡ Is (checking.new, next)) }
     ensures within { IfOk result (λ next. IfSome next (λ _. 0 < levels)) }
 {
-    match inclusion_in(alloc, piece.text.as_bytes())? {
+    let text = here.piece.text.as_bytes();
+    match inclusion_in(search.alloc, text)? {
         Some(inclusion) => {
-            let spot = spot_in(file, piece, blanks_before(piece.text.as_bytes()));
-            open(
-                alloc,
-                checking,
+            let nesting = Nesting {
+                from: Some(spot_in(here.file, here.piece, blanks_before(text))),
                 levels,
-                Some(spot),
-                &inclusion,
-                prefixes,
-                outside,
-            )
+            };
+            open(search, checking, nesting, &inclusion, outside)
         }
         None => {
-            warn(alloc, checking, file, piece)?;
-            change(checking, file, piece, prefixes, outside)?;
+            warn(search.alloc, checking, here.file, here.piece)?;
+            change(checking, here.file, here.piece, search.prefixes, outside)?;
             Ok(None)
         }
     }

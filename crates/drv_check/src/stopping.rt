@@ -10,12 +10,11 @@ ghost use Rattle.std.specs.Prelude.{◌≡◌, IfOk};
 use crate::checking::{MOST_LEVELS, is_fault};
 use crate::findings::{Checking, MOST_FILES};
 use crate::including::Inclusion;
-use crate::opening::{OpenFile, open};
+use crate::opening::{FilePiece, Nesting, OpenFile, Search, open};
 use crate::stepping::step;
-use drv_search::Prefixes;
 use drv_system::{Outside, System};
 use drv_words::Word;
-use std::alloc::{AllocError, Global};
+use std::alloc::AllocError;
 
 /// Whether a fault was found.
 fn is_refused(checking: &Checking) -> bool
@@ -30,27 +29,27 @@ fn is_refused(checking: &Checking) -> bool
 
 /// Checks an open file up to its first fault. Within it `levels` more files may be nested.
 fn check_file_until<S: System>(
-    alloc: Global,
+    search: &Search<'_>,
     checking: &mut Checking,
     levels: usize,
     file: &OpenFile,
-    prefixes: &Prefixes,
     outside: &mut Outside<'_, S>,
 ) -> Result<(), AllocError>
     ensures asks { Asked S.events outside.old outside.new }
     ensures checks { (F : Facts) → Extends outside.new.facts.now F
-        → IfOk result (λ _. file_until F prefixes.now levels checking.old file.now
+        → IfOk result (λ _. file_until F search.now.prefixes.now levels checking.old file.now
         ≡ Is checking.new) }
 {
     for piece in file.pieces.as_slice() {
         if is_refused(checking) {
             return Ok(());
         }
-        let next = step(alloc, checking, levels, file, piece, prefixes, outside)?;
+        let here = FilePiece { file, piece };
+        let next = step(search, checking, levels, &here, outside)?;
         let Some(inner) = next else {
             continue;
         };
-        check_file_until(alloc, checking, levels - 1, &inner, prefixes, outside)?;
+        check_file_until(search, checking, levels - 1, &inner, outside)?;
     }
     Ok(())
 }
@@ -58,15 +57,14 @@ fn check_file_until<S: System>(
 /// Checks a file of the call up to its first fault.
 #[tactic(auto, using(drv_system::proofs::AskedCalls::asked_further))]
 fn check_called_until<S: System>(
-    alloc: Global,
+    search: &Search<'_>,
     checking: &mut Checking,
     name: &Word,
-    prefixes: &Prefixes,
     outside: &mut Outside<'_, S>,
 ) -> Result<(), AllocError>
     ensures asks { Asked S.events outside.old outside.new }
     ensures checks { (F : Facts) → Extends outside.new.facts.now F
-        → IfOk result (λ _. called_until F prefixes.now checking.old name.now
+        → IfOk result (λ _. called_until F search.now.prefixes.now checking.old name.now
         ≡ Is checking.new) }
 {
     checking.files = MOST_FILES;
@@ -74,18 +72,12 @@ fn check_called_until<S: System>(
         may_miss: false,
         file: name.clone()?,
     };
-    match open(
-        alloc,
-        checking,
-        MOST_LEVELS,
-        None,
-        &inclusion,
-        prefixes,
-        outside,
-    )? {
-        Some(file) => {
-            check_file_until(alloc, checking, MOST_LEVELS - 1, &file, prefixes, outside)
-        }
+    let nesting = Nesting {
+        from: None,
+        levels: MOST_LEVELS,
+    };
+    match open(search, checking, nesting, &inclusion, outside)? {
+        Some(file) => check_file_until(search, checking, MOST_LEVELS - 1, &file, outside),
         None => Ok(()),
     }
 }
@@ -94,21 +86,20 @@ fn check_called_until<S: System>(
 /// them, and nothing after that.
 #[tactic(auto, using(drv_system::proofs::AskedCalls::asked_further))]
 pub(crate) fn check_until<S: System>(
-    alloc: Global,
+    search: &Search<'_>,
     checking: &mut Checking,
     names: &[Word],
-    prefixes: &Prefixes,
     outside: &mut Outside<'_, S>,
 ) -> Result<(), AllocError>
     ensures asks { Asked S.events outside.old outside.new }
     ensures checks { (F : Facts) → Extends outside.new.facts.now F
-        → IfOk result (λ _. all_until F prefixes.now checking.old names.now ≡ Is checking.new) }
+        → IfOk result (λ _. all_until F search.now.prefixes.now checking.old names.now ≡ Is checking.new) }
 {
     for name in names {
         if is_refused(checking) {
             return Ok(());
         }
-        check_called_until(alloc, checking, name, prefixes, outside)?;
+        check_called_until(search, checking, name, outside)?;
     }
     Ok(())
 }

@@ -15,7 +15,7 @@ use crate::reading::{folders_given, specs_given};
 use crate::running::DriverLine;
 use crate::stop::Stop;
 use crate::wording::told_refusal;
-use drv_check::fault_note;
+use drv_check::{SpecFiles, fault_note};
 use drv_run::{Ending, Refusal};
 use drv_specs::suffixes;
 use drv_system::{Outside, System};
@@ -34,7 +34,8 @@ fn note_over<S: System>(
         fault_note F suffixes folders.now names.now ≡ Is note) }
 {
     let set = suffixes(alloc)?;
-    fault_note(alloc, set, folders, names, outside.sys, outside.facts)
+    let files = SpecFiles { folders, names };
+    fault_note(alloc, set, &files, outside.sys, outside.facts)
 }
 
 /// Where the spec files of a line of the driver are refused, as a note.

@@ -8,7 +8,7 @@ ghost use Rattle.gdrv.specs.Notes.{NotesPlace};
 ghost use Rattle.std.specs.Prelude.{IfOk};
 
 use drv_args::Settings;
-use drv_check::fault_note;
+use drv_check::{SpecFiles, fault_note};
 use drv_specs::builtin;
 use drv_system::{FactTable, System};
 use drv_words::Word;
@@ -32,5 +32,5 @@ pub fn place_noted<S: System>(
     let set = builtin(alloc)?;
     let folders = settings.prefixes.as_slice();
     let names = settings.specs.as_slice();
-    fault_note(alloc, set, folders, names, sys, facts)
+    fault_note(alloc, set, &SpecFiles { folders, names }, sys, facts)
 }

@@ -9,7 +9,7 @@ use Rattle.std.proofs.Common.{ap}
 pub loop-piece-init : goal.loop-piece-init
 loop-piece-init g t c = record {
   asks = asked_none c.args.outside.now;
-  rest = λ F e. begins F c.args.prefixes.now c.args.levels c.args.checking.now c.args.file.now;
+  rest = λ F e. begins F c.args.search.now.prefixes.now c.args.levels c.args.checking.now c.args.file.now;
 }
 
 pub returns-in_err-next-clause-asks : goal.returns-in_err-next-clause-asks
@@ -23,11 +23,11 @@ pub loop-piece-preserved : goal.loop-piece-preserved
 loop-piece-preserved g t c = record {
   asks = asked_further c.loop-piece.invariant.asks (asked_further c.step.ensures.asks c.check_file.ensures.asks);
   rest = λ F e.
-      piece_gone F c.args.prefixes.now c.args.levels c.loop-piece.checking c.args.file.now c.as_slice-piece-items.result.now
+      piece_gone F c.args.search.now.prefixes.now c.args.levels c.loop-piece.checking c.args.file.now c.as_slice-piece-items.result.now
       c.loop-piece.piece-index c.piece-item.result c.step.new.checking c.check_file.new.checking c.in_ok-next.next
-      (file_checked F c.args.prefixes.now c.args.levels c.args.checking.now c.args.file.now) c.as_slice-piece-items.ensures
+      (file_checked F c.args.search.now.prefixes.now c.args.levels c.args.checking.now c.args.file.now) c.as_slice-piece-items.ensures
       c.loop-piece-test.true c.piece-item.is (c.in_ok-next.ensures.steps F (extends_before c.check_file.ensures.asks e))
-      (enters F c.args.prefixes.now c.args.levels c.step.new.checking c.check_file.new.checking c.in_ok-next.next c.in-Some.inner
+      (enters F c.args.search.now.prefixes.now c.args.levels c.step.new.checking c.check_file.new.checking c.in_ok-next.next c.in-Some.inner
       c.in-Some.is c.in_ok-next.ensures.within (c.in_ok-check_file.ensures.checks F e))
       (c.loop-piece.invariant.rest F (extends_before c.step.ensures.asks (extends_before c.check_file.ensures.asks e)));
 }
@@ -36,10 +36,10 @@ pub loop-piece-preserved-in_default : goal.loop-piece-preserved-in_default
 loop-piece-preserved-in_default g t c = record {
   asks = asked_further c.loop-piece.invariant.asks c.step.ensures.asks;
   rest = λ F e.
-      piece_gone F c.args.prefixes.now c.args.levels c.loop-piece.checking c.args.file.now c.as_slice-piece-items.result.now
+      piece_gone F c.args.search.now.prefixes.now c.args.levels c.loop-piece.checking c.args.file.now c.as_slice-piece-items.result.now
       c.loop-piece.piece-index c.piece-item.result c.step.new.checking c.step.new.checking c.in_ok-next.next
-      (file_checked F c.args.prefixes.now c.args.levels c.args.checking.now c.args.file.now) c.as_slice-piece-items.ensures
+      (file_checked F c.args.search.now.prefixes.now c.args.levels c.args.checking.now c.args.file.now) c.as_slice-piece-items.ensures
       c.loop-piece-test.true c.piece-item.is (c.in_ok-next.ensures.steps F e)
-      (ap (entered (enters_at F c.args.prefixes.now c.args.levels) c.step.new.checking) c.in_default.is)
+      (ap (entered (enters_at F c.args.search.now.prefixes.now c.args.levels) c.step.new.checking) c.in_default.is)
       (c.loop-piece.invariant.rest F (extends_before c.step.ensures.asks e));
 }

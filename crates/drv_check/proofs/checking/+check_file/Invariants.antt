@@ -11,8 +11,9 @@ abbrev pub invariant-loop-piece : goal.invariant-loop-piece
 invariant-loop-piece g l = record {
   asks : Asked g.S.System.events l.fn.outside l.outside;
   rest : (F : Facts) → Extends l.outside.facts.now F
-      → pieces_checked F l.prefixes l.levels (enters_at F l.prefixes l.levels) l.checking l.file (drop l.piece-index l.file.pieces)
-      ≡ file_checked F l.prefixes l.levels l.fn.checking l.file;
+      → pieces_checked F l.search.prefixes.now l.levels (enters_at F l.search.prefixes.now l.levels) l.checking l.file (drop l.piece-index
+      l.file.pieces)
+      ≡ file_checked F l.search.prefixes.now l.levels l.fn.checking l.file;
 }
 
 abbrev pub decreases-check_file : goal.decreases-check_file

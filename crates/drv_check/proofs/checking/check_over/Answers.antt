@@ -6,7 +6,7 @@ use Rattle.drv_system.proofs.AskedCalls.{extends_before}
 
 pub returns-clause-checks : goal.returns-clause-checks
 returns-clause-checks g c F e =
-    over_checked F c.args.prefixes.now c.args.over.now c.args.names.now c.in_ok-checking.checking c.check_all.new.checking
+    over_checked F c.args.search.now.prefixes.now c.args.over.now c.args.names.now c.in_ok-checking.checking c.check_all.new.checking
     c.judge.new.checking
     c.len-first.result (c.in_ok-checking.ensures.checks F (extends_before c.check_all.ensures.asks e)) c.len-first.ensures
     (c.in_ok-check_all.ensures.checks F e) c.in_ok-judge.ensures

@@ -14,5 +14,5 @@ returns-clause-asks g c = let asks = asks_then c.new.ensures.asks c.note_along.e
 pub returns-clause-note : goal.returns-clause-note
 returns-clause-note g c F e =
     let known : Extends c.note_along.new.outside.facts.now F = search rules in
-    notes_files F c.in_ok-prefixes.prefixes c.args.set c.args.names.now c.args.folders.now c.note_along.result
+    notes_files F c.in_ok-prefixes.prefixes c.args.set c.args.files.now.names.now c.args.files.now.folders.now c.note_along.result
     (c.in_ok-prefixes.ensures.prefixes F (extends_before c.note_along.ensures.asks known)) (c.note_along.ensures.note F known)

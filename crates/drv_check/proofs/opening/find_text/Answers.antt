@@ -18,5 +18,6 @@ returns-clause-asks g c = record { asks = asks_then c.find_file.ensures.asks c.r
 
 pub returns-clause-finds : goal.returns-clause-finds
 returns-clause-finds g c F e =
-    found_is F c.read.new.self c.args.prefixes.now c.args.inclusion.now c.in_ok-path.path c.read_answer-answer.result.now c.in_ok-text.text
+    found_is F c.read.new.self c.args.search.now.prefixes.now c.args.inclusion.now c.in_ok-path.path c.read_answer-answer.result.now
+    c.in_ok-text.text
     (c.in_ok-path.ensures.path F (extends_then (asks_extends c.read.ensures.asks) e)) e c.read_answer-answer.ensures c.in_ok-text.ensures

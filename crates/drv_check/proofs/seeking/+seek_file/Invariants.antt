@@ -12,7 +12,8 @@ abbrev pub invariant-loop-piece : goal.invariant-loop-piece
 invariant-loop-piece g l = record {
   asks : Asked g.S.System.events l.fn.outside l.outside;
   rest : (F : Facts) → Extends l.outside.facts.now F → IsFile l.file
-      → Goes l.fn.checking l.checking (λ c. file_checked F l.prefixes l.levels c l.file) (pieces_left F l.prefixes l.levels l.file l.piece-index);
+      → Goes l.fn.checking l.checking (λ c. file_checked F l.search.prefixes.now l.levels c l.file) (pieces_left F l.search.prefixes.now
+      l.levels l.file l.piece-index);
 }
 
 abbrev pub decreases-seek_file : goal.decreases-seek_file

@@ -13,13 +13,13 @@ pub loop-name-preserved : goal.loop-name-preserved
 loop-name-preserved g c = record {
   asks = asked_further c.loop-name.invariant.asks c.seek_called.ensures.asks;
   rest = λ F e.
-      name_sought F c.args.prefixes.now c.args.checking.now c.loop-name.checking c.seek_called.new.checking c.args.names.now
-      c.loop-name.name-index c.name-item.result (λ x. all_called F c.args.prefixes.now x c.args.names.now)
+      name_sought F c.args.search.now.prefixes.now c.args.checking.now c.loop-name.checking c.seek_called.new.checking c.args.names.now
+      c.loop-name.name-index c.name-item.result (λ x. all_called F c.args.search.now.prefixes.now x c.args.names.now)
       c.loop-name-test.true c.name-item.is (c.in_ok-seek_called.ensures.seeks F e)
       (c.loop-name.invariant.rest F (extends_before c.seek_called.ensures.asks e));
 }
 
 pub returns-clause-seeks : goal.returns-clause-seeks
 returns-clause-seeks g c F e =
-    names_sought F c.args.prefixes.now c.args.checking.now c.loop-name.checking c.args.names.now c.loop-name.name-index
-    (λ x. all_called F c.args.prefixes.now x c.args.names.now) c.loop-name-test.false (c.loop-name.invariant.rest F e)
+    names_sought F c.args.search.now.prefixes.now c.args.checking.now c.loop-name.checking c.args.names.now c.loop-name.name-index
+    (λ x. all_called F c.args.search.now.prefixes.now x c.args.names.now) c.loop-name-test.false (c.loop-name.invariant.rest F e)

@@ -12,5 +12,6 @@ abbrev pub invariant-loop-name : goal.invariant-loop-name
 invariant-loop-name g l = record {
   asks : Asked g.S.System.events l.fn.outside l.outside;
   rest : (F : Facts) → Extends l.outside.facts.now F
-      → Goes l.fn.checking l.checking (λ c. all_called F l.prefixes c l.names) (λ c. all_called F l.prefixes c (drop l.name-index l.names));
+      → Goes l.fn.checking l.checking (λ c. all_called F l.search.prefixes.now c l.names) (λ c. all_called F l.search.prefixes.now c (drop
+      l.name-index l.names));
 }

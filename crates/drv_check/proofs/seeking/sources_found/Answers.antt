@@ -5,5 +5,5 @@ use Rattle.drv_check.proofs.seeking.sources_found.Goals as goal
 
 pub returns-clause-opens : goal.returns-clause-opens
 returns-clause-opens g c F e =
-    sources_sought F c.args.prefixes.now c.unchecked_over-checking.result c.seek_all.new.checking c.empty.result c.args.names.now
+    sources_sought F c.args.search.now.prefixes.now c.unchecked_over-checking.result c.seek_all.new.checking c.empty.result c.args.names.now
     c.unchecked_over-checking.ensures (c.in_ok-seek_all.ensures.seeks F e)

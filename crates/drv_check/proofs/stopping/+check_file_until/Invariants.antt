@@ -11,8 +11,9 @@ abbrev pub invariant-loop-piece : goal.invariant-loop-piece
 invariant-loop-piece g l = record {
   asks : Asked g.S.System.events l.fn.outside l.outside;
   rest : (F : Facts) → Extends l.outside.facts.now F
-      → pieces_until F l.prefixes l.levels (enters_until F l.prefixes l.levels) l.checking l.file (drop l.piece-index l.file.pieces)
-      ≡ file_until F l.prefixes l.levels l.fn.checking l.file;
+      → pieces_until F l.search.prefixes.now l.levels (enters_until F l.search.prefixes.now l.levels) l.checking l.file (drop
+      l.piece-index l.file.pieces)
+      ≡ file_until F l.search.prefixes.now l.levels l.fn.checking l.file;
 }
 
 abbrev pub decreases-check_file_until : goal.decreases-check_file_until

@@ -10,9 +10,9 @@ use Rattle.std.proofs.Common.{◌∙◌, None, ap, false, sym}
 
 pub returns-in-Some-clause-checks : goal.returns-in-Some-clause-checks
 returns-in-Some-clause-checks g c F e =
-    called_in_until F c.args.prefixes.now c.args.checking.now c.open.new.checking c.args.name.now c.in-Some.file
+    called_in_until F c.args.search.now.prefixes.now c.args.checking.now c.open.new.checking c.args.name.now c.in-Some.file
     c.check_file_until.new.checking c.check_file_until.result
-    (ap (λ n. opened F c.args.prefixes.now most_levels (record c.args.checking.now { files = most_files }) None
+    (ap (λ n. opened F c.args.search.now.prefixes.now most_levels (record c.args.checking.now { files = most_files }) None
     (record { may_miss = false; file = n }))
     (sym c.in_ok-clone.ensures.cases)
     ∙ c.in_ok-file.ensures.opens F (extends_before c.check_file_until.ensures.asks e)

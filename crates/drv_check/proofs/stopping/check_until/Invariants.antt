@@ -11,5 +11,5 @@ abbrev pub invariant-loop-name : goal.invariant-loop-name
 invariant-loop-name g l = record {
   asks : Asked g.S.System.events l.fn.outside l.outside;
   rest : (F : Facts) → Extends l.outside.facts.now F
-      → all_until F l.prefixes l.checking (drop l.name-index l.names) ≡ all_until F l.prefixes l.fn.checking l.names;
+      → all_until F l.search.prefixes.now l.checking (drop l.name-index l.names) ≡ all_until F l.search.prefixes.now l.fn.checking l.names;
 }
