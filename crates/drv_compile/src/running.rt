@@ -14,6 +14,7 @@ ghost use Rattle.std.specs.Prelude.{◌≤◌, IfOk, MatchResult};
 
 use crate::sources::refuse_several;
 use drv_args::{ArgsFault, Item, Line, Settings, line_of};
+use drv_plan::Specified;
 use drv_run::{Ending, Work, load_specs, work_of};
 use drv_specs::{SpecSet, SpecsFault, suffixes};
 use drv_system::{Outside, System};
@@ -73,7 +74,8 @@ fn line_work<S: System>(
         (λ ending. IsUnworked F line.now set.now seed ending) }
 {
     refuse_several(alloc, set, line)?;
-    let work = work_of(alloc, line, set, seed, outside.sys, outside.facts)?;
+    let given = Specified { line, set, seed };
+    let work = work_of(alloc, &given, outside.sys, outside.facts)?;
     Ok(work)
 }
 

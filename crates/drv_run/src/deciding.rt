@@ -10,23 +10,25 @@ ghost use Rattle.drv_plan.specs.declared.fault.PlanFault.TheVariants as plan_fau
 ghost use Rattle.drv_run.specs.Calls.{IsWindow};
 ghost use Rattle.drv_run.specs.Drives.{Comes, IsApart, files_loaded, specs_of, specs_over, work_of};
 ghost use Rattle.drv_run.specs.Code.Deciding.{ComesOfLine};
+ghost use Rattle.drv_search.specs.Search.{prefixes_of};
 ghost use Rattle.drv_specs.specs.declared.fault.SpecsFault.TheVariants as specs_fault;
 ghost use Rattle.drv_system.specs.Asking.{Asks, Extends};
 ghost use Rattle.drv_system.specs.Code.Asked.{Asked};
 ghost use Rattle.drv_system.specs.Facts.{Facts};
 ghost use Rattle.drv_system.specs.Gives.{GivesKnown};
-ghost use Rattle.std.specs.Prelude.{◌≢◌, IfErr};
+ghost use Rattle.drv_system.specs.Known.{Is};
+ghost use Rattle.std.specs.Prelude.{◌≡◌, ◌≢◌, IfErr, IfOk};
 
 use crate::ending::Ending;
 use crate::reading::line_of_args;
 use crate::work::{Work, work_with};
 use drv_args::{Line, Settings};
-use drv_plan::{PlanFault, plan};
+use drv_plan::{PlanFault, Specified, plan_along};
 use drv_search::Prefixes;
 use drv_specs::{SpecSet, SpecsFault, builtin};
 use drv_system::{FactTable, Outside, System};
 use drv_words::{Listing, Word};
-use std::alloc::Global;
+use std::alloc::{AllocError, Global};
 
 /// A set with files of specs loaded, in their order. No copy of it is made.
 #[tactic(auto, using(drv_system::proofs::AskedCalls::asked_further))]
@@ -75,18 +77,61 @@ pub fn load_specs<S: System>(
     )
 }
 
-/// The specs of a line: the built-in ones, and what the files of `-specs=` make of them.
-fn specs_of<S: System>(
+/// The prefixes of a line's `-B`.
+fn prefixes_of<S: System>(
     alloc: Global,
     settings: &Settings,
+    outside: &mut Outside<'_, S>,
+) -> Result<Prefixes, AllocError>
+    ensures asks { Asked S.events outside.old outside.new }
+    ensures prefixes { (F : Facts) → Extends outside.new.facts.now F
+        → IfOk result (λ prefixes. prefixes_of F settings.now.prefixes ≡ Is prefixes) }
+{
+    Prefixes::new(
+        alloc,
+        settings.prefixes.as_slice(),
+        outside.sys,
+        outside.facts,
+    )
+}
+
+/// The specs of a line, along the prefixes of its `-B`: the built-in ones, and what the files of
+/// `-specs=` make of them.
+fn specs_along<S: System>(
+    alloc: Global,
+    settings: &Settings,
+    prefixes: &Prefixes,
     outside: &mut Outside<'_, S>,
 ) -> Result<SpecSet, SpecsFault>
     ensures asks { Asked S.events outside.old outside.new }
     ensures loads { (F : Facts) → Extends outside.new.facts.now F
+        → prefixes_of F settings.now.prefixes ≡ Is prefixes.now
         → GivesKnown specs_fault.Memory (λ set. set) result (specs_of F settings.now) }
 {
     let set = builtin(alloc)?;
-    load_specs(alloc, set, settings, outside.sys, outside.facts)
+    load_files(set, settings.specs.as_slice(), prefixes, outside)
+}
+
+/// What a line with these specs asks for, along the prefixes of its `-B`.
+fn work_along<S: System>(
+    alloc: Global,
+    given: &Specified<'_>,
+    prefixes: &Prefixes,
+    outside: &mut Outside<'_, S>,
+) -> Result<Work, PlanFault>
+    requires { IsWindow given.now.line.now.settings.jobs }
+    ensures asks { Asked S.events outside.old outside.new }
+    ensures works { (F : Facts) → Extends outside.new.facts.now F
+        → prefixes_of F given.now.line.now.settings.prefixes ≡ Is prefixes.now
+        → GivesKnown plan_fault.Memory (λ work. work) result
+        (work_of F given.now.line.now given.now.set.now given.now.seed) }
+    ensures apart { IfErr result (λ fault. fault ≢ PlanFault.Machine machine_fault.Memory) }
+{
+    if given.line.settings.dump {
+        return Ok(Work::Dump(given.set.dump()?));
+    }
+    let plan = plan_along(alloc, given, prefixes, outside.sys, outside.facts)?;
+    Ok(work_with(&given.line.settings, plan))
 }
 
 /// What a line with these specs asks for: their dump, or its plan with what is done with it (GCC
@@ -95,30 +140,27 @@ fn specs_of<S: System>(
 ///
 /// # Errors
 /// The refusal of the plan.
+#[tactic(auto, using(drv_system::proofs::AskedCalls::asked_further))]
 pub fn work_of<S: System>(
     alloc: Global,
-    line: &Line,
-    set: &SpecSet,
-    seed: u32,
+    given: &Specified<'_>,
     sys: &mut S,
     facts: &mut FactTable,
 ) -> Result<Work, PlanFault>
-    requires { IsWindow line.now.settings.jobs }
+    requires { IsWindow given.now.line.now.settings.jobs }
     ensures asks { Asks (S.events sys.old) (S.events sys.new) facts.old facts.new }
     ensures works { (F : Facts) → Extends facts.new F
         → GivesKnown plan_fault.Memory (λ work. work) result
-        (work_of F line.now set.now seed) }
+        (work_of F given.now.line.now given.now.set.now given.now.seed) }
     ensures apart { IfErr result (λ fault. fault ≢ PlanFault.Machine machine_fault.Memory) }
 {
-    if line.settings.dump {
-        return Ok(Work::Dump(set.dump()?));
-    }
-    let plan = plan(alloc, line, set, seed, sys, facts)?;
-    Ok(work_with(&line.settings, plan))
+    let outside = &mut Outside { sys, facts };
+    let prefixes = prefixes_of(alloc, &given.line.settings, outside)?;
+    work_along(alloc, given, &prefixes, outside)
 }
 
-/// What a line asks for: its spec files are loaded first. It asks the system only where the table
-/// has no answer.
+/// What a line asks for: its spec files are loaded first. The prefixes of its `-B` are found once.
+/// It asks the system only where the table has no answer.
 ///
 /// # Errors
 /// The first refusal: of a spec file, or of the plan.
@@ -134,8 +176,14 @@ pub(crate) fn work_of_line<S: System>(
     ensures comes { (F : Facts) → Extends outside.new.facts.now F → ComesOfLine F line.now seed result }
     ensures apart { IfErr result (λ ending. IsApart ending) }
 {
-    let set = specs_of(alloc, &line.settings, outside)?;
-    let work = work_of(alloc, line, &set, seed, outside.sys, outside.facts)?;
+    let prefixes = prefixes_of(alloc, &line.settings, outside)?;
+    let set = specs_along(alloc, &line.settings, &prefixes, outside)?;
+    let given = Specified {
+        line,
+        set: &set,
+        seed,
+    };
+    let work = work_along(alloc, &given, &prefixes, outside)?;
     Ok(work)
 }
 

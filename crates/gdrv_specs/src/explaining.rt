@@ -16,6 +16,7 @@ use crate::differing::{changes_of, dumps_of};
 use crate::outcome::Outcome;
 use crate::switches::set_of;
 use drv_args::{Line, Settings};
+use drv_plan::Specified;
 use drv_run::{Ending, Work, line_of_call, refusal_text, status_of, work_of};
 use drv_specs::SpecSet;
 use drv_system::{FactTable, System};
@@ -85,7 +86,7 @@ pub(crate) fn work_with<S: System>(
     ensures comes { (F : Facts) → Extends facts.new F
         → ComesOfSpecs (work_given F line.now set.now seed) result }
 {
-    match work_of(alloc, line, set, seed, sys, facts) {
+    match work_of(alloc, &Specified { line, set, seed }, sys, facts) {
         Ok(work) => Ok(work),
         Err(fault) => Err(Ending::from(fault)),
     }

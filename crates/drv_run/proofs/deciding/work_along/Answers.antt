@@ -1,0 +1,31 @@
+use Rattle.drv_plan.specs.declared.fault.PlanFault.TheVariants as plan_fault
+use Rattle.drv_run.proofs.Files.{refusal_given}
+use Rattle.drv_run.proofs.Steps.{work_dumped, work_planned, work_refused}
+use Rattle.drv_run.proofs.deciding.work_along.Goals as goal
+use Rattle.drv_run.specs.Drives.{work_of}
+use Rattle.std.proofs.Common.{refl}
+
+-- work_along (src/deciding.rt). What a line with these specs asks for, along the prefixes of its `-B`.
+
+pub returns-then-given-clause-works : goal.returns-then-given-clause-works
+returns-then-given-clause-works g c F e known =
+    work_dumped F c.args.given.now.line.now c.args.given.now.set.now c.args.given.now.seed c.in_ok-dump.field-0 c.if-given.true
+    c.in_ok-dump.ensures.text
+
+pub returns-in_err-plan-clause-works : goal.returns-in_err-plan-clause-works
+returns-in_err-plan-clause-works g c F e known =
+    refusal_given plan_fault.Memory c.in_err-plan.field-0.0 c.from_residual-in_err-plan.result _
+    (work_of F c.args.given.now.line.now c.args.given.now.set.now c.args.given.now.seed) c.from_residual-in_err-plan.ensures.1
+    (work_refused F c.args.given.now.line.now c.args.given.now.set.now c.args.given.now.seed c.in_err-plan.field-0.0 c.if-given.false
+    (c.in_err-plan.ensures.plans F e known))
+
+pub returns-clause-works : goal.returns-clause-works
+returns-clause-works g c F e known =
+    work_planned F c.args.given.now.line.now c.args.given.now.set.now c.args.given.now.seed c.in_ok-plan.plan c.work_with.result
+    c.if-given.false (c.in_ok-plan.ensures.plans F e known) c.work_with.ensures
+
+pub returns-in_err-plan-clause-asks : goal.returns-in_err-plan-clause-asks
+returns-in_err-plan-clause-asks g c = record { asks = c.plan_along.ensures.asks; same_sys = refl; same_facts = refl }
+
+pub returns-clause-asks : goal.returns-clause-asks
+returns-clause-asks g c = record { asks = c.plan_along.ensures.asks; same_sys = refl; same_facts = refl }
