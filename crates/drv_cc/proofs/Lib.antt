@@ -2,6 +2,7 @@ mod Again
 mod Counts
 mod Cuts
 mod Folders
+mod GivenAnswers
 mod Groups
 mod Left
 mod Lines

@@ -1,14 +1,10 @@
 //! A line whose spec files give it options.
 
-ghost use Rattle.drv_args.specs.declared.option_table.Effect.TheVariants as added;
 ghost use Rattle.drv_cc.specs.Items.{items_of};
 ghost use Rattle.drv_cc.specs.Kept.{effective_items};
-ghost use Rattle.drv_cc.specs.LineItems.{alone};
-ghost use Rattle.drv_cc.specs.SelfSpecs.{added_with, answer_with, front_with, given_items};
-ghost use Rattle.drv_cc.specs.SelfSpecs.{given_refusals, given_refused, is_late, items_with};
-ghost use Rattle.drv_cc.specs.SelfSpecs.{refused_or_run_with, run_with, seen_items, visible_items};
-ghost use Rattle.drv_cc.specs.SelfSpecs.{switches_with};
-ghost use Rattle.drv_cc.specs.SelfSpecs.{thread_item};
+ghost use Rattle.drv_cc.specs.SelfSpecs.{added_with, front_with, given_items, given_refusals};
+ghost use Rattle.drv_cc.specs.SelfSpecs.{given_refused, is_late, items_with, live, run_with};
+ghost use Rattle.drv_cc.specs.SelfSpecs.{seen_items, switches_with, thread_item, visible_items};
 ghost use Rattle.std.specs.List.{filter};
 ghost use Rattle.std.specs.Prelude.{◌≡◌, ◌++◌, IfOk, None, OnOk, map, not};
 
@@ -183,58 +179,40 @@ fn given_refusals(
     Ok(refused)
 }
 
-/// Adds the words that are switches and follow the folders of programs. `all` are the items and
-/// those that are given.
-fn add_words_with(
+/// The words that gcc's driver adds as switches: `all` are the items with those that are given.
+fn switches_with(
     alloc: Global,
     around: &Surroundings,
     items: &[Item],
     given: &[Item],
     all: &[Item],
-    words: &mut Listing<Word>,
-) -> Result<(), AllocError>
-    ensures { OnOk result (words.new
-        ≡ words.old ++ switches_with around.now items.now given.now all.now) }
-{
-    add_first_words(alloc, around, all, words)?;
-    add_side_words(alloc, items, words)?;
-    add_levels_with(alloc, items, given, words)?;
-    add_check_words(alloc, all, words)
-}
-
-/// Adds the switches that follow the folders of programs.
-fn add_switches_with(
-    alloc: Global,
-    around: &Surroundings,
-    items: &[Item],
-    given: &[Item],
-    all: &[Item],
-    made: &mut Listing<drv_args::Item>,
-) -> Result<(), AllocError>
-    ensures { OnOk result (made.new ≡ made.old
-        ++ map (alone added.Switch) (switches_with around.now items.now given.now all.now)) }
+) -> Result<Listing<Word>, AllocError>
+    ensures { IfOk result (λ words. words ≡ switches_with around.now items.now given.now all.now) }
 {
     let mut words = Listing::new(alloc);
-    add_words_with(alloc, around, items, given, all, &mut words)?;
-    add_switches(alloc, words.as_slice(), made)
+    add_first_words(alloc, around, all, &mut words)?;
+    add_side_words(alloc, items, &mut words)?;
+    add_levels_with(alloc, items, given, &mut words)?;
+    add_check_words(alloc, all, &mut words)?;
+    Ok(words)
 }
 
-/// Adds all that gcc's driver adds.
-fn add_with(
+/// All that gcc's driver adds: `all` are the items with those that are given.
+fn added_with(
     alloc: Global,
     around: &Surroundings,
     items: &[Item],
     given: &[Item],
-    made: &mut Listing<drv_args::Item>,
-) -> Result<(), AllocError>
-    ensures { OnOk result (made.new ≡ made.old
-        ++ added_with around.now items.now given.now (items.now ++ given.now)) }
+    all: &[Item],
+) -> Result<Listing<drv_args::Item>, AllocError>
+    ensures { IfOk result (λ added. added ≡ added_with around.now items.now given.now all.now) }
 {
-    let all = both(alloc, items, given)?;
-    let all = all.as_slice();
-    add_program_items(alloc, around, all, made)?;
-    add_switches_with(alloc, around, items, given, all, made)?;
-    add_pipe(alloc, all, made)
+    let mut added = Listing::new(alloc);
+    add_program_items(alloc, around, all, &mut added)?;
+    let words = switches_with(alloc, around, items, given, all)?;
+    add_switches(alloc, words.as_slice(), &mut added)?;
+    add_pipe(alloc, all, &mut added)?;
+    Ok(added)
 }
 
 /// The items of the driver's line for a line with these items, of whose switches these are left,
@@ -248,11 +226,14 @@ fn items_with(
 ) -> Result<Listing<drv_args::Item>, AllocError>
     ensures { IfOk result (λ made. made ≡ items_with around.now items.now left.now given.now) }
 {
-    let mut made = Listing::new(alloc);
-    add_kept(left, &mut made)?;
-    add_kept(given, &mut made)?;
-    add_with(alloc, around, items, given, &mut made)?;
-    Ok(made)
+    let mut kept = Listing::new(alloc);
+    add_kept(left, &mut kept)?;
+    add_kept(given, &mut kept)?;
+    let all = both(alloc, items, given)?;
+    let added = added_with(alloc, around, items, given, all.as_slice())?;
+    let mut made = kept.into_vec();
+    made.append(&mut added.into_vec())?;
+    Ok(Listing::from_vec(made))
 }
 
 /// The call of a line with such items.
@@ -278,72 +259,57 @@ fn run_with(
     }))
 }
 
-/// The answer to a line with such items.
-fn refused_or_run_with(
+/// The call of a line with these items, where these words of its switches are left.
+fn run_left(
     alloc: Global,
-    named: &[Word],
-    around: &Surroundings,
-    items: &[Item],
-    left: &[Item],
-    given: &[Item],
-) -> Result<Answer, AllocError>
-    ensures { IfOk result (λ answer. answer ≡ refused_or_run_with
-        around.now items.now left.now given.now (given_refusals named.now given.now)) }
-{
-    let refused = given_refusals(alloc, named, given)?;
-    if refused.is_empty() {
-        run_with(alloc, around, items, left, given)
-    } else {
-        Ok(Answer::Refuse(refused))
-    }
-}
-
-/// The answer to a line with these items, where these words of its switches are left.
-fn answer_with(
-    alloc: Global,
-    named: &[Word],
     around: &Surroundings,
     items: &[Item],
     left: &[Word],
     given: &[Item],
 ) -> Result<Answer, AllocError>
     ensures { IfOk result (λ answer. answer
-        ≡ answer_with named.now around.now items.now left.now given.now) }
+        ≡ run_with around.now items.now (live (visible_items items.now) left.now) given.now) }
 {
     let all = visible_items(alloc, items)?;
     let live = live(alloc, all.as_slice(), left)?;
-    refused_or_run_with(alloc, named, around, items, live.as_slice(), given)
+    run_with(alloc, around, items, live.as_slice(), given)
+}
+
+/// The names of options beyond the table.
+#[derive(Clone, Copy)]
+pub struct OptionNames<'a> {
+    /// Those that are known of the compiler, as text of lines.
+    pub known: &'a [u8],
+    /// Those that spec files of the line name.
+    pub named: &'a [Word],
 }
 
 /// The answer to a line of `gcc` whose spec files give it options (GCC, "gcc.cc", do_self_spec):
 /// refusals, or items of the driver's line. The line itself is one that `front` has items for.
 ///
-/// The other arguments are those of `front`. Those switches of the line stay that the text did not
-/// hide. What the text gives follows them, each word as on the line; a class is pruned among these
-/// alone. Side files have the names that the line gives them, and the levels of debugging and the
-/// checks go on from those of the line.
+/// The names, and the other arguments, are those of `front`. Those switches of the line stay that
+/// the text did not hide. What the text gives follows them, each word as on the line; a class is
+/// pruned among these alone. Side files have the names that the line gives them, and the levels of
+/// debugging and the checks go on from those of the line.
 ///
 /// # Errors
 /// An allocation was refused.
 pub fn front_with(
     alloc: Global,
-    known: &[u8],
-    named: &[Word],
+    names: &OptionNames<'_>,
     around: &Surroundings,
     args: &[Word],
     given: &Given,
 ) -> Result<Answer, AllocError>
     ensures { IfOk result (λ answer. answer
-        ≡ front_with known.now named.now around.now args.now given.now) }
+        ≡ front_with names.now.known.now names.now.named.now around.now args.now given.now) }
 {
-    let items = line_kept(alloc, known, args)?;
-    let more = given_items(alloc, known, given.words.as_slice())?;
-    answer_with(
-        alloc,
-        named,
-        around,
-        items.as_slice(),
-        given.left.as_slice(),
-        more.as_slice(),
-    )
+    let items = line_kept(alloc, names.known, args)?;
+    let more = given_items(alloc, names.known, given.words.as_slice())?;
+    let refused = given_refusals(alloc, names.named, more.as_slice())?;
+    if !refused.is_empty() {
+        return Ok(Answer::Refuse(refused));
+    }
+    let left = given.left.as_slice();
+    run_left(alloc, around, items.as_slice(), left, more.as_slice())
 }

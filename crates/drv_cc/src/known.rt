@@ -62,7 +62,7 @@ pub(crate) fn line_end(text: &[u8], at: usize) -> usize
 }
 
 /// The first sixteen bytes of a text that has fewer, filled up with ends of lines.
-fn filled(text: &[u8]) -> [u8; 16] {
+fn first_bytes(text: &[u8]) -> [u8; 16] {
     let mut bytes = [b'\n'; 16];
     if let Some(front) = bytes.get_mut(..text.len()) {
         front.copy_from_slice(text);
@@ -75,7 +75,7 @@ fn filled(text: &[u8]) -> [u8; 16] {
 pub(crate) fn beginning_of(text: &[u8]) -> u128 {
     match text.split_first_chunk::<16>() {
         Some((front, _)) => u128::from_be_bytes(*front),
-        None => u128::from_be_bytes(filled(text)),
+        None => u128::from_be_bytes(first_bytes(text)),
     }
 }
 

@@ -46,7 +46,7 @@ mod wrapping;
 
 pub use answer::{Answer, Call, Stages, Surroundings, Variable};
 pub use fronting::front;
-pub use giving::{Given, front_with, seen_items};
+pub use giving::{Given, OptionNames, front_with, seen_items};
 pub use items::Items;
 pub use laws::last_level_counts;
 pub use refusal::Refusal;

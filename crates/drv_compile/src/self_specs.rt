@@ -28,7 +28,7 @@ use crate::reading::{items_names, specs_given};
 use crate::request::GccLine;
 use crate::running::{DriverLine, line_given, specs_of};
 use drv_args::{Item, Line, Settings};
-use drv_cc::{Answer, Given, Refusal, front_with, seen_items};
+use drv_cc::{Answer, Given, OptionNames, Refusal, front_with, seen_items};
 use drv_machine::{Context, Outcome, run};
 use drv_plan::PlanFault;
 use drv_run::Ending;
@@ -241,8 +241,12 @@ fn answer_with<S: System>(
     let options = known_names(alloc, chain.specs.as_bytes(), outside)?;
     let named = items_names(alloc, first.items.as_slice(), outside)?;
     let names = options_or(&options, chain.known.as_bytes());
+    let beyond = OptionNames {
+        known: names,
+        named: named.as_slice(),
+    };
     let args = line.given.words.as_slice();
-    front_with(alloc, names, named.as_slice(), &chain.around, args, given)
+    front_with(alloc, &beyond, &chain.around, args, given)
 }
 
 /// The answer to a line by what its spec files gave; none where it stays as it is.
