@@ -105,57 +105,62 @@ fn work_leaf<S: System>(
     }
 }
 
-/// Runs the item at a place of the text that is walked, which is this token, and opens no part and
-/// has no alternatives.
+/// An item of a text: its place, and its token.
+#[derive(Clone, Copy)]
+pub(crate) struct Item {
+    pub(crate) at: usize,
+    pub(crate) token: Token,
+}
+
+/// Runs an item of the text that is walked that opens no part and has no alternatives.
 #[inline(never)]
 #[tactic(auto, using(drv_system::proofs::AskedCalls::asked_none))]
 pub(crate) fn work_item<S: System>(
     context: &Context<'_>,
-    at: usize,
-    token: Token,
+    item: Item,
     walk: &Walk<'_>,
     machine: &mut Machine,
     outside: &mut Outside<'_, S>,
 ) -> Result<(), MachineFault>
-    requires in_list { at < length (tokens_of (tree_of walk.now.text.now)) }
-    requires spans { Spans walk.now.text.now (at + 1) token.next }
-    requires no_choice { token.kind ≡ kinds.Choose → ⊥ }
-    requires no_text { token.kind ≡ kinds.NamedText → ⊥ }
-    requires no_builtin { token.kind ≡ kinds.BuiltinText → ⊥ }
-    requires no_failure { token.kind ≡ kinds.FailureFile → ⊥ }
-    requires no_call { token.kind ≡ kinds.Function → ⊥ }
-    requires no_file { token.kind ≡ kinds.ArgumentsFile → ⊥ }
+    requires in_list { item.at < length (tokens_of (tree_of walk.now.text.now)) }
+    requires spans { Spans walk.now.text.now (item.at + 1) item.token.next }
+    requires no_choice { item.token.kind ≡ kinds.Choose → ⊥ }
+    requires no_text { item.token.kind ≡ kinds.NamedText → ⊥ }
+    requires no_builtin { item.token.kind ≡ kinds.BuiltinText → ⊥ }
+    requires no_failure { item.token.kind ≡ kinds.FailureFile → ⊥ }
+    requires no_call { item.token.kind ≡ kinds.Function → ⊥ }
+    requires no_file { item.token.kind ≡ kinds.ArgumentsFile → ⊥ }
     ensures asks { Asked S.events outside.old outside.new }
     ensures does { (n : ℕ) (F : Facts) → Extends outside.new.facts.now F
         → (levels : Levels) (inner : Step (Unit {0}))
-        → Means F context.now walk.now.text.now token.kind (at + 1) token.next levels
+        → Means F context.now walk.now.text.now item.token.kind (item.at + 1) item.token.next levels
         (star_of context.now walk.now.star) inner
-        → Does F context.now n machine.old machine.new result (kind_step F context.now token.kind
-        (label_at (tree_of walk.now.text.now) at) (star_of context.now walk.now.star) inner) }
+        → Does F context.now n machine.old machine.new result (kind_step F context.now item.token.kind
+        (label_at (tree_of walk.now.text.now) item.at) (star_of context.now walk.now.star) inner) }
 {
     let text = walk.text;
-    match token.kind {
-        TokenKind::Plain | TokenKind::Escape => machine.put(text.word(at)),
+    match item.token.kind {
+        TokenKind::Plain | TokenKind::Escape => machine.put(text.word(item.at)),
         TokenKind::Blank => machine.end_word(context, outside),
         TokenKind::Newline => machine.end_line(context, outside),
         TokenKind::Pipe => machine.pipe(context, outside),
         TokenKind::Leaf(leaf) => work_leaf(leaf, context, machine, outside),
         TokenKind::Hide => {
-            hide(text, context, at, machine);
+            hide(text, context, item.at, machine);
             Ok(())
         }
         TokenKind::Emit => {
             let parts = Parts {
-                start: at + 1,
-                end: token.next,
+                start: item.at + 1,
+                end: item.token.next,
             };
             emit(text, context, parts, machine, outside)
         }
         TokenKind::Star => machine.put(star_of(context, walk.star)),
-        TokenKind::TempName(kind) => machine.put_temp(kind, text.word(at), context, outside),
-        TokenKind::AddOption => machine.add_option(text.word(at)),
-        TokenKind::UserError => user_error(machine.alloc(), text.word(at)),
-        TokenKind::Notice => machine.add_notice(text.word(at)),
+        TokenKind::TempName(kind) => machine.put_temp(kind, text.word(item.at), context, outside),
+        TokenKind::AddOption => machine.add_option(text.word(item.at)),
+        TokenKind::UserError => user_error(machine.alloc(), text.word(item.at)),
+        TokenKind::Notice => machine.add_notice(text.word(item.at)),
         TokenKind::NamedText
         | TokenKind::BuiltinText
         | TokenKind::Function

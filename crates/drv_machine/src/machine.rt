@@ -39,7 +39,7 @@ pub(crate) use finishing::outcome_of;
 use indexed::IndexedWords;
 use inside::Inside;
 pub(crate) use marking::{Mark, Marking};
-pub(crate) use naming::{Drawing, Drawn};
+pub(crate) use naming::{Drawing, Drawn, Temporary};
 use smallvec::SmallVec;
 use std::alloc::{AllocError, Global};
 use std::marker::Model;

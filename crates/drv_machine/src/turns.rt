@@ -29,7 +29,7 @@ use crate::calling::open_call;
 use crate::failing::work_failure;
 use crate::filing::work_filed;
 use crate::hits::close_hit;
-use crate::items::work_item;
+use crate::items::{Item, work_item};
 use crate::machine::{Cutter, Machine, Tally};
 use crate::named::open_text;
 use crate::tokens_at::token_at;
@@ -38,35 +38,42 @@ use crate::{Context, MachineFault};
 use drv_syntax::{SpecTree, TokenKind};
 use drv_system::{Outside, System};
 
+/// A test whose function's arguments end.
+#[derive(Drop)]
+struct EndedTest {
+    asking: Asking,
+    /// What was cut before the arguments.
+    outer: Box<Cutter>,
+}
+
 /// The arguments of the function that a test asks end: the test is judged by what the function
 /// says. It is out of line, so that the end of other parts has no room for that.
 #[inline(never)]
 fn close_test<S: System>(
     context: &Context<'_>,
-    asking: Asking,
-    outer: Box<Cutter>,
+    test: EndedTest,
     walk: &mut Walk<'_>,
     machine: &mut Machine,
     outside: &mut Outside<'_, S>,
 ) -> Result<(), MachineFault>
     requires { (items : tree.Items) × (kept : Kept)
-        × AskFits walk.old.text.now asking items kept }
+        × AskFits walk.old.text.now test.asking items kept }
     ensures asks { Asked S.events outside.old outside.new }
     ensures does { (n : ℕ) (F : Facts) → Extends outside.new.facts.now F
         → (items : tree.Items) (kept : Kept) (given : Answer (Unit {0} × running.Machine))
-        → AskFits walk.old.text.now asking items kept
-        → After F context.now walk.old.text.now walk.old asking.end (λ levels star s.
-        after_arguments F context.now outer.value (asked_on F context.now items kept levels star)
+        → AskFits walk.old.text.now test.asking items kept
+        → After F context.now walk.old.text.now walk.old test.asking.end (λ levels star s.
+        after_arguments F context.now test.outer.value (asked_on F context.now items kept levels star)
         s) (reached n machine.old) given
         → Went F context.now walk.new.text.now walk.new (reached n machine.new) given result }
     ensures lighter { OnOk result (weight (length context.now.switches) walk.new.frames
         < weight (length context.now.switches) walk.old.frames +
-        (length context.now.switches + 1 + (asking.end - asking.test))) }
+        (length context.now.switches + 1 + (test.asking.end - test.asking.test))) }
 {
     let text = walk.text;
-    let name = text.word(asking.test);
-    let holds = machine.has_value(name, outer, context, outside)?;
-    answer(context, asking, holds, walk, machine)
+    let name = text.word(test.asking.test);
+    let holds = machine.has_value(name, test.outer, context, outside)?;
+    answer(context, test.asking, holds, walk, machine)
 }
 
 /// The innermost open part ends: what it was opened for is done, or done once more, in the part
@@ -124,14 +131,11 @@ fn close<'w, S: System>(
             machine.put_value(text.word(at), outer, context, outside)
         }
         Opened::Asks { places, outer } => {
-            close_test(
-                context,
-                Box::into_inner(places),
+            let test = EndedTest {
+                asking: Box::into_inner(places),
                 outer,
-                walk,
-                machine,
-                outside,
-            )
+            };
+            close_test(context, test, walk, machine, outside)
         }
     }
 }
@@ -254,7 +258,13 @@ fn turn<'w, S: System>(
         }
         _ => {
             walk.at = next;
-            work_item(context, at, token, walk, &mut tally.machine, outside)
+            work_item(
+                context,
+                Item { at, token },
+                walk,
+                &mut tally.machine,
+                outside,
+            )
         }
     }
 }

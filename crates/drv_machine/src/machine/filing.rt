@@ -10,7 +10,7 @@ ghost use Rattle.drv_system.specs.Facts.{Facts};
 ghost use Rattle.drv_system.specs.Gives.{GivesKnown};
 ghost use Rattle.std.specs.Prelude.{◌≡◌, length, ℕ};
 
-use super::{CutLine, Drawing, Machine};
+use super::{CutLine, Drawing, Machine, Temporary};
 use crate::{Context, MachineFault};
 use drv_system::{Outside, System};
 use drv_words::{Listing, Word, respond_text};
@@ -81,7 +81,12 @@ impl Machine {
             return Ok(());
         }
         let contents = respond_text(self.alloc, words)?;
-        let path = self.draw_with(contents, Drawing::Anew, b".args", context, outside)?;
+        let temporary = Temporary {
+            drawing: Drawing::Anew,
+            suffix: b".args",
+            contents,
+        };
+        let path = self.draw_with(temporary, context, outside)?;
         self.put(b"@")?;
         self.put_broken(path.as_bytes(), context, outside)
     }

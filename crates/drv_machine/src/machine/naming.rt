@@ -53,6 +53,16 @@ pub(crate) struct Drawn {
     pub(crate) contents: Word,
 }
 
+/// A temporary that a name is drawn for.
+#[derive(Drop)]
+pub(crate) struct Temporary<'a> {
+    /// How the name is drawn.
+    pub(crate) drawing: Drawing,
+    pub(crate) suffix: &'a [u8],
+    /// What its file holds.
+    pub(crate) contents: Word,
+}
+
 /// A digit of a number in base 16.
 fn hex_digit(digit: u8) -> u8
     requires { digit < 16 }
@@ -146,29 +156,29 @@ pub(super) fn last_drawn<'a>(
 }
 
 impl Machine {
-    /// A name is drawn so for a file with these contents, and it is a temporary of the job.
+    /// A name is drawn for a temporary, which is one of the job.
     pub(crate) fn draw_with<S: System>(
         &mut self,
-        contents: Word,
-        drawing: Drawing,
-        suffix: &[u8],
+        temporary: Temporary<'_>,
         context: &Context<'_>,
         outside: &mut Outside<'_, S>,
     ) -> Result<Word, MachineFault>
         ensures asks { Asked S.events outside.old outside.new }
         ensures does { (n : ℕ) (F : Facts) → Extends outside.new.facts.now F
             → GivesKnown MachineFault.Memory (λ path. (path, reached n self.new)) result
-            (run F context.now (reached n self.old) (draw_with F context.now contents drawing suffix.now)) }
+            (run F context.now (reached n self.old) (draw_with F context.now
+            temporary.entry.contents temporary.entry.drawing temporary.entry.suffix.now)) }
     {
+        let suffix = temporary.suffix;
         let path = temp_name(self.alloc, context.seed(), self.number, suffix, outside)?;
         let Some(next) = self.number.checked_add(1) else {
             return Err(MachineFault::Memory);
         };
         self.drawn.push(Drawn {
-            drawing,
+            drawing: temporary.drawing,
             suffix: Word::from_bytes(self.alloc, suffix)?,
             path: path.clone()?,
-            contents,
+            contents: temporary.contents,
         })?;
         self.number = next;
         Ok(path)
@@ -187,7 +197,12 @@ impl Machine {
             → GivesKnown MachineFault.Memory (λ path. (path, reached n self.new)) result
             (run F context.now (reached n self.old) (draw F context.now drawing suffix.now)) }
     {
-        self.draw_with(Word::empty(self.alloc), drawing, suffix, context, outside)
+        let temporary = Temporary {
+            drawing,
+            suffix,
+            contents: Word::empty(self.alloc),
+        };
+        self.draw_with(temporary, context, outside)
     }
 
     /// The last name that was drawn so with this suffix, or else a new one.

@@ -10,20 +10,20 @@ use Rattle.drv_machine.specs.declared.fault.MachineFault.TheVariants.{UserError}
 use Rattle.drv_syntax.specs.declared.token.TokenKind.TheVariants as kinds
 use Rattle.std.proofs.Common.{[], ◌∷◌, ◌++◌, ap, arith, sym, ◌+◌, ◌∙◌}
 
--- work_item (src/items.rt). Runs the item at a place of the text that is walked, which is this token, and opens no part and has no
--- alternatives.
+-- work_item (src/items.rt). Runs an item of the text that is walked that opens no part and has no alternatives.
 
 -- the place after the item's token is a number of the machine
 pub overflow_add-parts : goal.overflow_add-parts
-overflow_add-parts g c = let later = stand_grows _ _ (c.args.at + 1) c.requires.spans.nodes c.args.token.next c.requires.spans.stands
+overflow_add-parts g c = let later = stand_grows _ _ (c.args.item.at + 1) c.requires.spans.nodes c.args.item.token.next
+    c.requires.spans.stands
     in
     grind (arith)
 
 -- %< or %>: the switches that the pattern hits are hidden
 pub returns-in-Hide-clause-does : goal.returns-in-Hide-clause-does
 returns-in-Hide-clause-does g c n F e levels inner means =
-    sym (by_kind F c.args.context.now (reached n c.args.machine.now) c.args.token.kind kinds.Hide c.args.walk.now.text.now
-    c.args.at (star_of c.args.context.now c.args.walk.now.star) inner c.in-Hide.is) ∙ c.hide.ensures n F
+    sym (by_kind F c.args.context.now (reached n c.args.machine.now) c.args.item.token.kind kinds.Hide c.args.walk.now.text.now
+    c.args.item.at (star_of c.args.context.now c.args.walk.now.star) inner c.in-Hide.is) ∙ c.hide.ensures n F
 
 -- %x: the option is added
 pub returns-in-AddOption-clause-does : goal.returns-in-AddOption-clause-does
@@ -31,8 +31,8 @@ returns-in-AddOption-clause-does g c n F e levels inner means =
     gives_as (reached n c.add_option.new.self) c.add_option.result _ _
     (ap (λ word. run F c.args.context.now (reached n c.args.machine.now) (change
     (λ (w : World). record w { options = added word w.options })))
-    c.word-in-AddOption.ensures ∙ by_kind F c.args.context.now (reached n c.args.machine.now) c.args.token.kind kinds.AddOption
-    c.args.walk.now.text.now c.args.at (star_of c.args.context.now c.args.walk.now.star) inner c.in-AddOption.is)
+    c.word-in-AddOption.ensures ∙ by_kind F c.args.context.now (reached n c.args.machine.now) c.args.item.token.kind kinds.AddOption
+    c.args.walk.now.text.now c.args.item.at (star_of c.args.context.now c.args.walk.now.star) inner c.in-AddOption.is)
     (c.add_option.ensures n F c.args.context.now)
 
 -- %n: the notice is added
@@ -41,8 +41,8 @@ returns-in-Notice-clause-does g c n F e levels inner means =
     gives_as (reached n c.add_notice.new.self) c.add_notice.result _ _
     (ap (λ word. run F c.args.context.now (reached n c.args.machine.now) (change
     (λ (w : World). record w { notices = w.notices ++ noted word ∷ [] })))
-    c.word-in-Notice.ensures ∙ by_kind F c.args.context.now (reached n c.args.machine.now) c.args.token.kind kinds.Notice
-    c.args.walk.now.text.now c.args.at (star_of c.args.context.now c.args.walk.now.star) inner c.in-Notice.is)
+    c.word-in-Notice.ensures ∙ by_kind F c.args.context.now (reached n c.args.machine.now) c.args.item.token.kind kinds.Notice
+    c.args.walk.now.text.now c.args.item.at (star_of c.args.context.now c.args.walk.now.star) inner c.in-Notice.is)
     (c.add_notice.ensures n F c.args.context.now)
 
 -- %e: the text is refused
@@ -50,6 +50,6 @@ pub returns-in-UserError-clause-does : goal.returns-in-UserError-clause-does
 returns-in-UserError-clause-does g c n F e levels inner means =
     gives_as (reached n c.args.machine.now) c.user_error.result _ _
     (ap (λ word. run F c.args.context.now {X = Unit {0}} (reached n c.args.machine.now) (refuse (UserError word)))
-    c.word-in-UserError.ensures ∙ by_kind F c.args.context.now (reached n c.args.machine.now) c.args.token.kind kinds.UserError
-    c.args.walk.now.text.now c.args.at (star_of c.args.context.now c.args.walk.now.star) inner c.in-UserError.is)
+    c.word-in-UserError.ensures ∙ by_kind F c.args.context.now (reached n c.args.machine.now) c.args.item.token.kind kinds.UserError
+    c.args.walk.now.text.now c.args.item.at (star_of c.args.context.now c.args.walk.now.star) inner c.in-UserError.is)
     (c.user_error.ensures F c.args.context.now (reached n c.args.machine.now))

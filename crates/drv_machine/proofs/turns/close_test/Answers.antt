@@ -18,9 +18,10 @@ pub returns-in_err-holds-clause-does : goal.returns-in_err-holds-clause-does
 returns-in_err-holds-clause-does g c n F e items kept given fits a =
     let fault = c.in_err-holds.field-0.0 in
     let failed =
-    answer_refused F c.args.context.now c.args.walk.now.text.now c.args.walk.now items kept given c.args.asking.end c.args.outer.value
+    answer_refused F c.args.context.now c.args.walk.now.text.now c.args.walk.now items kept given c.args.test.asking.end
+    c.args.test.outer.value
     (reached n c.args.machine.now) a fault
-    (subst (λ (name : List ℕ). (fault ≡ Memory) ⊎ (after_arguments F c.args.context.now c.args.outer.value
+    (subst (λ (name : List ℕ). (fault ≡ Memory) ⊎ (after_arguments F c.args.context.now c.args.test.outer.value
     (has_value F c.args.context.now name) (reached n c.args.machine.now) ≡ Is (Err fault))) (c.word-name.ensures ∙ fits.name_is)
     (c.in_err-holds.ensures.does n F e)) in
     let f = c.from_residual.ensures in
@@ -30,8 +31,8 @@ returns-in_err-holds-clause-does g c n F e items kept given fits a =
 pub returns-clause-does : goal.returns-clause-does
 returns-clause-does g c n F e items kept given fits a =
     c.answer.ensures.does n F items kept given fits
-    (answered F c.args.context.now c.args.walk.now.text.now c.args.walk.now items kept given c.args.asking.end c.args.outer.value
+    (answered F c.args.context.now c.args.walk.now.text.now c.args.walk.now items kept given c.args.test.asking.end c.args.test.outer.value
     (reached n c.args.machine.now) a c.in_ok-holds.holds (reached n c.has_value.new.self)
-    (subst (λ (name : List ℕ). after_arguments F c.args.context.now c.args.outer.value
+    (subst (λ (name : List ℕ). after_arguments F c.args.context.now c.args.test.outer.value
     (has_value F c.args.context.now name) (reached n c.args.machine.now) ≡ Is (Ok (c.in_ok-holds.holds, (reached n c.has_value.new.self))))
     (c.word-name.ensures ∙ fits.name_is) (c.in_ok-holds.ensures.does n F e)))
