@@ -1,7 +1,7 @@
 use Rattle.drv_check.specs.Code.OwnTrees.{tree_or_none}
 use Rattle.drv_check.specs.Namings.{headed_namings, token_namings, tokens_namings, tree_namings}
 use Rattle.drv_check.specs.Origins.{text_spots}
-use Rattle.drv_check.specs.OwnTexts.{own_text, own_tree, tree_after}
+use Rattle.drv_check.specs.OwnTexts.{is_run, own_text, own_tree, tree_after}
 use Rattle.drv_check.specs.declared.findings.Source.{Source}
 use Rattle.drv_check.specs.declared.findings.Spot.{Spot}
 use Rattle.drv_check.specs.declared.naming.Naming.{Naming}
@@ -9,10 +9,10 @@ use Rattle.drv_check.specs.declared.opening.OpenFile.{OpenFile}
 use Rattle.drv_specs.specs.Directives.{is_colon}
 use Rattle.drv_syntax.specs.Labels.{label_at}
 use Rattle.drv_syntax.specs.Parsed.{tree_of}
-use Rattle.drv_syntax.specs.Tree.{Items}
+use Rattle.drv_syntax.specs.Tree.{Items, none}
 use Rattle.drv_syntax.specs.declared.token.Token.{Token}
-use Rattle.std.proofs.Common.{◌≡◌, ◌∙◌, ◌<◌, ◌+◌, ◌++◌, ◌∷◌, Err, List, None, Ok, OnOk, Option, Result, Some, ap, append_assoc, drop}
-use Rattle.std.proofs.Common.{length, sym, ℕ}
+use Rattle.std.proofs.Common.{◌≡◌, ◌∙◌, ◌<◌, ◌+◌, ◌++◌, ◌∷◌, Bool, Err, List, None, Ok, OnOk, Option, Result, Some, [], ap, append_assoc, drop}
+use Rattle.std.proofs.Common.{false, length, refl, sym, true, ℕ}
 use Rattle.std.proofs.lemmas.List.{append-nil, drop_more}
 use Rattle.std.specs.List.{position}
 use Rattle.std.specs.Prelude.{get_or}
@@ -38,16 +38,32 @@ pub none_named : (head text : List ℕ) (spots : List Spot) (own : Option (List 
 none_named head text spots own before has is =
     sym (append-nil before) ∙ ap (λ t. before ++ tree_namings head text spots t) (sym (ap tree_or_none has) ∙ is)
 
--- For the exit of the code that reads the text of a piece.
-pub of_text : {X E : Type 0} (sources : List Source) (files : List OpenFile) (head own text : List ℕ) (spots : List Spot)
-    (before after : List Naming) (result : Result X E) → own ≡ text → spots ≡ text_spots sources files head own
-    → OnOk result (after ≡ before ++ tree_namings head own spots (tree_of own))
+-- For the exit of the code that reads a text that is run.
+pub of_spots : {X E : Type 0} (sources : List Source) (files : List OpenFile) (head text : List ℕ) (spots : List Spot)
+    (before after : List Naming) (result : Result X E) → spots ≡ text_spots sources files head text
+    → OnOk result (after ≡ before ++ tree_namings head text spots (tree_of text))
+    → OnOk result (after ≡ before ++ tree_namings head text (text_spots sources files head text) (tree_of text))
+of_spots sources files head text spots before after (Err e) found grows = grows
+of_spots sources files head text spots before after (Ok x) found grows =
+    grows ∙ ap (λ ss. before ++ tree_namings head text ss (tree_of text)) found
+
+-- For the exit where the text of a piece is run.
+pub of_run : {X E : Type 0} (sources : List Source) (files : List OpenFile) (head own text : List ℕ) (before after : List Naming)
+    (result : Result X E) → own ≡ text → is_run head own ≡ true
+    → OnOk result (after ≡ before ++ tree_namings head own (text_spots sources files head own) (tree_of own))
     → OnOk result (after ≡ before ++ headed_namings sources files (Some head) text (tree_of text))
-of_text sources files head own text spots before after (Err e) same found grows = grows
-of_text sources files head own text spots before after (Ok x) same found grows =
-    grows
-    ∙ ap (λ ss. before ++ tree_namings head own ss (tree_of own)) found
-    ∙ ap (λ t. before ++ tree_namings head t (text_spots sources files head t) (tree_of t)) same
+of_run sources files head own text before after (Err e) same runs grows = grows
+of_run sources files head own text before after (Ok x) same runs grows =
+    let is : before ++ headed_namings sources files (Some head) own (tree_of own)
+    ≡ before ++ tree_namings head own (text_spots sources files head own) (tree_of own) = rw runs refl in
+    grows ∙ sym is ∙ ap (λ t. before ++ headed_namings sources files (Some head) t (tree_of t)) same
+
+-- For the exit where it isn't.
+pub of_other : (sources : List Source) (files : List OpenFile) (head own text : List ℕ) (before : List Naming) → own ≡ text
+    → is_run head own ≡ false → before ≡ before ++ headed_namings sources files (Some head) text (tree_of text)
+of_other sources files head own text before same runs =
+    let is : before ++ headed_namings sources files (Some head) own (tree_of own) ≡ before ++ [] = rw runs refl in
+    sym (append-nil before) ∙ sym is ∙ ap (λ t. before ++ headed_namings sources files (Some head) t (tree_of t)) same
 
 -- For the exit where the piece has a colon.
 pub of_colon : {X E : Type 0} (sources : List Source) (files : List OpenFile) (head text : List ℕ) (at : ℕ) (colon : Option ℕ)
@@ -58,10 +74,19 @@ of_colon sources files head text at colon before after (Err e) is found grows = 
 of_colon sources files head text at colon before after (Ok x) is found grows =
     grows ∙ ap (λ c. before ++ headed_namings sources files (Some head) (own_text text) (tree_after c text)) (sym is ∙ found)
 
+-- a text without a tree names nothing, be it run or not
+no_names : (sources : List Source) (files : List OpenFile) (head text : List ℕ) → headed_namings sources files (Some head) text none ≡ []
+no_names sources files head text = by (is_run head text) refl
+  where
+    by : (runs : Bool) → is_run head text ≡ runs → headed_namings sources files (Some head) text none ≡ []
+    by true is = rw is refl
+    by false is = rw is refl
+
 -- For the exit where it has none, and so no text.
 pub of_none : (sources : List Source) (files : List OpenFile) (head text : List ℕ) (colon : Option ℕ) (before : List Naming)
     → colon ≡ None → colon ≡ position is_colon text
     → before ≡ before ++ headed_namings sources files (Some head) (own_text text) (own_tree text)
 of_none sources files head text colon before is found =
     sym (append-nil before)
+    ∙ ap (λ ns. before ++ ns) (sym (no_names sources files head (own_text text)))
     ∙ ap (λ c. before ++ headed_namings sources files (Some head) (own_text text) (tree_after c text)) (sym is ∙ found)

@@ -1,7 +1,7 @@
 use Rattle.drv_check.specs.Checks.{open_file}
 use Rattle.drv_check.specs.Code.Heads.{has_colon_at, is_colon_there}
 use Rattle.drv_check.specs.Origins.{agree, byte_at, files_from, files_spots, head_before, is_byte, pieces_spots, puts_head, sources_found}
-use Rattle.drv_check.specs.Origins.{sources_of, spots_by}
+use Rattle.drv_check.specs.Origins.{if_agreed, last_spots, sources_of, spots_by, text_spots}
 use Rattle.drv_check.specs.Points.{front_length}
 use Rattle.drv_check.specs.Whole.{is_key}
 use Rattle.drv_check.specs.declared.findings.Source.{Source}
@@ -14,11 +14,11 @@ use Rattle.drv_specs.specs.Blanks.{is_blank}
 use Rattle.drv_specs.specs.Directives.{is_colon}
 use Rattle.drv_system.specs.Facts.{Facts}
 use Rattle.drv_system.specs.Known.{◌>>=◌, Is}
-use Rattle.std.proofs.Common.{◌≡◌, ◌∙◌, ◌<◌, ◌+◌, ◌++◌, ◌∷◌, Bool, Err, IfOk, List, None, Ok, Option, Result, Some, [], ap, append_assoc}
+use Rattle.std.proofs.Common.{◌≡◌, ◌∙◌, ◌<◌, ◌+◌, ◌-◌, ◌++◌, ◌∷◌, Bool, Err, IfOk, List, None, Ok, Option, Result, Some, [], ap, append_assoc}
 use Rattle.std.proofs.Common.{arith, drop, false, length, refl, sym, true, ℕ}
 use Rattle.std.proofs.lemmas.Bool.Decides.{Decides-eqb}
 use Rattle.std.proofs.lemmas.List.Quantifiers.{position-Some}
-use Rattle.std.proofs.lemmas.List.{drop_more, length-take-le}
+use Rattle.std.proofs.lemmas.List.{drop_all, drop_more, length-take-le}
 use Rattle.std.proofs.lemmas.Option.{slice_get-get_or}
 use Rattle.std.proofs.lemmas.Slice.Eq.{slice_eq-Decides}
 use Rattle.std.specs.Cmp.Lexicographic.{pointwise}
@@ -73,6 +73,13 @@ pub agree_next : (sources : List Source) (spot : Spot) (spots spots' : List Spot
     → agree sources spots bytes ≡ agree sources spots' bytes'
 agree_next sources spot spots spots' byte bytes bytes' cut cut' is =
     ap (λ ss. agree sources ss bytes) cut ∙ ap (λ bs. agree sources (spot ∷ spots') bs) cut' ∙ rw is refl
+
+-- No file puts a byte.
+pub no_files : (sources : List Source) (files : List OpenFile) (head text : List ℕ) → files ≡ []
+    → [] ≡ text_spots sources files head text
+no_files sources files head text is =
+    let none : last_spots [] text ≡ [] = drop_all (0 - length text) [] (omega arith) in
+    sym (ap (λ fs. text_spots sources fs head text) is ∙ ap (if_agreed sources text) none)
 
 -- A line begins with no head that has another size than its own.
 pub other_head : (head : List ℕ) (piece : Piece) (line : List ℕ) → line ≡ drop (front_length is_blank piece.text) piece.text

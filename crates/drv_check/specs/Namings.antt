@@ -1,5 +1,5 @@
 use Rattle.drv_check.specs.Origins.{files_from, head_in, spot_at, text_spots}
-use Rattle.drv_check.specs.OwnTexts.{own_text, own_tree}
+use Rattle.drv_check.specs.OwnTexts.{is_run, own_text, own_tree}
 use Rattle.drv_check.specs.Pieces.{pieces_of}
 use Rattle.drv_check.specs.declared.findings.Source.{Source}
 use Rattle.drv_check.specs.declared.findings.Spot.{Spot}
@@ -17,7 +17,7 @@ use Rattle.drv_syntax.specs.declared.token.Token.{Token}
 use Rattle.drv_syntax.specs.declared.token.TokenKind.TheVariants as kinds
 use Rattle.drv_syntax.specs.declared.token.TokenKind.{TokenKind}
 use Rattle.std.specs.List.{flat_map}
-use Rattle.std.specs.Prelude.{◌+◌, ◌-◌, List, [], ◌∷◌, ◌++◌, None, Option, Some, drop, length, take, ℕ}
+use Rattle.std.specs.Prelude.{◌+◌, ◌-◌, List, [], ◌∷◌, ◌++◌, None, Option, Some, drop, if◌then◌else◌, length, take, ℕ}
 
 -- The parts of a set's texts that name switches (GCC manual, "Spec Files", %{S}, %{S:X} and %<S), each with its place in a file, if a file
 -- put its text.
@@ -71,10 +71,11 @@ tree_namings head text spots items = tokens_namings head text spots items 0 (tok
 
 -- of a text of a set, which is a directive of its dump
 
--- the namings of a text by its head; a directive without one gives no text
+-- the namings of a text by its head, if it is run; a directive without a head gives no text
 abbrev pub headed_namings : List Source → List OpenFile → Option (List ℕ) → List ℕ → Items → List Naming
 headed_namings sources files None text items = []
-headed_namings sources files (Some head) text items = tree_namings head text (text_spots sources files head text) items
+headed_namings sources files (Some head) text items =
+    if is_run head text then tree_namings head text (text_spots sources files head text) items else []
 
 -- the namings of a directive of the dump, with the spots of its bytes in files
 abbrev pub piece_namings : List Source → List OpenFile → Piece → List Naming

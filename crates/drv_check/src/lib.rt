@@ -22,6 +22,7 @@ mod own_text;
 mod pieces;
 mod pointing;
 mod reached;
+mod run_texts;
 mod seeking;
 mod spot_laws;
 mod spots;

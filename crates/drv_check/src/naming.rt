@@ -2,6 +2,7 @@
 
 ghost use Rattle.drv_check.specs.Namings.{deed_of, headed_namings, naming_if, namings_of, piece_namings};
 ghost use Rattle.drv_check.specs.Namings.{test_deed, token_namings, tree_namings, written_part};
+ghost use Rattle.drv_check.specs.Origins.{text_spots};
 ghost use Rattle.drv_check.specs.OwnTexts.{own_text, own_tree};
 ghost use Rattle.drv_syntax.specs.Labels.{label_at};
 ghost use Rattle.drv_syntax.specs.Parsed.{tree_of};
@@ -15,6 +16,7 @@ use crate::origins::{Files, head_in, open_all, spot_at, text_spots};
 use crate::own_text::{own_bytes, tree_of as read_tree};
 use crate::pieces::{Piece, pieces_of};
 use crate::pointing::colon_in;
+use crate::run_texts::is_run;
 use drv_specs::SpecSet;
 use drv_syntax::{SpecTree, TestKind, Token, TokenKind};
 use drv_words::{Listing, Word};
@@ -215,8 +217,32 @@ fn push_text(
     }
 }
 
+/// Adds the parts of a text that is run, where it has this head.
+#[tactic(auto, using(crate::proofs::Namings::of_spots))]
+fn push_run(
+    alloc: Global,
+    namings: &mut Listing<Naming>,
+    files: &Files<'_>,
+    head: &[u8],
+    text: &[u8],
+) -> Result<(), AllocError>
+    ensures { OnOk result
+        (namings.new ≡ namings.old
+        ++ tree_namings head.now text.now
+        (text_spots files.now.sources.now files.now.opened.now head.now text.now)
+        (tree_of text.now)) }
+{
+    let spots = text_spots(alloc, files.sources, files.opened, head, text)?;
+    let text = Spotted {
+        head,
+        text,
+        spots: spots.as_slice(),
+    };
+    push_text(alloc, namings, files.set, &text)
+}
+
 /// Adds the parts of the text of a piece that name switches, where it has this head.
-#[tactic(auto, using(crate::proofs::Namings::of_text))]
+#[tactic(auto, using(crate::proofs::Namings::of_run, crate::proofs::Namings::of_other))]
 fn push_own(
     alloc: Global,
     namings: &mut Listing<Naming>,
@@ -230,13 +256,10 @@ fn push_own(
         (own_text piece.now.text) (tree_of (own_text piece.now.text))) }
 {
     let text = own_bytes(piece.text.as_bytes());
-    let spots = text_spots(alloc, files.sources, files.opened, head, text)?;
-    let text = Spotted {
-        head,
-        text,
-        spots: spots.as_slice(),
-    };
-    push_text(alloc, namings, files.set, &text)
+    if !is_run(head, text) {
+        return Ok(());
+    }
+    push_run(alloc, namings, files, head, text)
 }
 
 /// Adds the parts of the text of a piece that name switches, where it has this head.

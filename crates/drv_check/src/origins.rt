@@ -225,6 +225,7 @@ fn last_spots<'a>(spots: &'a [Spot], text: &[u8]) -> &'a [Spot]
 }
 
 /// The spots of the last bytes of a head's text, which are those of files.
+#[tactic(auto, using(crate::proofs::TextOrigins::no_files))]
 pub(crate) fn text_spots(
     alloc: Global,
     sources: &[Source],
@@ -235,6 +236,9 @@ pub(crate) fn text_spots(
     ensures { IfOk result
         (λ spots. spots.items ≡ text_spots sources.now files.now head.now text.now) }
 {
+    let [_, ..] = files else {
+        return Ok(Vec::new(alloc));
+    };
     let all = files_spots(alloc, head, files, text.len())?;
     let spots = if_agreed(sources, text, last_spots(all.as_slice(), text));
     Vec::from_slice(alloc, spots)

@@ -45,7 +45,7 @@ fn has_name_bytes(name: &[u8]) -> bool
 }
 
 /// Whether a text may be the name of a spec.
-fn is_name(name: &[u8]) -> bool
+pub(crate) fn is_name(name: &[u8]) -> bool
     ensures { result ≡ is_name name.now }
 {
     is_sized(name) && has_name_bytes(name)
