@@ -258,11 +258,10 @@ pub fn copies_in(rt: &HostRuntime, folders: &[Word]) -> Result<Listing<VendorsFi
 }
 
 /// The lines that are compared with each copy.
-const LINES: [&[u8]; 4] = [
+const LINES: [&[u8]; 3] = [
     b"-c x.c -o made -specs=",
     b"-c x.S -o made -specs=",
     b"x.c -o made -specs=",
-    b"x.o -flto -o made -specs=",
 ];
 
 /// The line with a copy that is compared with each option of its texts, and for each library.
