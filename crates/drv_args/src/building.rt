@@ -23,6 +23,14 @@ pub(crate) struct LineBuilder {
     language: Option<Word>,
 }
 
+/// An item whose words are lent: an option with its argument, and what they add.
+#[derive(Clone, Copy)]
+pub(crate) struct LentItem<'a> {
+    pub(crate) effect: Effect,
+    pub(crate) option: &'a [u8],
+    pub(crate) argument: &'a [u8],
+}
+
 /// A word of two parts.
 fn join(alloc: Global, front: &[u8], back: &[u8]) -> Result<Word, AllocError>
     ensures { IfOk result (λ word. word ≡ front.now ++ back.now) }
@@ -296,21 +304,21 @@ impl LineBuilder {
         self.add_name(alloc, option)
     }
 
-    /// Adds an item whose option and argument are one word. The word of a library is copied whole.
+    /// Adds an item whose option and argument are this one word. The word of a library is copied
+    /// whole.
     pub(crate) fn note_whole(
         &mut self,
         alloc: Global,
-        effect: Effect,
         word: &[u8],
-        option: &[u8],
-        argument: &[u8],
+        whole: LentItem<'_>,
     ) -> Result<(), AllocError>
-        requires { option.now ++ argument.now ≡ word.now }
-        ensures { OnOk result (self.new ≡ noted self.old (item effect option.now argument.now)) }
+        requires { whole.option.now ++ whole.argument.now ≡ word.now }
+        ensures { OnOk result (self.new
+            ≡ noted self.old (item whole.entry.effect whole.entry.option.now whole.entry.argument.now)) }
     {
-        match effect {
+        match whole.effect {
             Effect::Library => self.add_input(Input::Library(Word::from_bytes(alloc, word)?)),
-            _ => self.note(alloc, effect, option, argument),
+            effect => self.note(alloc, effect, whole.option, whole.argument),
         }
     }
 

@@ -14,7 +14,7 @@ ghost use Rattle.std.specs.Option.{option_map};
 ghost use Rattle.std.specs.Prelude.{◌≡◌, ◌≤◌, IfOk, IfSome, IsTrue, None, drop, find, length, map};
 ghost use Rattle.std.specs.Prelude.{nat_eq, true};
 
-use crate::building::LineBuilder;
+use crate::building::{LentItem, LineBuilder};
 use crate::jobs::jobs_named;
 use crate::judging::judge;
 use crate::option_table::{Effect, Form, Row, rows_after};
@@ -197,7 +197,12 @@ fn note_words(alloc: Global, builder: &mut LineBuilder, words: &[Word]) -> Resul
                 option,
                 argument,
             } => {
-                builder.note_whole(alloc, effect, bytes, option, argument)?;
+                let whole = LentItem {
+                    effect,
+                    option,
+                    argument,
+                };
+                builder.note_whole(alloc, bytes, whole)?;
                 left = following;
             }
             Start::Switch(option) => {
