@@ -227,10 +227,18 @@ turns_off known word = begins (codes "-Wno-") word && (not (list_any (nat_eq equ
 abbrev pub is_passed_over : List ℕ → Bool
 is_passed_over name = is_among (texts ignored) (positive_form name)
 
--- such an option: by names of options it is taken as it is or is passed over, and without them it is unknown
+-- whether names of options say that this compiler lacks such an option: among those it has a mark
+abbrev pub lacks : List ℕ → List ℕ → Bool
+lacks known name = is_own known (name ++ codes "?")
+
+-- such an option by names: the compiler refuses one that it lacks; it takes another as it is, or that is passed over
+abbrev pub passed_by : List ℕ → List ℕ → List ℕ → Item
+passed_by known word name =
+    if lacks known name then plain Question word else item name [] (if is_own known name then Alone else Nowhere) Switch
+
+-- without names it is unknown
 abbrev pub passed_item : List ℕ → List ℕ → List ℕ → Item
-passed_item known word name =
-    if nat_lt 0 (length known) then item name [] (if is_own known name then Alone else Nowhere) Switch else plain Unknown word
+passed_item known word name = if nat_lt 0 (length known) then passed_by known word name else plain Unknown word
 
 -- A word that no row fits: names that are known beyond the table are taken as they are. An argument that gcc's driver judges makes the line
 -- a question: the compiler refuses it in its own words.

@@ -3,7 +3,7 @@
 ghost use Rattle.drv_cc.specs.Code.Building.{Notes, row_shown, shown, start_shown};
 ghost use Rattle.drv_cc.specs.Items.{begins, beyond, first_row, is_file, is_passed_over, item};
 ghost use Rattle.drv_cc.specs.Items.{items_of, known_item, machine_item, machine_name, meant_option};
-ghost use Rattle.drv_cc.specs.Items.{newer_item, passed_item, plain};
+ghost use Rattle.drv_cc.specs.Items.{lacks, newer_item, passed_item, plain};
 ghost use Rattle.drv_cc.specs.Items.{start_of, start_renamed, with_rest};
 ghost use Rattle.drv_cc.specs.declared.table.Role.TheVariants as lacking;
 ghost use Rattle.drv_cc.specs.declared.table.Role.TheVariants.{Switch};
@@ -135,12 +135,24 @@ fn is_passed_over(name: &[u8]) -> bool
     }
 }
 
+/// Whether names say that the compiler lacks an option.
+fn lacks(alloc: Global, known: &[u8], name: &[u8]) -> Result<bool, AllocError>
+    ensures { IfOk result (λ is. is ≡ lacks known.now name.now) }
+{
+    let mut line = Word::from_bytes(alloc, name)?;
+    line.extend_from_slice(b"?")?;
+    Ok(is_own(known, line.as_bytes()))
+}
+
 /// An option that newer compilers pass over.
 fn passed_item(alloc: Global, known: &[u8], word: &[u8], name: &[u8]) -> Result<Item, AllocError>
     ensures { IfOk result (λ item. item ≡ passed_item known.now word.now name.now) }
 {
     if known.is_empty() {
         return Item::plain(alloc, Role::Unknown, word);
+    }
+    if lacks(alloc, known, name)? {
+        return Item::plain(alloc, Role::Question, word);
     }
     let spelling = if is_own(known, name) {
         Spelling::Alone
