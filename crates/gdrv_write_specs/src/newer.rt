@@ -1,4 +1,5 @@
-//! Options that newer gccs pass over or call by another name: an older one may take them as they are.
+//! Options that newer gccs pass over or call by another name: an older one may take them as they are,
+//! or lack them.
 
 use crate::asking::{ask_words, commands};
 use crate::checking::Pair;
@@ -118,17 +119,31 @@ fn options_of(alloc: Global, entries: &[Word]) -> Result<Listing<Word>, Fault> {
     Ok(options)
 }
 
-/// Those of these entries whose options a gcc takes.
-fn taken_of(pair: Pair<'_>, entries: &[Word]) -> Result<Listing<Word>, Fault> {
+/// Entries, by what a gcc makes of their options.
+#[derive(Drop)]
+struct Sorted {
+    /// Those whose options it takes.
+    taken: Listing<Word>,
+    /// Those whose options it refuses.
+    lacking: Listing<Word>,
+}
+
+/// These entries, by what a gcc makes of their options.
+fn sorted_by(pair: Pair<'_>, entries: &[Word]) -> Result<Sorted, Fault> {
     let alloc = pair.rt.alloc();
     let refused = refused_of(pair, options_of(alloc, entries)?)?;
-    let mut taken = Listing::new(alloc);
+    let mut sorted = Sorted {
+        taken: Listing::new(alloc),
+        lacking: Listing::new(alloc),
+    };
     for entry in entries {
-        if !has_word(refused.as_slice(), parts(entry.as_bytes()).0) {
-            taken.push(entry.clone()?)?;
+        if has_word(refused.as_slice(), parts(entry.as_bytes()).0) {
+            sorted.lacking.push(entry.clone()?)?;
+        } else {
+            sorted.taken.push(entry.clone()?)?;
         }
     }
-    Ok(taken)
+    Ok(sorted)
 }
 
 /// The words of the commands by which a gcc compiles with the options of these entries.
@@ -155,12 +170,10 @@ fn is_own(words: &[Word], entry: &[u8]) -> bool {
     has_word(words, option) || (!name.is_empty() && !has_word(words, name))
 }
 
-/// Adds the options with a sign that a gcc takes as they are, each behind a blank.
-fn add_own(pair: Pair<'_>, sign: Sign, line: &mut Word) -> Result<(), Fault> {
-    let entries = entries(pair.rt.alloc(), sign)?;
-    let taken = taken_of(pair, entries.as_slice())?;
-    let words = words_for(pair, taken.as_slice())?;
-    for entry in taken.as_slice() {
+/// Adds the options of these entries that a gcc takes as they are, each behind a blank.
+fn add_own(pair: Pair<'_>, taken: &[Word], line: &mut Word) -> Result<(), Fault> {
+    let words = words_for(pair, taken)?;
+    for entry in taken {
         if is_own(words.as_slice(), entry.as_bytes()) {
             line.push(b' ')?;
             line.extend_from_slice(parts(entry.as_bytes()).0)?;
@@ -169,12 +182,30 @@ fn add_own(pair: Pair<'_>, sign: Sign, line: &mut Word) -> Result<(), Fault> {
     Ok(())
 }
 
+/// Adds the options of these entries that newer gccs pass over, each behind a blank and with a mark.
+fn add_lacking(lacking: &[Word], line: &mut Word) -> Result<(), Fault> {
+    for entry in lacking {
+        let (option, name) = parts(entry.as_bytes());
+        if name.is_empty() {
+            line.push(b' ')?;
+            line.extend_from_slice(option)?;
+            line.push(b'?')?;
+        }
+    }
+    Ok(())
+}
+
 /// The line of the options that a gcc takes as they are where newer ones pass them over or call them
-/// by another name; no line where there are none.
+/// by another name. Those that it refuses and newer ones pass over are in it too, with a mark. There
+/// is no line where there are none.
 pub fn own_line(pair: Pair<'_>) -> Result<Word, Fault> {
-    let mut line = Word::empty(pair.rt.alloc());
-    add_own(pair, Sign::On, &mut line)?;
-    add_own(pair, Sign::Off, &mut line)?;
+    let alloc = pair.rt.alloc();
+    let mut line = Word::empty(alloc);
+    for sign in [Sign::On, Sign::Off] {
+        let sorted = sorted_by(pair, entries(alloc, sign)?.as_slice())?;
+        add_own(pair, sorted.taken.as_slice(), &mut line)?;
+        add_lacking(sorted.lacking.as_slice(), &mut line)?;
+    }
     if !line.is_empty() {
         line.push(b'\n')?;
     }
