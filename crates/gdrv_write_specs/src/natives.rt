@@ -48,14 +48,62 @@ fn native_name(alloc: Global, number: usize) -> Result<Word, Fault> {
     question_about(alloc, b"native_", Buffer::new().format(number).as_bytes())
 }
 
-/// Writes a spec file of this name that shows what a call gives.
+/// Writes a spec file of this name for the texts of a gcc.
+fn write_specs(asked: Asked<'_>, name: &[u8], specs: &Word) -> Result<(), Fault> {
+    let folder = join(asked.alloc(), &asked.work.lines, b"/")?;
+    write(
+        asked.rt,
+        &join(asked.alloc(), &folder, name)?,
+        specs.as_bytes(),
+    )
+}
+
+/// Adds the command that shows what the text of this name gives, with this beginning of its name.
+fn push_command(specs: &mut Word, beginning: &[u8], name: &Word) -> Result<(), Fault> {
+    specs.extend_from_slice(beginning)?;
+    specs.extend_from_slice(b" %(")?;
+    specs.extend_from_slice(name.as_bytes())?;
+    specs.extend_from_slice(b") PROBE-END\n")?;
+    Ok(())
+}
+
+/// Writes a spec file of this name that shows what a call gives, which is the text of this name.
 fn write_probe(asked: Asked<'_>, name: &Word, call: &Word) -> Result<(), Fault> {
-    let alloc = asked.alloc();
-    let mut body = question_about(alloc, b"*link_command:\nPROBE-V ", call.as_bytes())?;
-    body.extend_from_slice(b" PROBE-END\n\n")?;
-    let folder = join(alloc, &asked.work.lines, b"/")?;
-    let path = join(alloc, &folder, name.as_bytes())?;
-    write(asked.rt, &path, body.as_bytes())
+    let mut specs = question_about(asked.alloc(), b"*", name.as_bytes())?;
+    specs.extend_from_slice(b":\n")?;
+    specs.extend_from_slice(call.as_bytes())?;
+    specs.extend_from_slice(b"\n\n*link_command:\n")?;
+    push_command(&mut specs, b"PROBE-V", name)?;
+    specs.push(b'\n')?;
+    write_specs(asked, name.as_bytes(), &specs)
+}
+
+/// Writes the spec file `natives`. Behind those of all probes it shows what each gives, by a command
+/// with the name of that.
+fn write_all(asked: Asked<'_>, probes: &[Word]) -> Result<(), Fault> {
+    let mut specs = Word::from_bytes(asked.alloc(), b"*link_command:\n")?;
+    for probe in probes {
+        let beginning = question_about(asked.alloc(), b"PROBE-", probe.as_bytes())?;
+        push_command(&mut specs, beginning.as_bytes(), probe)?;
+    }
+    specs.push(b'\n')?;
+    write_specs(asked, b"natives", &specs)
+}
+
+impl<'a> Asked<'a> {
+    /// The commands that show what all probes give: those before one that ends gcc.
+    pub fn all_shown(self, probes: &[Word]) -> Result<Listing<Listing<Word>>, Fault> {
+        if probes.is_empty() {
+            return Ok(Listing::new(self.alloc()));
+        }
+        let mut line = Word::from_bytes(self.alloc(), b"-### x.o -o x")?;
+        for probe in probes {
+            line.extend_from_slice(b" -specs=")?;
+            line.extend_from_slice(probe.as_bytes())?;
+        }
+        line.extend_from_slice(b" -specs=natives")?;
+        self.plan(line.as_bytes())
+    }
 }
 
 /// A dump with the text of this name in the places of a call.
@@ -97,6 +145,7 @@ pub fn with_natives(
     }
     if let Ways::Rows = ways {
         texts = asked.with_devices(texts, &mut probes)?;
+        write_all(asked, probes.as_slice())?;
     }
     Ok((texts, probes))
 }

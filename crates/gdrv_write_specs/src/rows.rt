@@ -104,20 +104,50 @@ fn value_name(alloc: Global, number: usize) -> Result<Word, Fault> {
     Ok(name)
 }
 
-/// Adds a word for each that a function gives.
+/// Adds a word for each that a command shows of what the function of this number gives: those behind
+/// this word.
+fn push_values(
+    alloc: Global,
+    number: usize,
+    shown: &[Word],
+    from: &[u8],
+    words: &mut Listing<Word>,
+) -> Result<(), Fault> {
+    let name = value_name(alloc, number)?;
+    for value in words_between(alloc, shown, from, b"PROBE-END")?.as_slice() {
+        words.push(question_about(alloc, name.as_bytes(), value.as_bytes())?)?;
+    }
+    Ok(())
+}
+
+/// Adds a word for each that the function of this number gives, which is asked by itself.
 fn add_values(
     asked: Asked<'_>,
     number: usize,
     probe: &Word,
     words: &mut Listing<Word>,
 ) -> Result<(), Fault> {
-    let alloc = asked.alloc();
-    let line = question_about(alloc, b"-### x.o -o x -specs=", probe.as_bytes())?;
+    let line = question_about(asked.alloc(), b"-### x.o -o x -specs=", probe.as_bytes())?;
     let planned = asked.plan(line.as_bytes())?;
     let shown = command_named(planned.as_slice(), b"PROBE-V").unwrap_or(&[]);
-    let name = value_name(alloc, number)?;
-    for value in words_between(alloc, shown, b"PROBE-V", b"PROBE-END")?.as_slice() {
-        words.push(question_about(alloc, name.as_bytes(), value.as_bytes())?)?;
+    push_values(asked.alloc(), number, shown, b"PROBE-V", words)
+}
+
+/// Adds a word for each that a function gives. All are asked at once, and those by themselves that
+/// show nothing so, since a function may end gcc.
+fn add_all_values(
+    asked: Asked<'_>,
+    probes: &[Word],
+    words: &mut Listing<Word>,
+) -> Result<(), Fault> {
+    let alloc = asked.alloc();
+    let planned = asked.all_shown(probes)?;
+    for (number, probe) in probes.iter().enumerate() {
+        let from = question_about(alloc, b"PROBE-", probe.as_bytes())?;
+        match command_named(planned.as_slice(), from.as_bytes()) {
+            Some(shown) => push_values(alloc, number, shown, from.as_bytes(), words)?,
+            None => add_values(asked, number, probe, words)?,
+        }
     }
     Ok(())
 }
@@ -133,9 +163,7 @@ pub fn row_of(
         return Ok(None);
     };
     add_folder(asked, folders, naming, &mut words)?;
-    for (number, probe) in probes.iter().enumerate() {
-        add_values(asked, number, probe, &mut words)?;
-    }
+    add_all_values(asked, probes, &mut words)?;
     Ok(Some(Row {
         key: asked.option.clone()?,
         words,
