@@ -2,6 +2,7 @@ use Rattle.drv_args.specs.declared.line.Input.{Input}
 use Rattle.drv_args.specs.declared.line.Line.{Line}
 use Rattle.drv_args.specs.declared.line.Switch.{Switch}
 use Rattle.drv_check.specs.declared.marking.MarkedPart.{MarkedPart}
+use Rattle.drv_match.specs.Matching.{is_named}
 use Rattle.drv_match.specs.Pattern.{Pattern}
 use Rattle.drv_syntax.specs.Labels.{label_at}
 use Rattle.drv_syntax.specs.Outcome.{parsed}
@@ -9,18 +10,19 @@ use Rattle.drv_syntax.specs.Parsed.{tree_in, tree_of}
 use Rattle.drv_syntax.specs.Tree.{Items, none}
 use Rattle.drv_syntax.specs.declared.fault.SyntaxFault.{SyntaxFault}
 use Rattle.drv_syntax.specs.declared.token.Token.{Token}
+use Rattle.drv_why.proofs.SwitchFates.{unlike_begun}
 use Rattle.drv_why.specs.Causes.{Case, behind_groups, case_at, caused, causes_of, given, input_at, input_word, makers, number_told}
-use Rattle.drv_why.specs.Causes.{numbers_told, outer_of, outers_from, outers_of, part_told, source_of, token_told, tokens_told, tree_told}
+use Rattle.drv_why.specs.Causes.{numbers_told, outer_of, outers_from, outers_of, source_of, token_told, tokens_told, tree_told}
+use Rattle.drv_why.specs.Code.Beginning.{begin_alike}
 use Rattle.drv_why.specs.Taken.{fits, is_taken, is_this, with_name, with_names, with_switches}
-use Rattle.drv_why.specs.Walks.{way_to}
 use Rattle.drv_why.specs.declared.outers.Outer.{Outer}
 use Rattle.drv_why.specs.declared.telling.Telling.{Telling}
 use Rattle.drv_why.specs.declared.traces.Trace.{Trace}
 use Rattle.drv_words.specs.Bytes.{hyphen}
 use Rattle.drv_words.specs.declared.plan.Command.{Command}
 use Rattle.drv_words.specs.declared.plan.Job.{Job}
-use Rattle.std.proofs.Common.{◌≡◌, ◌∙◌, ◌<◌, ◌≤◌, ◌+◌, ◌-◌, ◌&&◌, ◌∷◌, ◌++◌, Bool, Err, List, None, Option, Some, [], ap, append_assoc, arith, drop}
-use Rattle.std.proofs.Common.{false, length, refl, sym, true, ℕ}
+use Rattle.std.proofs.Common.{◌≡◌, ◌∙◌, ◌<◌, ◌≤◌, ◌+◌, ◌-◌, ◌&&◌, ◌∷◌, ◌++◌, Bool, Err, List, None, Option, Some, [], ap, append_assoc}
+use Rattle.std.proofs.Common.{arith, drop, false, length, refl, sym, true, ℕ}
 use Rattle.std.proofs.lemmas.Bool.Decides.{Decides-eqb, nat_tests}
 use Rattle.std.proofs.lemmas.List.{drop_all, drop_more, map-append}
 use Rattle.std.proofs.lemmas.Slice.Eq.{slice_eq-Decides}
@@ -146,6 +148,20 @@ pub no_input : (n : ℕ) (inputs : List Input) (word : List ℕ) (whole : List (
     → given (drop n inputs) word ≡ whole → [] ≡ whole
 no_input n inputs word whole past is = sym (ap (λ is. given is word) (drop_all n inputs past)) ∙ is
 
+-- a pattern that doesn't name a switch doesn't take it, whatever word repeats it
+pub unnamed : (pattern : Pattern) (word : Option (List ℕ)) (switch : Switch) (later : List Switch) → is_named pattern switch.name ≡ false
+    → false ≡ (fits word switch && is_taken pattern switch later)
+unnamed pattern word switch later is = by (fits word switch) refl
+  where
+    by : (test : Bool) → fits word switch ≡ test → false ≡ (fits word switch && is_taken pattern switch later)
+    by true same = rw same (rw is refl)
+    by false same = rw same refl
+
+-- nor does one that begins with another letter
+pub unlike : (pattern : Pattern) (word : Option (List ℕ)) (switch : Switch) (later : List Switch)
+    → begin_alike switch.name pattern.name ≡ false → false ≡ (fits word switch && is_taken pattern switch later)
+unlike pattern word switch later is = unnamed pattern word switch later (sym (unlike_begun pattern switch.name is))
+
 -- tokens and parts
 
 -- `take_tree` has taken one token more
@@ -175,24 +191,15 @@ no_tree text fault is = ap tree_in is
 pub same_text : (kept text : List ℕ) → pointwise nat_eq kept text ≡ true → kept ≡ text
 same_text kept text is = (slice_eq-Decides Decides-eqb kept text (pointwise nat_eq kept text) refl).0 is
 
--- `take_part` goes through the tree that is kept
-pub kept_told : (case : Case) (before start after : Telling) (part outer : MarkedPart) (kept : List ℕ) (has : Bool) → has ≡ true
-    → (has ≡ true → kept ≡ outer.written)
-    → start ≡ record before { walk = way_to (part.at - outer.at) (part.at - outer.at + length part.written) }
-    → after ≡ tree_told case start (tree_of kept) → after ≡ part_told case before part outer
-kept_told case before start after part outer kept has is same begins takes =
-    takes ∙ ap (λ t. tree_told case t (tree_of kept)) begins
-    ∙ ap (λ text. tree_told case (record before { walk = way_to (part.at - outer.at) (part.at - outer.at + length part.written) }) (tree_of text))
-    (same is)
+-- `take_text` goes through the tree that is kept
+pub kept_told : (case : Case) (before after : Telling) (text kept : List ℕ) (has : Bool) → has ≡ true → (has ≡ true → kept ≡ text)
+    → after ≡ tree_told case before (tree_of kept) → after ≡ tree_told case before (tree_of text)
+kept_told case before after text kept has is same takes = takes ∙ ap (λ t. tree_told case before (tree_of t)) (same is)
 
 -- it goes through nothing where there is no tree
-pub none_told : (case : Case) (before after : Telling) (part outer : MarkedPart) (has : Bool) → has ≡ false
-    → (has ≡ false → tree_of outer.written ≡ none)
-    → after ≡ record before { walk = way_to (part.at - outer.at) (part.at - outer.at + length part.written) }
-    → after ≡ part_told case before part outer
-none_told case before after part outer has is lacks begins =
-    begins
-    ∙ sym (ap (tree_told case (record before { walk = way_to (part.at - outer.at) (part.at - outer.at + length part.written) })) (lacks is))
+pub none_told : (case : Case) (before : Telling) (text : List ℕ) (has : Bool) → has ≡ false → (has ≡ false → tree_of text ≡ none)
+    → before ≡ tree_told case before (tree_of text)
+none_told case before text has is lacks = sym (ap (tree_told case before) (lacks is))
 
 -- `outers_of` has judged one part more
 pub outer_next : (n : ℕ) (parts : List MarkedPart) (part : MarkedPart) (outer next : Outer) (before after whole : List ℕ) → n < length parts
@@ -229,7 +236,8 @@ cause_next line jobs js parts place input outers trace it causes before after yi
     (is
     ∙ ap (λ cs. record trace { causes = cs })
     (told
-    ∙ ap (λ os. causes_of (record { line = line; jobs = js; input = input; word = trace.word; parts = parts; outers = os }) trace.parts) outer
+    ∙ ap (λ os. causes_of (record { line = line; jobs = js; input = input; word = trace.word; parts = parts; outers = os })
+    trace.parts) outer
     ∙ ap (λ i. causes_of (record { line = line; jobs = js; input = i; word = trace.word; parts = parts; outers = outers_of parts })
     trace.parts) at
     ∙ ap (λ xs. causes_of (case_at line xs parts place trace.word) trace.parts) same))

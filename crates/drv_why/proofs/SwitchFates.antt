@@ -1,15 +1,46 @@
 use Rattle.drv_args.specs.declared.line.Switch.{Switch}
 use Rattle.drv_check.specs.declared.findings.Source.{Source}
 use Rattle.drv_check.specs.declared.naming.Naming.{Naming}
-use Rattle.drv_match.specs.Matching.{cancels, is_live, name_at}
-use Rattle.drv_why.specs.Fates.{canceller, fate_text, fates_text, namings_text, text_if}
-use Rattle.std.proofs.Common.{◌≡◌, ◌∙◌, ◌<◌, ◌≤◌, ◌+◌, ◌++◌, ◌∷◌, Bool, List, None, Option, Some, [], ap, append_assoc, drop, false, length}
-use Rattle.std.proofs.Common.{refl, sym, true, ℕ}
+use Rattle.drv_match.specs.Matching.{cancels, is_live, is_named, name_at}
+use Rattle.drv_match.specs.Pattern.{Pattern}
+use Rattle.drv_why.specs.Code.Beginning.{begin_alike}
+use Rattle.drv_why.specs.Fates.{canceller, concerns, fate_text, fates_text, naming_text, namings_text, pattern_of, text_if}
+use Rattle.std.proofs.Common.{◌≡◌, ◌∙◌, ◌<◌, ◌≤◌, ◌+◌, ◌&&◌, ◌++◌, ◌∷◌, Bool, List, None, Option, Some, [], ap, append-nil, append_assoc}
+use Rattle.std.proofs.Common.{drop, false, length, refl, sym, true, ℕ}
+use Rattle.std.proofs.lemmas.Bool.{eqb-true}
 use Rattle.std.proofs.lemmas.List.{drop_all, drop_more}
-use Rattle.std.specs.Prelude.{get_or, is_none, map, not, suc, zero}
-use Rattle.std.specs.List.{list_any}
+use Rattle.std.specs.Cmp.Lexicographic.{pointwise}
+use Rattle.std.specs.List.{list_any, starts_with}
+use Rattle.std.specs.Prelude.{codes, get_or, if◌then◌else◌, is_none, map, nat_eq, not, suc, take, zero}
 
 -- For fates_text (src/fates.rt): the switches of a line and the parts of texts, one after another.
+
+-- the negative form of a name, whose beginning is compared first
+
+-- two texts in a row are another one exactly if that begins with the first and goes on with the second
+in_two : (xs ys zs : List ℕ)
+    → pointwise nat_eq (xs ++ ys) zs ≡ (pointwise nat_eq xs (take (length xs) zs) && pointwise nat_eq ys (drop (length xs) zs))
+in_two [] ys zs = refl
+in_two (x ∷ xs) ys [] = refl
+in_two (x ∷ xs) ys (z ∷ zs) = by (nat_eq x z) refl (in_two xs ys zs)
+  where
+    by : (test : Bool) → nat_eq x z ≡ test
+        → pointwise nat_eq (xs ++ ys) zs ≡ (pointwise nat_eq xs (take (length xs) zs) && pointwise nat_eq ys (drop (length xs) zs))
+        → pointwise nat_eq ((x ∷ xs) ++ ys) (z ∷ zs)
+        ≡ (pointwise nat_eq (x ∷ xs) (take (length (x ∷ xs)) (z ∷ zs)) && pointwise nat_eq ys (drop (length (x ∷ xs)) (z ∷ zs)))
+    by true is others = rw is others
+    by false is others = rw is refl
+
+-- a name with another beginning isn't it
+pub no_front : (rest name : List ℕ) → pointwise nat_eq (codes "no-") (take 3 name) ≡ false
+    → false ≡ pointwise nat_eq (codes "no-" ++ rest) name
+no_front rest name is = sym (in_two (codes "no-") rest name ∙ ap (λ test. test && pointwise nat_eq rest (drop 3 name)) is)
+
+-- one with that beginning is it exactly if it goes on alike
+pub with_front : (rest name : List ℕ) (same : Bool) → pointwise nat_eq (codes "no-") (take 3 name) ≡ true
+    → same ≡ pointwise nat_eq rest (drop 3 name) → same ≡ pointwise nat_eq (codes "no-" ++ rest) name
+with_front rest name same is goes =
+    goes ∙ sym (in_two (codes "no-") rest name ∙ ap (λ test. test && pointwise nat_eq rest (drop 3 name)) is)
 
 -- `canceller` found the first later switch that cancels this one
 pub cancelled : (n : ℕ) (later : List Switch) (switch : Switch) (name : List ℕ) (whole : Option (List ℕ)) → n < length later
@@ -31,6 +62,38 @@ pub none_left : (n : ℕ) (later : List Switch) (name : List ℕ) (whole : Optio
     → canceller (drop n later) name ≡ whole → None ≡ whole
 none_left n later name whole past so_far = sym (ap (λ ls. canceller ls name) (drop_all n later past)) ∙ so_far
 
+-- bytes that differ do so in either order
+unlike_bytes : (x y : ℕ) → nat_eq x y ≡ false → nat_eq y x ≡ false
+unlike_bytes x y is = by (nat_eq y x) refl
+  where
+    by : (test : Bool) → nat_eq y x ≡ test → test ≡ false
+    by false e = refl
+    by true e =
+        let same : y ≡ x = eqb-true y x e in
+        absurd cc
+
+-- texts that begin with different bytes are not the same, and neither begins with the other
+apart : (xs ys : List ℕ) → begin_alike xs ys ≡ false → (false ≡ starts_with nat_eq xs ys) × (false ≡ pointwise nat_eq xs ys)
+apart [] ys is = absurd cc
+apart (x ∷ xs) [] is = absurd cc
+apart (x ∷ xs) (y ∷ ys) is = (
+  sym (ap (λ test. test && pointwise nat_eq ys (take (length ys) xs)) (unlike_bytes x y is)),
+  sym (ap (λ test. test && pointwise nat_eq xs ys) is),
+)
+
+-- a pattern that begins with another letter doesn't name a switch
+pub unlike_begun : (pattern : Pattern) (name : List ℕ) → begin_alike name pattern.name ≡ false → false ≡ is_named pattern name
+unlike_begun pattern name unlike = by pattern.star refl
+  where
+    by : (star : Bool) → pattern.star ≡ star → false ≡ is_named pattern name
+    by true is = rw is (apart name pattern.name unlike).0
+    by false is = rw is (apart name pattern.name unlike).1
+
+-- nor has a part with such a pattern to do with one
+unlike_concerns : (name : List ℕ) (live : Bool) (naming : Naming) → begin_alike name naming.word ≡ false
+    → false ≡ concerns name live naming
+unlike_concerns name live naming unlike = rw (sym (unlike_begun (pattern_of naming) name unlike)) refl
+
 -- `push_namings` has written one part more: those that are left complete the text
 pub namings_next : (sources : List Source) (name : List ℕ) (live : Bool) (n : ℕ) (namings : List Naming) (naming : Naming)
     (before after whole : List ℕ) → n < length namings → naming ≡ get_or namings n naming
@@ -42,6 +105,14 @@ namings_next sources name live n namings naming before after whole below here gr
     ∙ append_assoc before (text_if sources name live naming) (namings_text sources name live (drop (n + 1) namings))
     ∙ ap (λ m. before ++ namings_text sources name live (m ∷ drop (n + 1) namings)) here
     ∙ ap (λ ns. before ++ namings_text sources name live ns) (sym (drop_more namings n naming below)) ∙ is
+
+-- `push_if` adds nothing for a part whose pattern begins with another letter
+pub passed_over : (sources : List Source) (name : List ℕ) (live : Bool) (naming : Naming) (text : List ℕ)
+    → begin_alike name naming.word ≡ false → text ≡ text ++ text_if sources name live naming
+passed_over sources name live naming text unlike =
+    let none : [] ≡ text_if sources name live naming =
+    ap (λ test. if test then naming_text sources naming else []) (unlike_concerns name live naming unlike) in
+    sym (append-nil text) ∙ ap (λ t. text ++ t) none
 
 -- `fates_text` has written one switch more: those that are left complete the text
 pub switch_next : (sources : List Source) (namings : List Naming) (switch : Switch) (later left : List Switch) (before after whole : List ℕ)

@@ -1,4 +1,5 @@
 -- How the code finds what an option takes, and what it writes of a part of a text. No public contract rests on these.
+pub mod Beginning
 pub mod Counting
 pub mod ListedParts
 pub mod Wanting

@@ -101,9 +101,13 @@ abbrev pub fates_items : List Source → List Naming → List Switch → Items
 fates_items sources namings [] = no_items
 fates_items sources namings (switch ∷ later) = item (fate_json sources namings switch later) (fates_items sources namings later)
 
--- an object for each switch, in an array, with a newline at its end
+-- an object for each switch, in an array
+abbrev pub fates_value : List Source → List Naming → List Switch → Json
+fates_value sources namings switches = array (fates_items sources namings switches)
+
+-- the same as text, with a newline at its end
 abbrev pub fates_json : List Source → List Naming → List Switch → List ℕ
-fates_json sources namings switches = pretty (json_tokens (array (fates_items sources namings switches))) ++ newline ∷ []
+fates_json sources namings switches = pretty (json_tokens (fates_value sources namings switches)) ++ newline ∷ []
 
 -- what gdrv-specs why --switches prints, in the form that is asked for
 abbrev pub fates_report : Report → List Source → List Naming → List Switch → List ℕ

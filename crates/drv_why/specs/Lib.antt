@@ -8,3 +8,4 @@ pub mod Reasons
 pub mod Taken
 pub mod Traces
 pub mod Walks
+pub mod Whole

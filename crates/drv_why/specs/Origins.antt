@@ -21,8 +21,8 @@ use Rattle.json.specs.Tree.{json_tokens}
 use Rattle.std.specs.List.{flat_map}
 use Rattle.std.specs.Prelude.{◌+◌, ◌-◌, ◌==◌, ◌||◌, Bool, List, [], ◌∷◌, ◌++◌, None, Option, Some, codes, if◌then◌else◌, slice_get, ℕ}
 
--- Where the words of a plan are from: under each command its words, each with the parts of texts that it has bytes of. Behind these is what of
--- the line it is for. The wording and the names of members are this project's profile; JSON is by RFC 8259.
+-- Where the words of a plan are from: under each command its words, each with the parts of texts that it has bytes of. Behind these is what
+-- of the line it is for. The wording and the names of members are this project's profile; JSON is by RFC 8259.
 -- For clauses of src/origins.rt and src/origins_json.rt. gdrv_specs cites it too.
 
 -- a line and its plan; the sources and the parts that marks lead to; and the lines of the plan with marks
@@ -155,9 +155,13 @@ abbrev pub origins_items : Marking → ℕ → List PlanLine → Items
 origins_items m n [] = no_items
 origins_items m n (line ∷ lines) = item (command_json m n line) (origins_items m (n + 1) lines)
 
--- an array for each command, in an array, with a newline at its end
+-- an array for each command, in an array
+abbrev pub origins_value : Marking → Json
+origins_value m = array (origins_items m 0 (lines_of m.plan))
+
+-- the same as text, with a newline at its end
 abbrev pub origins_json : Marking → List ℕ
-origins_json m = pretty (json_tokens (array (origins_items m 0 (lines_of m.plan)))) ++ newline ∷ []
+origins_json m = pretty (json_tokens (origins_value m)) ++ newline ∷ []
 
 -- what gdrv-specs why --words prints, in the form that is asked for
 abbrev pub origins_report : Report → Marking → List ℕ

@@ -10,7 +10,7 @@ ghost use Rattle.std.specs.Option.{option_map};
 ghost use Rattle.std.specs.Prelude.{◌≡◌, ◌∷◌, ◌++◌, IfOk, OnOk, decimal, is_none, Some};
 
 use crate::fates_json::fates_json;
-use crate::matching::{canceller, is_broad, is_named};
+use crate::matching::{begin_alike, canceller, is_broad, is_named};
 use crate::report::Report;
 use drv_args::Switch;
 use drv_check::{Deed, Naming, Source, Spot};
@@ -114,6 +114,8 @@ fn push_naming(text: &mut Word, sources: &[Source], naming: &Naming) -> Result<(
 }
 
 /// Adds the line of a part that has to do with a switch.
+#[inline(always)]
+#[tactic(auto, using(crate::proofs::SwitchFates::passed_over))]
 fn push_if(
     text: &mut Word,
     sources: &[Source],
@@ -124,6 +126,10 @@ fn push_if(
     ensures { OnOk result
         (text.new ≡ text.old ++ text_if sources.now name.now live naming.now) }
 {
+    // Most patterns begin with another letter, and this test is the cheapest.
+    if !begin_alike(name, naming.word.as_bytes()) {
+        return Ok(());
+    }
     if concerns(name, live, naming) {
         push_naming(text, sources, naming)?;
     }
@@ -259,7 +265,7 @@ fn push_fate(
         ++ fate_text parts.now.sources.now parts.now.namings.now switch.now later.now) }
 {
     let name = switch.name.as_bytes();
-    let by = canceller(alloc, later, name)?;
+    let by = canceller(later, name);
     let lines = lines_text(alloc, parts, name, by)?;
     push_switch(alloc, text, switch)?;
     push_lines(text, &lines)

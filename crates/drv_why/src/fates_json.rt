@@ -229,13 +229,13 @@ fn put_fate(
         ++ json_tokens (fate_json parts.now.sources.now parts.now.namings.now
         switch.now later.now)) }
 {
-    let by = canceller(alloc, later, switch.name.as_bytes())?;
+    let by = canceller(later, switch.name.as_bytes());
     put_fate_by(alloc, out, parts, switch, by)
 }
 
 /// Writes what becomes of switches as an array.
 #[tactic(auto, using(crate::proofs::ListedFates::fate_next))]
-fn put_fates(
+pub(crate) fn put_fates(
     alloc: Global,
     out: &mut Pretty,
     parts: &Parts<'_>,

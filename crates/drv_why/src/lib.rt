@@ -1,4 +1,5 @@
-//! The parts of a line, what the line without one of them is, and what becomes of its switches.
+//! The parts of a line, what the line without one of them is, what becomes of its switches, and where the
+//! words of its plan are from.
 #![tactic(auto)]
 
 mod causes;
@@ -20,6 +21,7 @@ mod telling;
 mod traces;
 mod tracing;
 mod walking;
+mod whole;
 
 pub use fates::fates_report;
 pub use laws::{live_is_uncancelled, parts_make_the_line, traced_words_are_the_commands};
@@ -28,3 +30,4 @@ pub use origins::{Marking, origins_report};
 pub use parting::{LinePart, parts_of};
 pub use reasons::{Reason, Rest, reasons_report};
 pub use report::Report;
+pub use whole::whole_report;

@@ -197,7 +197,7 @@ fn put_command(
 
 /// Writes the commands of a plan as an array.
 #[tactic(auto, using(crate::proofs::WordTraces::command_written))]
-fn put_origins(
+pub(crate) fn put_origins(
     alloc: Global,
     out: &mut Pretty,
     marking: &Marking<'_>,

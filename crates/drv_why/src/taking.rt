@@ -8,7 +8,8 @@ ghost use Rattle.std.specs.List.{list_any};
 ghost use Rattle.std.specs.Option.{option_map};
 ghost use Rattle.std.specs.Prelude.{◌≡◌, ◌∷◌, ◌&&◌, IfOk, OnOk, nat_eq};
 
-use crate::matching::{canceller, is_broad, is_named};
+use crate::fates::is_live;
+use crate::matching::{begin_alike, canceller, is_broad, is_named};
 use drv_args::Switch;
 use drv_match::Pattern;
 use drv_words::{Listing, Word};
@@ -95,42 +96,33 @@ fn fits(word: Option<&[u8]>, switch: &Switch) -> bool
 }
 
 /// Whether a pattern takes a switch before these.
-fn is_taken(
-    alloc: Global,
-    pattern: &Pattern<'_>,
-    switch: &Switch,
-    later: &[Switch],
-) -> Result<bool, AllocError>
-    ensures { IfOk result (λ is. is ≡ is_taken pattern.now switch.now later.now) }
+fn is_taken(pattern: &Pattern<'_>, switch: &Switch, later: &[Switch]) -> bool
+    ensures { result ≡ is_taken pattern.now switch.now later.now }
 {
     let name = switch.name.as_bytes();
     if !is_named(pattern, name) {
-        return Ok(false);
+        return false;
     }
     if is_broad(pattern) {
-        return Ok(true);
+        return true;
     }
-    match canceller(alloc, later, name)? {
-        Some(_) => Ok(false),
-        None => Ok(true),
-    }
+    is_live(canceller(later, name))
 }
 
 /// Whether a switch before these is taken and fits.
-fn is_told(
-    alloc: Global,
-    pattern: &Pattern<'_>,
-    word: Option<&[u8]>,
-    switch: &Switch,
-    later: &[Switch],
-) -> Result<bool, AllocError>
-    ensures { IfOk result (λ is. is
-        ≡ (fits (option_map (λ bytes. bytes.now) word.entry) switch.now && is_taken pattern.now switch.now later.now)) }
+#[tactic(auto, using(crate::proofs::LineCauses::unlike, crate::proofs::LineCauses::unnamed))]
+fn is_told(pattern: &Pattern<'_>, word: Option<&[u8]>, switch: &Switch, later: &[Switch]) -> bool
+    ensures { result
+        ≡ (fits (option_map (λ bytes. bytes.now) word.entry) switch.now && is_taken pattern.now switch.now later.now) }
 {
-    if !fits(word, switch) {
-        return Ok(false);
+    // Most patterns begin with another letter, and this test is the cheapest.
+    if !begin_alike(switch.name.as_bytes(), pattern.name) {
+        return false;
     }
-    is_taken(alloc, pattern, switch, later)
+    if !is_named(pattern, switch.name.as_bytes()) {
+        return false;
+    }
+    fits(word, switch) && is_taken(pattern, switch, later)
 }
 
 /// The options of the switches that a pattern takes: of all, or of those that a word repeats.
@@ -148,7 +140,7 @@ pub(crate) fn taken(
     let mut names = Listing::new(alloc);
     let mut left = switches;
     while let [switch, later @ ..] = left {
-        if is_told(alloc, pattern, word, switch, later)? {
+        if is_told(pattern, word, switch, later) {
             let option = option_of(alloc, switch.name.as_bytes())?;
             add_name(alloc, &mut names, option.as_bytes())?;
         }

@@ -4,11 +4,11 @@ ghost use Rattle.drv_syntax.specs.Labels.{label_at};
 ghost use Rattle.drv_syntax.specs.Parsed.{tree_of};
 ghost use Rattle.drv_syntax.specs.Tokens.{tokens_of};
 ghost use Rattle.drv_syntax.specs.Tree.{none};
-ghost use Rattle.drv_why.specs.Causes.{causes_of, may_take, number_told, part_told, takes, token_told, told_by, told_on};
-ghost use Rattle.drv_why.specs.Causes.{tree_told};
+ghost use Rattle.drv_why.specs.Causes.{causes_of, may_take, number_told, takes, token_told};
+ghost use Rattle.drv_why.specs.Causes.{told_by, told_on, tree_told};
 ghost use Rattle.drv_why.specs.Taken.{with_names};
 ghost use Rattle.drv_why.specs.Walks.{way_to};
-ghost use Rattle.std.specs.Prelude.{◌≡◌, ◌<◌, [], IfOk, OnOk, false, if◌then◌else◌, length, true};
+ghost use Rattle.std.specs.Prelude.{◌≡◌, ◌<◌, ◌+◌, ◌-◌, [], IfOk, OnOk, false, if◌then◌else◌, length, true};
 
 use crate::causes::{Case, is_true, takes};
 use crate::taking::add_names;
@@ -25,6 +25,17 @@ pub(crate) struct Telling {
     walk: Walk,
     /// The options and inputs so far.
     names: Listing<Word>,
+}
+
+/// A token of a tree.
+#[derive(Drop)]
+struct Met<'a> {
+    /// The tree.
+    tree: &'a SpecTree,
+    /// The token's place among those of the tree.
+    place: usize,
+    /// The token.
+    token: Token,
 }
 
 /// Keeps the tree of a text, unless that has none. A text that is kept isn't read again.
@@ -44,6 +55,18 @@ fn keep(alloc: Global, kept: &mut SpecTree, text: &[u8]) -> Result<bool, AllocEr
         Err(SyntaxFault::Memory) => Err(AllocError),
         Err(_) => Ok(false),
     }
+}
+
+/// The way to a part in its outermost one.
+fn way_in(part: &MarkedPart, outer: &MarkedPart) -> Result<Walk, AllocError>
+    ensures { IfOk result (λ walk. walk
+        ≡ way_to (part.now.at - outer.now.at) (part.now.at - outer.now.at + length part.now.written)) }
+{
+    let at = part.at.saturating_sub(outer.at);
+    let Some(last) = at.checked_add(part.written.len()) else {
+        return Err(AllocError);
+    };
+    Ok(Walk::new(at, last))
 }
 
 /// Whether a token of this kind may take something.
@@ -84,40 +107,35 @@ impl Telling {
         &mut self,
         alloc: Global,
         case: &Case<'_>,
-        tree: &SpecTree,
-        place: usize,
-        token: Token,
+        met: &Met<'_>,
     ) -> Result<(), AllocError>
-        requires { place < length (tokens_of (tree_of tree.now)) }
+        requires { met.now.place < length (tokens_of (tree_of met.now.tree.now)) }
         ensures { OnOk result (self.new
-            ≡ told_by token (label_at (tree_of tree.now) place)
-            (takes case.now token.kind (label_at (tree_of tree.now) place)) self.old) }
+            ≡ told_by met.now.token (label_at (tree_of met.now.tree.now) met.now.place)
+            (takes case.now met.now.token.kind
+            (label_at (tree_of met.now.tree.now) met.now.place)) self.old) }
     {
-        let found = takes(alloc, case, tree, place, token.kind)?;
-        let is_given = gives(self.walk, token, tree.is_negated(place));
+        let tree = met.tree;
+        let place = met.place;
+        let found = takes(alloc, case, tree, place, met.token.kind)?;
+        let is_given = gives(self.walk, met.token, tree.is_negated(place));
         self.add_found(alloc, is_given, found.as_slice())?;
         let holds = is_true(tree, place, found.as_slice());
-        self.walk = walked(self.walk, token, tree.asks(place), holds);
+        self.walk = walked(self.walk, met.token, tree.asks(place), holds);
         Ok(())
     }
 
     /// Takes a token on the way, which may take nothing.
-    fn take_met(
-        &mut self,
-        alloc: Global,
-        case: &Case<'_>,
-        tree: &SpecTree,
-        place: usize,
-        token: Token,
-    ) -> Result<(), AllocError>
-        requires { place < length (tokens_of (tree_of tree.now)) }
+    fn take_met(&mut self, alloc: Global, case: &Case<'_>, met: &Met<'_>) -> Result<(), AllocError>
+        requires { met.now.place < length (tokens_of (tree_of met.now.tree.now)) }
         ensures { OnOk result (self.new
-            ≡ told_on case.now token (label_at (tree_of tree.now) place) self.old) }
+            ≡ told_on case.now met.now.token
+            (label_at (tree_of met.now.tree.now) met.now.place) self.old) }
     {
-        if may_take(token.kind) {
-            return self.take_on_way(alloc, case, tree, place, token);
+        if may_take(met.token.kind) {
+            return self.take_on_way(alloc, case, met);
         }
-        self.walk = walked(self.walk, token, TestKind::Switch, false);
+        self.walk = walked(self.walk, met.token, TestKind::Switch, false);
         Ok(())
     }
 
@@ -126,19 +144,18 @@ impl Telling {
         &mut self,
         alloc: Global,
         case: &Case<'_>,
-        tree: &SpecTree,
-        place: usize,
-        token: Token,
+        met: &Met<'_>,
     ) -> Result<(), AllocError>
-        requires { place < length (tokens_of (tree_of tree.now)) }
+        requires { met.now.place < length (tokens_of (tree_of met.now.tree.now)) }
         ensures { OnOk result (self.new
-            ≡ token_told case.now token (label_at (tree_of tree.now) place) self.old) }
+            ≡ token_told case.now met.now.token
+            (label_at (tree_of met.now.tree.now) met.now.place) self.old) }
     {
-        self.walk = reached(self.walk, token);
-        if is_passed(self.walk, token) {
+        self.walk = reached(self.walk, met.token);
+        if is_passed(self.walk, met.token) {
             return Ok(());
         }
-        self.take_met(alloc, case, tree, place, token)
+        self.take_met(alloc, case, met)
     }
 
     /// Takes the tokens of a tree.
@@ -154,33 +171,28 @@ impl Telling {
         let tokens = tree.tokens();
         let mut place = 0;
         while place < tokens.len() {
-            if is_behind(self.walk, tokens[place]) {
+            let token = tokens[place];
+            if is_behind(self.walk, token) {
                 return Ok(());
             }
-            self.take_token(alloc, case, tree, place, tokens[place])?;
+            self.take_token(alloc, case, &Met { tree, place, token })?;
             place += 1;
         }
         Ok(())
     }
 
-    /// Takes a part in its outermost one.
+    /// Takes a text. Its tree is kept for the next one.
     #[tactic(auto, using(crate::proofs::LineCauses::kept_told, crate::proofs::LineCauses::none_told))]
-    fn take_part(
+    fn take_text(
         &mut self,
         alloc: Global,
         kept: &mut SpecTree,
         case: &Case<'_>,
-        part: &MarkedPart,
-        outer: &MarkedPart,
+        text: &[u8],
     ) -> Result<(), AllocError>
-        ensures { OnOk result (self.new ≡ part_told case.now self.old part.now outer.now) }
+        ensures { OnOk result (self.new ≡ tree_told case.now self.old (tree_of text.now)) }
     {
-        let at = part.at.saturating_sub(outer.at);
-        let Some(last) = at.checked_add(part.written.len()) else {
-            return Err(AllocError);
-        };
-        self.walk = Walk::new(at, last);
-        if keep(alloc, kept, outer.written.as_bytes())? {
+        if keep(alloc, kept, text)? {
             self.take_tree(alloc, case, kept)?;
         }
         Ok(())
@@ -205,7 +217,8 @@ impl Telling {
         let Some(outer) = case.parts.get(*outer) else {
             return Ok(());
         };
-        self.take_part(alloc, kept, case, part, outer)
+        self.walk = way_in(part, outer)?;
+        self.take_text(alloc, kept, case, outer.written.as_bytes())
     }
 }
 

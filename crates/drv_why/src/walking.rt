@@ -9,7 +9,7 @@ use drv_syntax::{TestKind, Token, TokenKind};
 
 /// Where the way has got to.
 #[derive(Clone, Copy, Debug)]
-pub(crate) enum Stand {
+pub(crate) enum Waypoint {
     /// Among the alternatives around the part.
     Around,
     /// In a list that is run, before its first item.
@@ -26,7 +26,7 @@ pub(crate) enum Stand {
 #[derive(Clone, Copy, Debug)]
 pub(crate) struct Walk {
     /// Where it has got to.
-    stand: Stand,
+    waypoint: Waypoint,
     /// Tokens that begin before this byte are passed over.
     from: usize,
     /// Tokens that begin at this byte or later are passed over.
@@ -43,7 +43,7 @@ impl Walk {
         ensures { result ≡ way_to at last }
     {
         Walk {
-            stand: Stand::Around,
+            waypoint: Waypoint::Around,
             from: 0,
             to: at,
             end: 0,
@@ -56,11 +56,11 @@ impl Walk {
 pub(crate) fn reached(walk: Walk, token: Token) -> Walk
     ensures { result ≡ reached walk token }
 {
-    match walk.stand {
-        Stand::Around => {
+    match walk.waypoint {
+        Waypoint::Around => {
             if walk.to <= token.start as usize {
                 Walk {
-                    stand: Stand::First,
+                    waypoint: Waypoint::First,
                     to: walk.last,
                     ..walk
                 }
@@ -68,7 +68,7 @@ pub(crate) fn reached(walk: Walk, token: Token) -> Walk
                 walk
             }
         }
-        Stand::First | Stand::Behind | Stand::Before | Stand::Failed => walk,
+        Waypoint::First | Waypoint::Behind | Waypoint::Before | Waypoint::Failed => walk,
     }
 }
 
@@ -111,27 +111,27 @@ fn inside(walk: Walk) -> Walk
     ensures { result ≡ inside walk }
 {
     Walk {
-        stand: Stand::First,
+        waypoint: Waypoint::First,
         to: walk.end,
         ..walk
     }
 }
 
 /// The way that has got to this.
-fn at_stand(walk: Walk, stand: Stand) -> Walk
-    ensures { result ≡ record walk { stand = stand } }
+fn at_waypoint(walk: Walk, waypoint: Waypoint) -> Walk
+    ensures { result ≡ record walk { waypoint = waypoint } }
 {
-    Walk { stand, ..walk }
+    Walk { waypoint, ..walk }
 }
 
 /// The way at the beginning of an alternative.
 fn opened(walk: Walk, token: Token) -> Walk
-    ensures { result ≡ opened_by walk.stand walk token }
+    ensures { result ≡ opened_by walk.waypoint walk token }
 {
-    match walk.stand {
-        Stand::Around => around(walk, token),
-        Stand::First | Stand::Behind | Stand::Before | Stand::Failed => Walk {
-            stand: Stand::Before,
+    match walk.waypoint {
+        Waypoint::Around => around(walk, token),
+        Waypoint::First | Waypoint::Behind | Waypoint::Before | Waypoint::Failed => Walk {
+            waypoint: Waypoint::Before,
             end: token.end as usize,
             ..walk
         },
@@ -140,28 +140,28 @@ fn opened(walk: Walk, token: Token) -> Walk
 
 /// The way behind a test of switches, which is true or not.
 fn after_switches(walk: Walk, holds: bool) -> Walk
-    ensures { result ≡ tested_by walk.stand walk holds }
+    ensures { result ≡ tested_by walk.waypoint walk holds }
 {
-    match walk.stand {
-        Stand::Around | Stand::First | Stand::Behind => walk,
-        Stand::Before => {
+    match walk.waypoint {
+        Waypoint::Around | Waypoint::First | Waypoint::Behind => walk,
+        Waypoint::Before => {
             if holds {
                 inside(walk)
             } else {
-                at_stand(walk, Stand::Failed)
+                at_waypoint(walk, Waypoint::Failed)
             }
         }
-        Stand::Failed => { if holds { inside(walk) } else { walk } }
+        Waypoint::Failed => { if holds { inside(walk) } else { walk } }
     }
 }
 
 /// The way behind another test.
 fn after_untold(walk: Walk) -> Walk
-    ensures { result ≡ untold_by walk.stand walk }
+    ensures { result ≡ untold_by walk.waypoint walk }
 {
-    match walk.stand {
-        Stand::Around | Stand::First | Stand::Behind => walk,
-        Stand::Before | Stand::Failed => ended(walk),
+    match walk.waypoint {
+        Waypoint::Around | Waypoint::First | Waypoint::Behind => walk,
+        Waypoint::Before | Waypoint::Failed => ended(walk),
     }
 }
 
@@ -179,11 +179,11 @@ fn tested(asks: TestKind, walk: Walk, holds: bool) -> Walk
 fn at_item(walk: Walk, token: Token) -> Walk
     ensures { result ≡ at_item walk token }
 {
-    match walk.stand {
-        Stand::Around => around(walk, token),
-        Stand::First | Stand::Behind => walk,
-        Stand::Before => inside(walk),
-        Stand::Failed => Walk {
+    match walk.waypoint {
+        Waypoint::Around => around(walk, token),
+        Waypoint::First | Waypoint::Behind => walk,
+        Waypoint::Before => inside(walk),
+        Waypoint::Failed => Walk {
             from: walk.end,
             ..walk
         },
@@ -192,31 +192,31 @@ fn at_item(walk: Walk, token: Token) -> Walk
 
 /// The way behind a blank.
 fn after_blank(walk: Walk) -> Walk
-    ensures { result ≡ blank_by walk.stand walk }
+    ensures { result ≡ blank_by walk.waypoint walk }
 {
-    match walk.stand {
-        Stand::Behind => ended(walk),
-        Stand::Around | Stand::First | Stand::Before | Stand::Failed => walk,
+    match walk.waypoint {
+        Waypoint::Behind => ended(walk),
+        Waypoint::Around | Waypoint::First | Waypoint::Before | Waypoint::Failed => walk,
     }
 }
 
 /// The way behind an item that ends the part.
 fn after_last(walk: Walk) -> Walk
-    ensures { result ≡ last_by walk.stand walk }
+    ensures { result ≡ last_by walk.waypoint walk }
 {
-    match walk.stand {
-        Stand::First | Stand::Behind => ended(walk),
-        Stand::Around | Stand::Before | Stand::Failed => walk,
+    match walk.waypoint {
+        Waypoint::First | Waypoint::Behind => ended(walk),
+        Waypoint::Around | Waypoint::Before | Waypoint::Failed => walk,
     }
 }
 
 /// The way behind another item.
 fn after_other(walk: Walk) -> Walk
-    ensures { result ≡ behind_by walk.stand walk }
+    ensures { result ≡ behind_by walk.waypoint walk }
 {
-    match walk.stand {
-        Stand::First => at_stand(walk, Stand::Behind),
-        Stand::Around | Stand::Behind | Stand::Before | Stand::Failed => walk,
+    match walk.waypoint {
+        Waypoint::First => at_waypoint(walk, Waypoint::Behind),
+        Waypoint::Around | Waypoint::Behind | Waypoint::Before | Waypoint::Failed => walk,
     }
 }
 
@@ -259,17 +259,17 @@ pub(crate) fn walked(walk: Walk, token: Token, asks: TestKind, holds: bool) -> W
 }
 
 /// Whether items are run where the way has got to.
-fn is_run(stand: Stand) -> bool
-    ensures { result ≡ is_run stand }
+fn is_run(waypoint: Waypoint) -> bool
+    ensures { result ≡ is_run waypoint }
 {
-    matches!(stand, Stand::First | Stand::Behind)
+    matches!(waypoint, Waypoint::First | Waypoint::Behind)
 }
 
 /// Whether an item is run.
 fn runs(walk: Walk, token: Token) -> bool
     ensures { result ≡ runs walk token }
 {
-    is_run(walk.stand) && !is_passed(walk, token)
+    is_run(walk.waypoint) && !is_passed(walk, token)
 }
 
 /// Whether the words are for what a token on the way takes.
