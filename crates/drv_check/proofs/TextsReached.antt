@@ -1,12 +1,13 @@
 use Rattle.drv_check.specs.Reached.{most_texts, reached_from, text_names, with_name, with_names, with_pairs}
+use Rattle.drv_check.specs.UnusedTexts.{is_among}
 use Rattle.drv_specs.specs.Sets.{Set, text_of, worked_text}
-use Rattle.std.proofs.Common.{◌≡◌, ◌∙◌, ◌<◌, ◌≤◌, ◌+◌, ◌-◌, ◌++◌, ◌∷◌, List, Option, [], ap, arith, drop, false, length, refl, suc, sym}
-use Rattle.std.proofs.Common.{true, zero, ℕ}
+use Rattle.std.proofs.Common.{◌≡◌, ◌∙◌, ◌<◌, ◌≤◌, ◌+◌, ◌-◌, ◌++◌, ◌∷◌, List, Option, Some, [], ap, arith, drop, false, length, refl, suc}
+use Rattle.std.proofs.Common.{sym, true, zero, ℕ}
 use Rattle.std.proofs.lemmas.Bool.Decides.{nat_tests}
 use Rattle.std.proofs.lemmas.List.{drop_more}
 use Rattle.std.proofs.lemmas.Option.{slice_get-get_or}
 use Rattle.std.specs.Option.{unwrap_or}
-use Rattle.std.specs.Prelude.{get_or, nat_lt, option_and_then, slice_get}
+use Rattle.std.specs.Prelude.{get_or, if◌then◌else◌, nat_lt, option_and_then, slice_get}
 
 -- For reached_dump (src/reached.rt): the names of the texts that a plan can use, one after another.
 
@@ -22,15 +23,20 @@ pub name_next : (start before after yielded : List (List ℕ)) (name : List ℕ)
 name_next start before after yielded name grows so_far =
     grows ∙ ap (λ ns. with_name ns name) so_far ∙ sym (with_one start yielded name)
 
--- It has added the names that one pair more names.
-pub pair_next : (pairs : List (List ℕ × List ℕ)) (n : ℕ) (tree : Option (List ℕ)) (before after whole : List (List ℕ)) → n < length pairs
-    → tree ≡ option_and_then worked_text (slice_get pairs n) → after ≡ with_names before (text_names tree)
-    → with_pairs before (drop n pairs) ≡ whole → with_pairs after (drop (n + 1) pairs) ≡ whole
-pair_next pairs n tree before after whole below has grows is =
-    let here : slice_get pairs n ≡ _ = slice_get-get_or pairs n ([], []) below in
-    ap (λ ns. with_pairs ns (drop (n + 1) pairs))
-    (grows ∙ ap (λ t. with_names before (text_names t)) (has ∙ ap (option_and_then worked_text) here))
-    ∙ sym (ap (with_pairs before) (drop_more pairs n ([], []) below)) ∙ is
+-- It has added the names that one pair more names, where its text is one of these.
+pub pair_next : (texts : List (List ℕ)) (pairs : List (List ℕ × List ℕ)) (n : ℕ) (d : List ℕ × List ℕ) (text : List ℕ)
+    (tree : Option (List ℕ)) (before after whole : List (List ℕ)) → n < length pairs → text ≡ (get_or pairs n d).1
+    → tree ≡ option_and_then worked_text (slice_get pairs n)
+    → after ≡ (if is_among texts text then with_names before (text_names tree) else before)
+    → with_pairs texts before (drop n pairs) ≡ whole → with_pairs texts after (drop (n + 1) pairs) ≡ whole
+pair_next texts pairs n d text tree before after whole below same has grows is =
+    let here : slice_get pairs n ≡ Some (get_or pairs n d) = slice_get-get_or pairs n d below in
+    ap (λ ns. with_pairs texts ns (drop (n + 1) pairs))
+    (grows
+    ∙ ap (λ t. if is_among texts t then with_names before (text_names tree) else before) same
+    ∙ ap (λ t. if is_among texts (get_or pairs n d).1 then with_names before (text_names t) else before)
+    (has ∙ ap (option_and_then worked_text) here))
+    ∙ sym (ap (with_pairs texts before) (drop_more pairs n d below)) ∙ is
 
 -- the number of the code
 is_most : most_texts ≡ 65536

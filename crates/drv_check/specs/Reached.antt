@@ -8,8 +8,8 @@ use Rattle.std.specs.List.{flat_map}
 use Rattle.std.specs.Prelude.{◌+◌, List, [], ◌∷◌, ◌++◌, None, Option, Some, codes, get_or, if◌then◌else◌, length, nat_lt, suc, zero}
 use Rattle.std.specs.Prelude.{ℕ}
 
--- The texts of a set that a plan can use (GCC manual, "Spec Files", %(NAME)): those of its pairs, that of the link where the plan has one,
--- and those that these name, directly or not.
+-- The texts of a set that a plan can use (GCC manual, "Spec Files", %(NAME)): those of its sources, that of the link where the plan has
+-- one, and those that these name, directly or not. The text of a source is that of a pair.
 -- For clauses of src/reached.rt. gdrv_specs cites it too.
 
 -- names, each once
@@ -30,15 +30,19 @@ text_names (Some text) = names_in (tree_of text)
 
 -- the texts that are reached
 
--- the name from which a plan begins besides its pairs
+-- the name from which a plan begins besides the texts of its sources
 abbrev pub first_names : Roots → List (List ℕ)
 first_names Sources = []
 first_names SourcesAndLink = codes "link_command" ∷ []
 
--- names with those that the texts of pairs name
-abbrev pub with_pairs : List (List ℕ) → List (List ℕ × List ℕ) → List (List ℕ)
-with_pairs names [] = names
-with_pairs names (pair ∷ pairs) = with_pairs (with_names names (text_names (worked_text pair))) pairs
+-- names with those that the text of a pair names, where that is one of these texts
+abbrev pub with_pair : List (List ℕ) → List (List ℕ) → List ℕ × List ℕ → List (List ℕ)
+with_pair texts names pair = if is_among texts pair.1 then with_names names (text_names (worked_text pair)) else names
+
+-- names with those that such texts of pairs name
+abbrev pub with_pairs : List (List ℕ) → List (List ℕ) → List (List ℕ × List ℕ) → List (List ℕ)
+with_pairs texts names [] = names
+with_pairs texts names (pair ∷ pairs) = with_pairs texts (with_pair texts names pair) pairs
 
 -- the most texts that are looked into
 unfoldable pub most_texts : ℕ
@@ -51,11 +55,11 @@ reached_from set (suc left) i names =
     if nat_lt i (length names) then reached_from set left (i + 1) (with_names names (text_names (text_of set (get_or names i []))))
     else names
 
--- the names of the texts that are reached
-abbrev pub reached : Roots → Set → List (List ℕ)
-reached roots set = reached_from set most_texts 0 (with_pairs (first_names roots) set.pairs)
+-- the names of the texts that are reached, where the sources have these texts
+abbrev pub reached : Roots → List (List ℕ) → Set → List (List ℕ)
+reached roots texts set = reached_from set most_texts 0 (with_pairs texts (first_names roots) set.pairs)
 
--- the dump of these texts and of all pairs
+-- the dump of these texts and of those of the sources
 
 -- the text of a name as the dump of its set has it, if there is one
 abbrev pub entry_of : List ℕ → Option (List ℕ) → List ℕ
@@ -66,6 +70,10 @@ entry_of name (Some text) = named_text (name, text)
 abbrev pub named_entry : Set → List ℕ → List ℕ
 named_entry set name = entry_of name (text_of set name)
 
--- the texts that are reached, and then the pairs
-abbrev pub reached_dump : Roots → Set → List ℕ
-reached_dump roots set = flat_map (named_entry set) (reached roots set) ++ flat_map entry_text set.pairs
+-- a pair as the dump of its set has it, where its text is one of these
+abbrev pub pair_entry : List (List ℕ) → List ℕ × List ℕ → List ℕ
+pair_entry texts pair = if is_among texts pair.1 then entry_text pair else []
+
+-- the texts that are reached, and then the pairs with the texts of the sources
+abbrev pub reached_dump : Roots → List (List ℕ) → Set → List ℕ
+reached_dump roots texts set = flat_map (named_entry set) (reached roots texts set) ++ flat_map (pair_entry texts) set.pairs

@@ -1,12 +1,13 @@
 //! The texts of a set that a plan can use.
 
-ghost use Rattle.drv_check.specs.Reached.{entry_of, first_names, named_entry, reached, reached_dump, text_names, with_name};
+ghost use Rattle.drv_check.specs.Reached.{entry_of, first_names, named_entry, pair_entry, reached};
+ghost use Rattle.drv_check.specs.Reached.{reached_dump, text_names, with_name};
 ghost use Rattle.drv_check.specs.Reached.{with_names, with_pairs};
 ghost use Rattle.drv_check.specs.UnusedTexts.{is_among};
 ghost use Rattle.drv_specs.specs.Dumping.{entry_text, named_text};
 ghost use Rattle.std.specs.List.{flat_map};
 ghost use Rattle.std.specs.Option.{option_map};
-ghost use Rattle.std.specs.Prelude.{◌≡◌, ◌++◌, IfOk, OnOk, Some};
+ghost use Rattle.std.specs.Prelude.{◌≡◌, ◌++◌, IfOk, OnOk, Some, if◌then◌else◌};
 
 use crate::unused_text::{is_among, push_tree};
 use drv_specs::SpecSet;
@@ -17,7 +18,7 @@ use std::alloc::{AllocError, Global};
 /// The texts from which a plan begins.
 #[derive(Clone, Copy, Debug)]
 pub enum Roots {
-    /// Those of pairs, for sources.
+    /// Those of its sources.
     Sources,
     /// These, and that of the link.
     SourcesAndLink,
@@ -73,7 +74,7 @@ fn add_text(
     add_names(names, found)
 }
 
-/// The name from which a plan begins besides its pairs.
+/// The name from which a plan begins besides the texts of its sources.
 fn first_names(alloc: Global, roots: Roots) -> Result<Listing<Word>, AllocError>
     ensures { IfOk result (λ names. names ≡ first_names roots) }
 {
@@ -85,26 +86,57 @@ fn first_names(alloc: Global, roots: Roots) -> Result<Listing<Word>, AllocError>
     Ok(names)
 }
 
-/// Adds the names that the texts of pairs name.
+/// Adds the names that a text with this tree names, where the text is one of these.
+fn add_if(
+    alloc: Global,
+    names: &mut Listing<Word>,
+    texts: &[Word],
+    text: &[u8],
+    tree: Option<&SpecTree>,
+) -> Result<(), AllocError>
+    ensures { OnOk result
+        (names.new
+        ≡ (if is_among texts.now text.now
+        then with_names names.old (text_names (option_map (λ tree. tree.now) tree.entry))
+        else names.old)) }
+{
+    if is_among(texts, text) {
+        add_text(alloc, names, tree)?;
+    }
+    Ok(())
+}
+
+/// Adds the names that the texts of pairs name, where those are among these texts.
 #[tactic(auto, using(crate::proofs::TextsReached::pair_next))]
-fn add_pairs(alloc: Global, names: &mut Listing<Word>, set: &SpecSet) -> Result<(), AllocError>
-    ensures { OnOk result (names.new ≡ with_pairs names.old set.now.pairs) }
+fn add_pairs(
+    alloc: Global,
+    names: &mut Listing<Word>,
+    texts: &[Word],
+    set: &SpecSet,
+) -> Result<(), AllocError>
+    ensures { OnOk result (names.new ≡ with_pairs texts.now names.old set.now.pairs) }
 {
     let mut place = 0;
     while place < set.pairs().len() {
-        add_text(alloc, names, set.pair_tree(place))?;
+        let text = set.pairs()[place].1.as_bytes();
+        add_if(alloc, names, texts, text, set.pair_tree(place))?;
         place += 1;
     }
     Ok(())
 }
 
-/// The names of the texts that a plan can use.
+/// The names of the texts that a plan can use whose sources have these texts.
 #[tactic(auto, using(crate::proofs::TextsReached::text_next, crate::proofs::TextsReached::most_reached, crate::proofs::TextsReached::all_reached))]
-fn reached(alloc: Global, set: &SpecSet, roots: Roots) -> Result<Listing<Word>, AllocError>
-    ensures { IfOk result (λ names. names ≡ reached roots set.now) }
+fn reached(
+    alloc: Global,
+    set: &SpecSet,
+    roots: Roots,
+    texts: &[Word],
+) -> Result<Listing<Word>, AllocError>
+    ensures { IfOk result (λ names. names ≡ reached roots texts.now set.now) }
 {
     let mut names = first_names(alloc, roots)?;
-    add_pairs(alloc, &mut names, set)?;
+    add_pairs(alloc, &mut names, texts, set)?;
     let mut place = 0;
     while place < MOST_TEXTS && place < names.len() {
         let tree = set.tree(names.as_slice()[place].as_bytes());
@@ -147,25 +179,41 @@ fn push_all_named(dump: &mut Word, set: &SpecSet, names: &[Word]) -> Result<(), 
     Ok(())
 }
 
-/// Adds pairs.
-fn push_pairs(dump: &mut Word, pairs: &[(Word, Word)]) -> Result<(), AllocError>
-    ensures { OnOk result (dump.new ≡ dump.old ++ flat_map entry_text pairs.now) }
+/// Adds a pair, where its text is one of these.
+fn push_pair(dump: &mut Word, texts: &[Word], pair: &(Word, Word)) -> Result<(), AllocError>
+    ensures { OnOk result (dump.new ≡ dump.old ++ pair_entry texts.now pair.now) }
 {
-    for (key, text) in pairs {
+    let (key, text) = pair;
+    if is_among(texts, text.as_bytes()) {
         push_entry(dump, key.as_bytes(), text.as_bytes())?;
     }
     Ok(())
 }
 
-/// The texts of a set that a plan can use, as the set's dump has them (GCC manual, "-dumpspecs"). They
-/// are the pairs, the text of the link where the plan has one, and each named text that one of these
-/// or of those names.
-pub fn reached_dump(alloc: Global, set: &SpecSet, roots: Roots) -> Result<Word, AllocError>
-    ensures { IfOk result (λ dump. dump ≡ reached_dump roots set.now) }
+/// Adds the pairs whose texts are among these.
+fn push_pairs(dump: &mut Word, texts: &[Word], pairs: &[(Word, Word)]) -> Result<(), AllocError>
+    ensures { OnOk result (dump.new ≡ dump.old ++ flat_map (pair_entry texts.now) pairs.now) }
 {
-    let names = reached(alloc, set, roots)?;
+    for pair in pairs {
+        push_pair(dump, texts, pair)?;
+    }
+    Ok(())
+}
+
+/// The texts of a set that a plan can use, as the set's dump has them (GCC manual, "-dumpspecs"). They
+/// are those of its sources, each the text of a pair, that of the link where the plan has one, and
+/// each named text that one of these or of those names.
+pub fn reached_dump(
+    alloc: Global,
+    set: &SpecSet,
+    roots: Roots,
+    texts: &[Word],
+) -> Result<Word, AllocError>
+    ensures { IfOk result (λ dump. dump ≡ reached_dump roots texts.now set.now) }
+{
+    let names = reached(alloc, set, roots, texts)?;
     let mut dump = Word::empty(alloc);
     push_all_named(&mut dump, set, names.as_slice())?;
-    push_pairs(&mut dump, set.pairs())?;
+    push_pairs(&mut dump, texts, set.pairs())?;
     Ok(dump)
 }

@@ -2,10 +2,10 @@ use Rattle.drv_check.proofs.reached.reached.Given as goal
 use Rattle.drv_check.specs.Reached.{most_texts, reached, reached_from}
 use Rattle.std.proofs.Common.{◌≡◌, ◌-◌}
 
--- The loops of reached (src/reached.rt). The names of the texts that a plan can use.
+-- The loops of reached (src/reached.rt). The names of the texts that a plan can use whose sources have these texts.
 
 abbrev pub invariant-loop-place : goal.invariant-loop-place
-invariant-loop-place l = reached_from l.set (most_texts - l.place) l.place l.names ≡ reached l.fn.roots l.set
+invariant-loop-place l = reached_from l.set (most_texts - l.place) l.place l.names ≡ reached l.fn.roots l.texts l.set
 
 abbrev pub decreases-loop-place : goal.decreases-loop-place
 decreases-loop-place l = 65536 - l.place
