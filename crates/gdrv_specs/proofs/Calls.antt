@@ -1,5 +1,6 @@
 use Rattle.drv_words.specs.Gives.{Gives}
-use Rattle.gdrv_specs.specs.Calls.{are_compared, asks_database, asks_json, asks_switches, asks_words, difference_asked, form_asked, line_compared, texts_compared}
+use Rattle.gdrv_specs.specs.Calls.{are_compared, asks_database, asks_json, asks_parts, asks_switches, asks_words, difference_asked}
+use Rattle.gdrv_specs.specs.Calls.{form_asked, line_compared, texts_compared}
 use Rattle.gdrv_specs.specs.declared.calling.Call.{Call}
 use Rattle.gdrv_specs.specs.declared.calling.Call.TheVariants.{Differ}
 use Rattle.gdrv_specs.specs.declared.calling.CallFault.TheVariants.{Memory, NotTwoFiles}
@@ -24,6 +25,11 @@ switches_word (word ∷ words) is = omega arith
 pub words_word : (words : List (List ℕ)) → asks_words words ≡ true → 0 < length words
 words_word [] is = absurd cc
 words_word (word ∷ words) is = omega arith
+
+-- words that ask for --parts have a first word
+pub parts_word : (words : List (List ℕ)) → asks_parts words ≡ true → 0 < length words
+parts_word [] is = absurd cc
+parts_word (word ∷ words) is = omega arith
 
 -- words that ask for --json have a first word
 pub json_word : (words : List (List ℕ)) → asks_json words ≡ true → 0 < length words

@@ -1,6 +1,6 @@
 use Rattle.drv_why.specs.declared.report.Report.TheVariants as report
 use Rattle.drv_why.specs.declared.report.Report.{Report}
-use Rattle.gdrv_specs.specs.declared.calling.Call.TheVariants.{After, Ask, Check, Database, Differ, Explain, Plan, Switches, Translate, Words}
+use Rattle.gdrv_specs.specs.declared.calling.Call.TheVariants.{After, Ask, Check, Database, Differ, Parts, Plan, Switches, Trace, Translate}
 use Rattle.gdrv_specs.specs.declared.calling.Call.{Call}
 use Rattle.gdrv_specs.specs.declared.calling.CallFault.TheVariants.{MissingAnswer, MissingFile, NoCommand, NoFiles, NotOneFile, NotTwoFiles}
 use Rattle.gdrv_specs.specs.declared.calling.CallFault.TheVariants.{TooManyAnswers, UnknownCommand, UnknownOption}
@@ -13,6 +13,7 @@ use Rattle.gdrv_specs.specs.declared.forms.Form.{Form}
 use Rattle.gdrv_specs.specs.declared.help.Question.TheVariants.{Help, Version}
 use Rattle.gdrv_specs.specs.Requests.{no_request, requested_from}
 use Rattle.gdrv_specs.specs.declared.requesting.Request.{Request}
+use Rattle.gdrv_specs.specs.declared.views.Scope.TheVariants as scope
 use Rattle.std.specs.Cmp.Lexicographic.{pointwise}
 use Rattle.std.specs.Prelude.{Bool, Err, List, [], ◌∷◌, ◌++◌, None, Ok, Option, Result, Some, codes, drop, false, if◌then◌else◌, length}
 use Rattle.std.specs.Prelude.{nat_eq, nat_lt, true, ℕ}
@@ -150,7 +151,8 @@ check_by request None = if request.awaits then Err MissingFile else files_asked 
 abbrev pub check_asked : Request → Result Call CallFault
 check_asked request = check_by request request.unknown
 
--- The reasons of a line, or with a first word --switches what becomes of its switches, or with --words where its plan's words are from.
+-- Where the words of a line's plan are from and what becomes of its switches. A first word --words or --switches asks for one half, and
+-- --parts for what each part of the line changes.
 
 -- whether the words of why ask what becomes of switches
 abbrev pub asks_switches : List (List ℕ) → Bool
@@ -161,6 +163,11 @@ asks_switches (word ∷ words) = pointwise nat_eq word (codes "--switches")
 abbrev pub asks_words : List (List ℕ) → Bool
 asks_words [] = false
 asks_words (word ∷ words) = pointwise nat_eq word (codes "--words")
+
+-- whether they ask what each part of the line changes
+abbrev pub asks_parts : List (List ℕ) → Bool
+asks_parts [] = false
+asks_parts (word ∷ words) = pointwise nat_eq word (codes "--parts")
 
 -- each as text, or as JSON with a word --json at the beginning, before that word or after it
 
@@ -181,21 +188,30 @@ after_json words = if asks_json words then drop 1 words else words
 abbrev pub switches_asked : Report → List (List ℕ) → Call
 switches_asked otherwise words = Switches (report_of otherwise words) (after_json words)
 
+-- what why --parts asks for; a --json after it counts too
+abbrev pub parts_asked : Report → List (List ℕ) → Call
+parts_asked otherwise words = Parts (report_of otherwise words) (after_json words)
+
 -- what why --words asks for; a --json after it counts too
 abbrev pub words_asked : Report → List (List ℕ) → Call
-words_asked otherwise words = Words (report_of otherwise words) (after_json words)
+words_asked otherwise words = Trace (record { scope = scope.Words; report = report_of otherwise words }) (after_json words)
 
--- what why asks for without --switches: the reasons of a line, or where the words of its plan are from
-abbrev pub reasons_or_words : Report → List (List ℕ) → Call
-reasons_or_words form words = if asks_words words then words_asked form (drop 1 words) else Explain form words
+-- what why asks for without --switches and --parts: where the words of the plan are from, or that and the rest
+abbrev pub words_or_whole : Report → List (List ℕ) → Call
+words_or_whole form words =
+    if asks_words words then words_asked form (drop 1 words) else Trace (record { scope = scope.Whole; report = form }) words
 
--- what why asks for after a --json: that, or what becomes of its switches
-abbrev pub reasons_asked : Report → List (List ℕ) → Call
-reasons_asked form words = if asks_switches words then switches_asked form (drop 1 words) else reasons_or_words form words
+-- without --switches: what each part of the line changes, or one of these
+abbrev pub parts_or_words : Report → List (List ℕ) → Call
+parts_or_words form words = if asks_parts words then parts_asked form (drop 1 words) else words_or_whole form words
+
+-- what why asks for after a --json: what becomes of the switches, or one of these
+abbrev pub half_asked : Report → List (List ℕ) → Call
+half_asked form words = if asks_switches words then switches_asked form (drop 1 words) else parts_or_words form words
 
 -- what the words of why ask for
 abbrev pub why_asked : List (List ℕ) → Call
-why_asked words = reasons_asked (report_of report.Lines words) (after_json words)
+why_asked words = half_asked (report_of report.Lines words) (after_json words)
 
 -- what words ask for, by the command that the first one names
 abbrev pub asked_by : List ℕ → List (List ℕ) → Option Command → Result Call CallFault

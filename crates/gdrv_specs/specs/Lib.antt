@@ -12,5 +12,6 @@ pub mod Runs
 pub mod Switches
 pub mod Told
 pub mod Translations
+pub mod Views
 pub mod WarningNames
 pub mod WordOrigins

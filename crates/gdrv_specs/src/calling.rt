@@ -1,10 +1,13 @@
 //! What a call of the program asks for.
 
-ghost use Rattle.gdrv_specs.specs.Calls.{are_compared, asks_switches, asks_words, call_of, check_asked, command_named, difference_asked, form_asked};
-ghost use Rattle.gdrv_specs.specs.Calls.{line_compared, texts_compared};
-ghost use Rattle.gdrv_specs.specs.Calls.{cut_from, form_named, form_of, line_of, no_words, run_asked};
-ghost use Rattle.gdrv_specs.specs.Calls.{after_json, asks_database, asks_json, plan_asked, reasons_asked, reasons_or_words};
-ghost use Rattle.gdrv_specs.specs.Calls.{report_of, switches_asked, translation_asked, why_asked, words_asked};
+ghost use Rattle.gdrv_specs.specs.Calls.{are_compared, asks_parts, asks_switches, asks_words};
+ghost use Rattle.gdrv_specs.specs.Calls.{call_of, check_asked, command_named, difference_asked};
+ghost use Rattle.gdrv_specs.specs.Calls.{form_asked, line_compared, texts_compared, cut_from};
+ghost use Rattle.gdrv_specs.specs.Calls.{form_named, form_of, line_of, no_words, run_asked};
+ghost use Rattle.gdrv_specs.specs.Calls.{after_json, asks_database, asks_json, half_asked};
+ghost use Rattle.gdrv_specs.specs.Calls.{parts_asked, parts_or_words, plan_asked, report_of};
+ghost use Rattle.gdrv_specs.specs.Calls.{switches_asked, translation_asked, why_asked, words_asked};
+ghost use Rattle.gdrv_specs.specs.Calls.{words_or_whole};
 ghost use Rattle.drv_words.specs.Gives.{Gives};
 ghost use Rattle.gdrv_specs.specs.Requests.{no_request, requested_from};
 ghost use Rattle.gdrv_specs.specs.declared.calling.CallFault.TheVariants.{Memory};
@@ -15,6 +18,7 @@ use crate::differing::Comparison;
 use crate::forms::Form;
 use crate::help::Question;
 use crate::requesting::{Request, request_of};
+use crate::views::{Scope, View};
 use drv_why::Report;
 use drv_words::{Listing, Word};
 use std::alloc::{AllocError, Global};
@@ -43,7 +47,7 @@ pub enum Call {
     /// What is found in spec files.
     Check(Request),
     /// What each part of a line changes, in a form.
-    Explain {
+    Parts {
         report: Report,
         line: Listing<Word>,
     },
@@ -52,9 +56,9 @@ pub enum Call {
         report: Report,
         line: Listing<Word>,
     },
-    /// Where the words of a line's plan are from, in a form.
-    Words {
-        report: Report,
+    /// Where the words of a line's plan are from, alone or with what becomes of its switches.
+    Trace {
+        view: View,
         line: Listing<Word>,
     },
 }
@@ -341,6 +345,16 @@ fn asks_words(words: &[Word]) -> bool
     }
 }
 
+/// Whether the first of these words asks what each part of a line changes.
+fn asks_parts(words: &[Word]) -> bool
+    ensures { result ≡ asks_parts words.now }
+{
+    match words {
+        [word, ..] => word.as_bytes() == b"--parts".as_slice(),
+        _ => false,
+    }
+}
+
 /// Whether the first of these words asks for JSON.
 fn asks_json(words: &[Word]) -> bool
     ensures { result ≡ asks_json words.now }
@@ -376,25 +390,42 @@ fn switches_asked(otherwise: Report, words: Vec<Word>) -> Call
     }
 }
 
-/// Where the words of the plan of the line that words ask for are from.
-fn words_asked(otherwise: Report, words: Vec<Word>) -> Call
-    ensures { result ≡ words_asked otherwise words.items }
+/// What each part of the line that words ask for changes.
+fn parts_asked(otherwise: Report, words: Vec<Word>) -> Call
+    ensures { result ≡ parts_asked otherwise words.items }
 {
     let (report, line) = cut_report(otherwise, words);
-    Call::Words {
+    Call::Parts {
         report,
         line: Listing::from_vec(line),
     }
 }
 
-/// What words without `--switches` ask for in this form.
+/// Where the words of the plan of the line that words ask for are from.
+fn words_asked(otherwise: Report, words: Vec<Word>) -> Call
+    ensures { result ≡ words_asked otherwise words.items }
+{
+    let (report, line) = cut_report(otherwise, words);
+    Call::Trace {
+        view: View {
+            scope: Scope::Words,
+            report,
+        },
+        line: Listing::from_vec(line),
+    }
+}
+
+/// What words that name no part of the answer ask for in this form, unless they ask for the words.
 #[tactic(auto, using(crate::proofs::Calls::words_word))]
-fn reasons_or_words(report: Report, mut words: Vec<Word>) -> Call
-    ensures { result ≡ reasons_or_words report words.items }
+fn words_or_whole(report: Report, mut words: Vec<Word>) -> Call
+    ensures { result ≡ words_or_whole report words.items }
 {
     if !asks_words(words.as_slice()) {
-        return Call::Explain {
-            report,
+        return Call::Trace {
+            view: View {
+                scope: Scope::Whole,
+                report,
+            },
             line: Listing::from_vec(words),
         };
     }
@@ -402,13 +433,25 @@ fn reasons_or_words(report: Report, mut words: Vec<Word>) -> Call
     words_asked(report, words)
 }
 
+/// What words without `--switches` ask for in this form.
+#[tactic(auto, using(crate::proofs::Calls::parts_word))]
+fn parts_or_words(report: Report, mut words: Vec<Word>) -> Call
+    ensures { result ≡ parts_or_words report words.items }
+{
+    if !asks_parts(words.as_slice()) {
+        return words_or_whole(report, words);
+    }
+    let _ = words.remove(0);
+    parts_asked(report, words)
+}
+
 /// What words ask for in this form.
 #[tactic(auto, using(crate::proofs::Calls::switches_word))]
-fn reasons_asked(report: Report, mut words: Vec<Word>) -> Call
-    ensures { result ≡ reasons_asked report words.items }
+fn half_asked(report: Report, mut words: Vec<Word>) -> Call
+    ensures { result ≡ half_asked report words.items }
 {
     if !asks_switches(words.as_slice()) {
-        return reasons_or_words(report, words);
+        return parts_or_words(report, words);
     }
     let _ = words.remove(0);
     switches_asked(report, words)
@@ -419,7 +462,7 @@ fn why_asked(words: Vec<Word>) -> Call
     ensures { result ≡ why_asked words.items }
 {
     let (report, rest) = cut_report(Report::Lines, words);
-    reasons_asked(report, rest)
+    half_asked(report, rest)
 }
 
 /// What a call with these arguments asks for.

@@ -2,7 +2,8 @@
 
 ghost use Rattle.drv_run.specs.Drives.{Comes};
 ghost use Rattle.drv_run.specs.declared.work.Work.{Work};
-ghost use Rattle.drv_system.specs.Asking.{Asks, Extends};
+ghost use Rattle.drv_system.specs.Asking.{Extends};
+ghost use Rattle.drv_system.specs.Code.Asked.{Asked};
 ghost use Rattle.drv_system.specs.Facts.{Facts};
 ghost use Rattle.gdrv_specs.specs.Differences.{ComesTwice, TellsDifference, TellsWorks, difference_in};
 ghost use Rattle.gdrv_specs.specs.Differences.{dumps_difference, plans_changes, plans_difference};
@@ -16,7 +17,7 @@ use crate::outcome::Outcome;
 use drv_check::texts_difference;
 use drv_forms::{LineChange, changes, difference};
 use drv_run::{Ending, Work, status_of, work_of_call};
-use drv_system::{FactTable, System};
+use drv_system::{FactTable, Outside, System};
 use drv_words::{Listing, Plan, Word};
 use std::alloc::{AllocError, Global};
 
@@ -46,21 +47,20 @@ fn with_specs(alloc: Global, path: &Word, line: &[Word]) -> Result<Listing<Word>
 }
 
 /// What a line asks for with one more spec file.
-#[tactic(auto, using(drv_system::proofs::Asking::asks_nothing))]
+#[tactic(auto, using(drv_system::proofs::AskedCalls::asked_none))]
 fn work_with<S: System>(
     alloc: Global,
-    sys: &mut S,
-    facts: &mut FactTable,
     path: &Word,
     line: &[Word],
     seed: u32,
+    outside: &mut Outside<'_, S>,
 ) -> Result<Work, Ending>
-    ensures asks { Asks (S.events sys.old) (S.events sys.new) facts.old facts.new }
-    ensures comes { (F : Facts) → Extends facts.new F
+    ensures asks { Asked S.events outside.old outside.new }
+    ensures comes { (F : Facts) → Extends outside.new.facts.now F
         → Comes F (with_specs path.now line.now) seed result }
 {
     match with_specs(alloc, path, line) {
-        Ok(words) => work_of_call(alloc, words, seed, sys, facts),
+        Ok(words) => work_of_call(alloc, words, seed, outside.sys, outside.facts),
         Err(_) => Err(Ending::OutOfMemory),
     }
 }
@@ -68,17 +68,16 @@ fn work_with<S: System>(
 /// What a line asks for with each of the two files.
 fn works_of<S: System>(
     alloc: Global,
-    sys: &mut S,
-    facts: &mut FactTable,
     comparison: &Comparison,
     seed: u32,
+    outside: &mut Outside<'_, S>,
 ) -> Result<(Work, Work), Ending>
-    ensures asks { Asks (S.events sys.old) (S.events sys.new) facts.old facts.new }
-    ensures comes { (F : Facts) → Extends facts.new F → ComesTwice F comparison.now seed result }
+    ensures asks { Asked S.events outside.old outside.new }
+    ensures comes { (F : Facts) → Extends outside.new.facts.now F → ComesTwice F comparison.now seed result }
 {
     let line = comparison.line.as_slice();
-    match work_with(alloc, sys, facts, &comparison.first, line, seed) {
-        Ok(work) => match work_with(alloc, sys, facts, &comparison.second, line, seed) {
+    match work_with(alloc, &comparison.first, line, seed, outside) {
+        Ok(work) => match work_with(alloc, &comparison.second, line, seed, outside) {
             Ok(other) => Ok((work, other)),
             Err(ending) => Err(ending),
         },
@@ -242,7 +241,7 @@ pub fn tell_difference<S: System>(
     ensures { TellsDifference (S.events sys.old) (S.events sys.new) comparison.now seed result }
 {
     let facts = &mut FactTable::new(alloc);
-    match works_of(alloc, sys, facts, comparison, seed) {
+    match works_of(alloc, comparison, seed, &mut Outside { sys, facts }) {
         Ok((work, other)) => tell_works(alloc, sys, &work, &other),
         Err(ending) => Outcome::Ended(ending),
     }

@@ -4,7 +4,8 @@ ghost use Rattle.drv_run.specs.Calls.{IsWindow};
 ghost use Rattle.drv_run.specs.Code.Deciding.{ComesOfLine, ComesOfSpecs};
 ghost use Rattle.drv_run.specs.Drives.{Comes, work_of as work_given};
 ghost use Rattle.drv_run.specs.LineReads.{ComesLine, ReadsLine};
-ghost use Rattle.drv_system.specs.Asking.{Asks, Extends};
+ghost use Rattle.drv_system.specs.Asking.{Extends};
+ghost use Rattle.drv_system.specs.Code.Asked.{Asked};
 ghost use Rattle.drv_system.specs.Facts.{Facts};
 ghost use Rattle.gdrv_specs.specs.Code.Explaining.{HasSpecs, reason_of, rest_by};
 ghost use Rattle.gdrv_specs.specs.Reasons.{Answers, AnswersAll, Gives, Reports, TellsText, TellsWhy, rest_of};
@@ -14,19 +15,28 @@ ghost use Rattle.std.specs.Prelude.{◌≡◌, IfOk, OnErr, Some, nat_eq, true};
 
 use crate::differing::{changes_of, dumps_of};
 use crate::outcome::Outcome;
-use crate::switches::set_of;
+use crate::switches::{read_line, set_of};
 use drv_args::{Line, Settings};
 use drv_plan::Specified;
-use drv_run::{Ending, Work, line_of_call, refusal_text, status_of, work_of};
+use drv_run::{Ending, Work, refusal_text, status_of, work_of};
 use drv_specs::SpecSet;
-use drv_system::{FactTable, System};
+use drv_system::{FactTable, Outside, System};
 use drv_why::{LinePart, Reason, Report, Rest, part_words, parts_of, reasons_report, without};
 use drv_words::{Listing, Word, copy_words};
 use std::alloc::{AllocError, Global};
 
+/// The words of a line, and how its reasons are printed.
+#[derive(Drop)]
+struct Asking<'a> {
+    report: Report,
+    args: &'a [Word],
+    seed: u32,
+}
+
 /// A line that was read, with its words and its specs.
 #[derive(Drop)]
 struct Explained<'a> {
+    report: Report,
     args: &'a [Word],
     line: &'a Line,
     set: &'a SpecSet,
@@ -75,18 +85,18 @@ fn reason_of(
 /// What a line with these specs asks for.
 pub(crate) fn work_with<S: System>(
     alloc: Global,
-    sys: &mut S,
-    facts: &mut FactTable,
     line: &Line,
     set: &SpecSet,
     seed: u32,
+    outside: &mut Outside<'_, S>,
 ) -> Result<Work, Ending>
     requires { IsWindow line.now.settings.jobs }
-    ensures asks { Asks (S.events sys.old) (S.events sys.new) facts.old facts.new }
-    ensures comes { (F : Facts) → Extends facts.new F
+    ensures asks { Asked S.events outside.old outside.new }
+    ensures comes { (F : Facts) → Extends outside.new.facts.now F
         → ComesOfSpecs (work_given F line.now set.now seed) result }
 {
-    match work_of(alloc, &Specified { line, set, seed }, sys, facts) {
+    let given = Specified { line, set, seed };
+    match work_of(alloc, &given, outside.sys, outside.facts) {
         Ok(work) => Ok(work),
         Err(fault) => Err(Ending::from(fault)),
     }
@@ -115,22 +125,21 @@ fn have_same_specs(settings: &Settings, others: &Settings) -> bool
 /// other spec files.
 fn work_beside<S: System>(
     alloc: Global,
-    sys: &mut S,
-    facts: &mut FactTable,
     explained: &Explained<'_>,
     line: &Line,
+    outside: &mut Outside<'_, S>,
 ) -> Result<Work, Ending>
     requires { IsWindow line.now.settings.jobs }
-    ensures asks { Asks (S.events sys.old) (S.events sys.new) facts.old facts.new }
-    ensures comes { (F : Facts) → Extends facts.new F
+    ensures asks { Asked S.events outside.old outside.new }
+    ensures comes { (F : Facts) → Extends outside.new.facts.now F
         → HasSpecs F explained.now.line.now explained.now.set.now
         → ComesOfLine F line.now explained.now.seed result }
 {
     if have_same_specs(&line.settings, &explained.line.settings) {
-        return work_with(alloc, sys, facts, line, explained.set, explained.seed);
+        return work_with(alloc, line, explained.set, explained.seed, outside);
     }
-    match set_of(alloc, &line.settings, sys, facts) {
-        Ok(set) => work_with(alloc, sys, facts, line, &set, explained.seed),
+    match set_of(alloc, &line.settings, outside) {
+        Ok(set) => work_with(alloc, line, &set, explained.seed, outside),
         Err(fault) => Err(Ending::from(fault)),
     }
 }
@@ -138,112 +147,104 @@ fn work_beside<S: System>(
 /// What words ask for beside a line whose specs are known.
 fn work_without<S: System>(
     alloc: Global,
-    sys: &mut S,
-    facts: &mut FactTable,
     explained: &Explained<'_>,
     rest: Listing<Word>,
+    outside: &mut Outside<'_, S>,
 ) -> Result<Work, Ending>
-    ensures asks { Asks (S.events sys.old) (S.events sys.new) facts.old facts.new }
-    ensures comes { (F : Facts) → Extends facts.new F
+    ensures asks { Asked S.events outside.old outside.new }
+    ensures comes { (F : Facts) → Extends outside.new.facts.now F
         → HasSpecs F explained.now.line.now explained.now.set.now
         → Comes F rest explained.now.seed result }
 {
-    match line_of_call(alloc, rest, sys, facts) {
-        Ok(line) => work_beside(alloc, sys, facts, explained, &line),
+    match read_line(alloc, rest, outside) {
+        Ok(line) => work_beside(alloc, explained, &line, outside),
         Err(ending) => Err(ending),
     }
 }
 
 /// What is said of a part.
-#[tactic(auto, using(drv_system::proofs::Asking::asks_nothing))]
+#[tactic(auto, using(drv_system::proofs::AskedCalls::asked_none))]
 fn answer<S: System>(
     alloc: Global,
-    sys: &mut S,
-    facts: &mut FactTable,
     explained: &Explained<'_>,
     work: &Work,
     part: &LinePart,
+    outside: &mut Outside<'_, S>,
 ) -> Result<Reason, AllocError>
-    ensures asks { Asks (S.events sys.old) (S.events sys.new) facts.old facts.new }
-    ensures answers { (F : Facts) → Extends facts.new F
+    ensures asks { Asked S.events outside.old outside.new }
+    ensures answers { (F : Facts) → Extends outside.new.facts.now F
         → HasSpecs F explained.now.line.now explained.now.set.now → IfOk result
         (Answers F explained.now.args.now work.now explained.now.seed part.now) }
 {
     let rest = without(alloc, explained.args, *part)?;
-    let found = work_without(alloc, sys, facts, explained, rest);
+    let found = work_without(alloc, explained, rest, outside);
     reason_of(alloc, explained.args, work, *part, &found)
 }
 
 /// What is said of parts, one after another.
-#[tactic(auto, using(drv_system::proofs::Asking::asks_nothing, drv_system::proofs::Asking::asks_then))]
+#[tactic(auto, using(drv_system::proofs::AskedCalls::asked_none, drv_system::proofs::AskedCalls::asked_further))]
 fn answers<S: System>(
     alloc: Global,
-    sys: &mut S,
-    facts: &mut FactTable,
     explained: &Explained<'_>,
     work: &Work,
     parts: &[LinePart],
+    outside: &mut Outside<'_, S>,
 ) -> Result<Listing<Reason>, AllocError>
-    ensures asks { Asks (S.events sys.old) (S.events sys.new) facts.old facts.new }
-    ensures answers { (F : Facts) → Extends facts.new F
+    ensures asks { Asked S.events outside.old outside.new }
+    ensures answers { (F : Facts) → Extends outside.new.facts.now F
         → HasSpecs F explained.now.line.now explained.now.set.now → IfOk result
         (AnswersAll F explained.now.args.now work.now explained.now.seed parts.now) }
 {
     let mut reasons = Listing::new(alloc);
     for part in parts {
-        let reason = answer(alloc, sys, facts, explained, work, part)?;
+        let reason = answer(alloc, explained, work, part, outside)?;
         reasons.push(reason)?;
     }
     Ok(reasons)
 }
 
 /// The text about all parts of a line.
-#[tactic(auto, using(drv_system::proofs::Asking::asks_nothing))]
+#[tactic(auto, using(drv_system::proofs::AskedCalls::asked_none))]
 fn report_of<S: System>(
     alloc: Global,
-    sys: &mut S,
-    facts: &mut FactTable,
-    report: Report,
     explained: &Explained<'_>,
     work: &Work,
+    outside: &mut Outside<'_, S>,
 ) -> Result<Word, AllocError>
-    ensures asks { Asks (S.events sys.old) (S.events sys.new) facts.old facts.new }
-    ensures reports { (F : Facts) → Extends facts.new F
+    ensures asks { Asked S.events outside.old outside.new }
+    ensures reports { (F : Facts) → Extends outside.new.facts.now F
         → HasSpecs F explained.now.line.now explained.now.set.now → IfOk result
-        (Reports F report explained.now.args.now work.now explained.now.seed) }
+        (Reports F explained.now.report explained.now.args.now work.now explained.now.seed) }
 {
     let parts = parts_of(alloc, explained.args)?;
-    let reasons = answers(alloc, sys, facts, explained, work, parts.as_slice())?;
-    reasons_report(alloc, report, reasons.as_slice())
+    let reasons = answers(alloc, explained, work, parts.as_slice(), outside)?;
+    reasons_report(alloc, explained.report, reasons.as_slice())
 }
 
 /// The reasons of a line whose specs are known, or its ending in their place.
 fn reasons_with_specs<S: System>(
     alloc: Global,
-    sys: &mut S,
-    facts: &mut FactTable,
-    report: Report,
     explained: &Explained<'_>,
+    outside: &mut Outside<'_, S>,
 ) -> Result<Word, Ending>
     requires { IsWindow explained.now.line.now.settings.jobs }
-    ensures asks { Asks (S.events sys.old) (S.events sys.new) facts.old facts.new }
-    ensures gives { (F : Facts) → Extends facts.new F
+    ensures asks { Asked S.events outside.old outside.new }
+    ensures gives { (F : Facts) → Extends outside.new.facts.now F
         → HasSpecs F explained.now.line.now explained.now.set.now
         → ReadsLine F explained.now.args.now explained.now.line.now
-        → Gives F report explained.now.args.now explained.now.seed result }
+        → Gives F explained.now.report explained.now.args.now explained.now.seed result }
 {
     let work = match work_with(
         alloc,
-        sys,
-        facts,
         explained.line,
         explained.set,
         explained.seed,
+        outside,
     ) {
         Ok(work) => work,
         Err(ending) => return Err(ending),
     };
-    match report_of(alloc, sys, facts, report, explained, &work) {
+    match report_of(alloc, explained, &work, outside) {
         Ok(text) => Ok(text),
         Err(_) => Err(Ending::OutOfMemory),
     }
@@ -252,44 +253,41 @@ fn reasons_with_specs<S: System>(
 /// The reasons of a line that was read, or its ending in their place.
 fn reasons_of_line<S: System>(
     alloc: Global,
-    sys: &mut S,
-    facts: &mut FactTable,
-    report: Report,
-    args: &[Word],
+    asked: &Asking<'_>,
     line: &Line,
-    seed: u32,
+    outside: &mut Outside<'_, S>,
 ) -> Result<Word, Ending>
     requires { IsWindow line.now.settings.jobs }
-    ensures asks { Asks (S.events sys.old) (S.events sys.new) facts.old facts.new }
-    ensures gives { (F : Facts) → Extends facts.new F → ReadsLine F args.now line.now
-        → Gives F report args.now seed result }
+    ensures asks { Asked S.events outside.old outside.new }
+    ensures gives { (F : Facts) → Extends outside.new.facts.now F → ReadsLine F asked.now.args.now line.now
+        → Gives F asked.now.report asked.now.args.now asked.now.seed result }
 {
-    let set = match set_of(alloc, &line.settings, sys, facts) {
+    let set = match set_of(alloc, &line.settings, outside) {
         Ok(set) => set,
         Err(fault) => return Err(Ending::from(fault)),
     };
     let explained = Explained {
-        args,
+        report: asked.report,
+        args: asked.args,
         line,
         set: &set,
-        seed,
+        seed: asked.seed,
     };
-    reasons_with_specs(alloc, sys, facts, report, &explained)
+    reasons_with_specs(alloc, &explained, outside)
 }
 
 /// The line of words, which stay.
-#[tactic(auto, using(drv_system::proofs::Asking::asks_nothing))]
+#[tactic(auto, using(drv_system::proofs::AskedCalls::asked_none))]
 fn line_of_words<S: System>(
     alloc: Global,
-    sys: &mut S,
-    facts: &mut FactTable,
     args: &[Word],
+    outside: &mut Outside<'_, S>,
 ) -> Result<Line, Ending>
-    ensures asks { Asks (S.events sys.old) (S.events sys.new) facts.old facts.new }
-    ensures comes { (F : Facts) → Extends facts.new F → ComesLine F args.now result }
+    ensures asks { Asked S.events outside.old outside.new }
+    ensures comes { (F : Facts) → Extends outside.new.facts.now F → ComesLine F args.now result }
 {
     match copy_words(alloc, args) {
-        Ok(copy) => line_of_call(alloc, copy, sys, facts),
+        Ok(copy) => read_line(alloc, copy, outside),
         Err(_) => Err(Ending::OutOfMemory),
     }
 }
@@ -297,17 +295,15 @@ fn line_of_words<S: System>(
 /// The reasons of a line, or its ending in their place.
 fn reasons<S: System>(
     alloc: Global,
-    sys: &mut S,
-    facts: &mut FactTable,
-    report: Report,
-    args: &[Word],
-    seed: u32,
+    asked: &Asking<'_>,
+    outside: &mut Outside<'_, S>,
 ) -> Result<Word, Ending>
-    ensures asks { Asks (S.events sys.old) (S.events sys.new) facts.old facts.new }
-    ensures gives { (F : Facts) → Extends facts.new F → Gives F report args.now seed result }
+    ensures asks { Asked S.events outside.old outside.new }
+    ensures gives { (F : Facts) → Extends outside.new.facts.now F
+        → Gives F asked.now.report asked.now.args.now asked.now.seed result }
 {
-    match line_of_words(alloc, sys, facts, args) {
-        Ok(line) => reasons_of_line(alloc, sys, facts, report, args, &line, seed),
+    match line_of_words(alloc, asked.args, outside) {
+        Ok(line) => reasons_of_line(alloc, asked, &line, outside),
         Err(ending) => Err(ending),
     }
 }
@@ -346,7 +342,12 @@ pub fn tell_why<S: System>(
     ensures { TellsWhy (S.events sys.old) (S.events sys.new) report line.now seed result }
 {
     let facts = &mut FactTable::new(alloc);
-    match reasons(alloc, sys, facts, report, line, seed) {
+    let asked = Asking {
+        report,
+        args: line,
+        seed,
+    };
+    match reasons(alloc, &asked, &mut Outside { sys, facts }) {
         Ok(text) => tell_reasons(sys, &text),
         Err(ending) => Outcome::Ended(ending),
     }

@@ -9,7 +9,7 @@ Usage: gdrv-specs check [--json] [-Werror] [-Wno-NAME]... [--over FILE]... FILE.
        gdrv-specs after LINE... [--fail PLACE=ANSWER]...
        gdrv-specs translate FILE
        gdrv-specs diff FILE FILE [-- LINE...]
-       gdrv-specs why [--json] [--switches | --words] LINE...
+       gdrv-specs why [--json] [--words | --switches | --parts] LINE...
 gdrv-specs prints what gdrv would do with a line. It starts nothing and makes no
 file.
 
@@ -27,11 +27,13 @@ file.
   diff            print what differs between the commands of the line with the
                   first spec FILE and with the second; without LINE, what
                   differs between the texts
-  why             print what each option and each file of the line changes
-  why --switches  print which texts pass each switch on, test it or hide it, and
-                  which later switch cancels it
-  why --words     print the commands of the line, and under each its words with
-                  the parts of texts that they are from
+  why             print the commands of the line, and under each its words with
+                  the parts of texts that they are from; then which texts pass
+                  each switch on, test it or hide it, and which later switch
+                  cancels it
+  why --words     print the first half of that
+  why --switches  print the second half of that
+  why --parts     print what each option and each file of the line changes
   why --json      print any of these as JSON
 
 The words of LINE are those of gdrv, -specs=FILE among them. The manual page

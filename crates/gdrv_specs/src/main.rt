@@ -19,6 +19,7 @@ mod requesting;
 mod running;
 mod switches;
 mod translating;
+mod views;
 mod warning_names;
 mod word_origins;
 
@@ -43,6 +44,7 @@ use std::process::ExitCode;
 use std::rt::Env;
 use switches::tell_switches;
 use translating::translate_file;
+use views::View;
 use word_origins::tell_words;
 
 const OUT_OF_MEMORY: &[u8] = b"gdrv-specs: out of memory\n";
@@ -142,10 +144,10 @@ fn follow(rt: &HostRuntime, report: Report, line: Listing<Word>) -> Result<Outco
 }
 
 /// Tells where the words of a line's plan are from to this process's user.
-fn trace(rt: &HostRuntime, report: Report, line: Listing<Word>) -> Result<Outcome, AllocError> {
+fn trace(rt: &HostRuntime, view: View, line: Listing<Word>) -> Result<Outcome, AllocError> {
     let seed = clock_seed(rt)?;
     let mut sys = HostSystem::new(rt.clone()?, Reporter::Gdrv);
-    Ok(tell_words(rt.alloc(), &mut sys, report, line, seed))
+    Ok(tell_words(rt.alloc(), &mut sys, view, line, seed))
 }
 
 /// Checks spec files for this process's user.
@@ -172,9 +174,9 @@ fn act(rt: &HostRuntime, call: Call) -> Outcome {
         Call::Translate(path) => outcome_or_lack(translate(rt, path)),
         Call::Differ(comparison) => outcome_or_lack(compare(rt, &comparison)),
         Call::Check(request) => outcome_or_lack(check(rt, &request)),
-        Call::Explain { report, line } => outcome_or_lack(explain(rt, report, line.as_slice())),
+        Call::Parts { report, line } => outcome_or_lack(explain(rt, report, line.as_slice())),
         Call::Switches { report, line } => outcome_or_lack(follow(rt, report, line)),
-        Call::Words { report, line } => outcome_or_lack(trace(rt, report, line)),
+        Call::Trace { view, line } => outcome_or_lack(trace(rt, view, line)),
     }
 }
 

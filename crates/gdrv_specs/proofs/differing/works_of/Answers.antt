@@ -1,25 +1,25 @@
-use Rattle.drv_system.proofs.Asking.{asks_extends, asks_then, extends_then}
+use Rattle.drv_system.proofs.AskedCalls.{asked_further, extends_before}
 use Rattle.gdrv_specs.proofs.Differences.{comes_both, ends_first, ends_second}
 use Rattle.gdrv_specs.proofs.differing.works_of.Goals as goal
 
 -- works_of (src/differing.rt). What a line asks for with each of the two files.
 
 pub returns-in-Ok-work_with-clause-asks : goal.returns-in-Ok-work_with-clause-asks
-returns-in-Ok-work_with-clause-asks g c = asks_then c.work_with.ensures.asks c.work_with-in-Ok.ensures.asks
+returns-in-Ok-work_with-clause-asks g c = asked_further c.work_with.ensures.asks c.work_with-in-Ok.ensures.asks
 
 pub returns-in-Ok-work_with-clause-comes : goal.returns-in-Ok-work_with-clause-comes
 returns-in-Ok-work_with-clause-comes g c F e =
     comes_both F c.args.comparison.now c.args.seed c.in-Ok.work c.in-Ok-work_with.other c.as_slice-line.result.now c.as_slice-line.ensures
-    (c.in-Ok.ensures.comes F (extends_then (asks_extends c.work_with-in-Ok.ensures.asks) e)) (c.in-Ok-work_with.ensures.comes F e)
+    (c.in-Ok.ensures.comes F (extends_before c.work_with-in-Ok.ensures.asks e)) (c.in-Ok-work_with.ensures.comes F e)
 
 pub returns-in-Err-work_with-clause-asks : goal.returns-in-Err-work_with-clause-asks
-returns-in-Err-work_with-clause-asks g c = asks_then c.work_with.ensures.asks c.work_with-in-Ok.ensures.asks
+returns-in-Err-work_with-clause-asks g c = asked_further c.work_with.ensures.asks c.work_with-in-Ok.ensures.asks
 
 pub returns-in-Err-work_with-clause-comes : goal.returns-in-Err-work_with-clause-comes
 returns-in-Err-work_with-clause-comes g c F e =
     ends_second F c.args.comparison.now c.args.seed c.in-Ok.work c.in-Err-work_with.ending c.as_slice-line.result.now
     c.as_slice-line.ensures
-    (c.in-Ok.ensures.comes F (extends_then (asks_extends c.work_with-in-Ok.ensures.asks) e)) (c.in-Err-work_with.ensures.comes F e)
+    (c.in-Ok.ensures.comes F (extends_before c.work_with-in-Ok.ensures.asks e)) (c.in-Err-work_with.ensures.comes F e)
 
 pub returns-in-Err-clause-asks : goal.returns-in-Err-clause-asks
 returns-in-Err-clause-asks g c = c.work_with.ensures.asks

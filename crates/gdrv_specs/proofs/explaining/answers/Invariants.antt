@@ -1,4 +1,5 @@
-use Rattle.drv_system.specs.Asking.{Asks, Extends}
+use Rattle.drv_system.specs.Asking.{Extends}
+use Rattle.drv_system.specs.Code.Asked.{Asked}
 use Rattle.drv_system.specs.Facts.{Facts}
 use Rattle.drv_why.specs.declared.reasons.Reason.{Reason}
 use Rattle.gdrv_specs.proofs.explaining.answers.Given as goal
@@ -10,8 +11,8 @@ use Rattle.std.proofs.Common.{◌++◌, List, drop}
 
 abbrev pub invariant-loop-part : goal.invariant-loop-part
 invariant-loop-part g l = record {
-  asks : Asks (g.S.System.events l.fn.sys) (g.S.System.events l.sys) l.fn.facts l.facts;
-  rest : (F : Facts) → Extends l.facts F → HasSpecs F l.explained.line.now l.explained.set.now → (others : List Reason)
+  asks : Asked g.S.System.events l.fn.outside l.outside;
+  rest : (F : Facts) → Extends l.outside.facts.now F → HasSpecs F l.explained.line.now l.explained.set.now → (others : List Reason)
       → AnswersAll F l.explained.args.now l.work l.explained.seed (drop l.part-index l.parts) others
       → AnswersAll F l.explained.args.now l.work l.explained.seed l.parts (l.reasons ++ others);
 }

@@ -1,20 +1,21 @@
-use Rattle.drv_system.proofs.Asking.{asks_extends, asks_then, extends_refl, extends_then}
+use Rattle.drv_system.proofs.AskedCalls.{asked_further, extends_before}
+use Rattle.drv_system.proofs.Asking.{extends_refl}
 use Rattle.gdrv_specs.proofs.Reasons.{few_sources}
 use Rattle.gdrv_specs.proofs.explaining.reasons.Goals as goal
 
 -- reasons (src/explaining.rt). The reasons of a line, or its ending in their place.
 
 pub reasons_of_line-requires : goal.reasons_of_line-requires
-reasons_of_line-requires g c = few_sources c.line_of_words.new.facts c.args.args.now c.in-Ok.line
-    (c.in-Ok.ensures.comes c.line_of_words.new.facts (extends_refl c.line_of_words.new.facts))
+reasons_of_line-requires g c = few_sources c.line_of_words.new.outside.facts.now c.args.asked.now.args.now c.in-Ok.line
+    (c.in-Ok.ensures.comes c.line_of_words.new.outside.facts.now (extends_refl c.line_of_words.new.outside.facts.now))
 
 pub returns-in-Ok-clause-asks : goal.returns-in-Ok-clause-asks
-returns-in-Ok-clause-asks g c = asks_then c.line_of_words.ensures.asks c.reasons_of_line.ensures.asks
+returns-in-Ok-clause-asks g c = asked_further c.line_of_words.ensures.asks c.reasons_of_line.ensures.asks
 
 pub returns-in-Ok-clause-gives : goal.returns-in-Ok-clause-gives
 returns-in-Ok-clause-gives g c F e =
     c.reasons_of_line.ensures.gives F e
-    (c.in-Ok.ensures.comes F (extends_then (asks_extends c.reasons_of_line.ensures.asks) e))
+    (c.in-Ok.ensures.comes F (extends_before c.reasons_of_line.ensures.asks e))
 
 pub returns-in-Err-clause-gives : goal.returns-in-Err-clause-gives
-returns-in-Err-clause-gives g c F e = c.in-Err.ensures.comes F e c.args.seed
+returns-in-Err-clause-gives g c F e = c.in-Err.ensures.comes F e c.args.asked.now.seed

@@ -1,4 +1,4 @@
-use Rattle.drv_system.proofs.Asking.{asks_extends, asks_then, extends_then}
+use Rattle.drv_system.proofs.AskedCalls.{asked_further, extends_before}
 use Rattle.gdrv_specs.proofs.Reasons.{reasons_without_specs}
 use Rattle.gdrv_specs.proofs.explaining.reasons_of_line.Goals as goal
 
@@ -6,13 +6,13 @@ use Rattle.gdrv_specs.proofs.explaining.reasons_of_line.Goals as goal
 
 pub returns-in-Err-clause-gives : goal.returns-in-Err-clause-gives
 returns-in-Err-clause-gives g c F e reads =
-    reasons_without_specs F c.args.report c.args.args.now c.args.line.now c.args.seed c.in-Err.fault c.from.result c.from.ensures
-    (c.in-Err.ensures.loads F e) reads
+    reasons_without_specs F c.args.asked.now.report c.args.asked.now.args.now c.args.line.now c.args.asked.now.seed c.in-Err.fault
+    c.from.result c.from.ensures (c.in-Err.ensures.loads F e) reads
 
 pub returns-clause-asks : goal.returns-clause-asks
-returns-clause-asks g c = asks_then c.set_of.ensures.asks c.reasons_with_specs.ensures.asks
+returns-clause-asks g c = asked_further c.set_of.ensures.asks c.reasons_with_specs.ensures.asks
 
 pub returns-clause-gives : goal.returns-clause-gives
 returns-clause-gives g c F e reads =
     c.reasons_with_specs.ensures.gives F e
-    (c.in-Ok.ensures.loads F (extends_then (asks_extends c.reasons_with_specs.ensures.asks) e)) reads
+    (c.in-Ok.ensures.loads F (extends_before c.reasons_with_specs.ensures.asks e)) reads

@@ -1,4 +1,4 @@
-use Rattle.drv_system.proofs.Asking.{asks_extends, asks_then, extends_then}
+use Rattle.drv_system.proofs.AskedCalls.{asked_further, extends_before}
 use Rattle.gdrv_specs.proofs.Reasons.{reasons_with_work, reasons_without_work}
 use Rattle.gdrv_specs.proofs.explaining.reasons_with_specs.Goals as goal
 
@@ -6,17 +6,17 @@ use Rattle.gdrv_specs.proofs.explaining.reasons_with_specs.Goals as goal
 
 pub returns-in-Err-clause-gives : goal.returns-in-Err-clause-gives
 returns-in-Err-clause-gives g c F e has reads =
-    reasons_without_work F c.args.report c.args.explained.now.args.now c.args.explained.now.line.now c.args.explained.now.set.now
-    c.args.explained.now.seed c.in-Err.ending has reads (c.in-Err.ensures.comes F e)
+    reasons_without_work F c.args.explained.now.report c.args.explained.now.args.now c.args.explained.now.line.now
+    c.args.explained.now.set.now c.args.explained.now.seed c.in-Err.ending has reads (c.in-Err.ensures.comes F e)
 
 pub returns-in-Ok-report_of-clause-asks : goal.returns-in-Ok-report_of-clause-asks
-returns-in-Ok-report_of-clause-asks g c = asks_then c.work_with.ensures.asks c.report_of.ensures.asks
+returns-in-Ok-report_of-clause-asks g c = asked_further c.work_with.ensures.asks c.report_of.ensures.asks
 
 pub returns-in-Ok-report_of-clause-gives : goal.returns-in-Ok-report_of-clause-gives
 returns-in-Ok-report_of-clause-gives g c F e has reads =
-    reasons_with_work F c.args.report c.args.explained.now.args.now c.args.explained.now.line.now c.args.explained.now.set.now
+    reasons_with_work F c.args.explained.now.report c.args.explained.now.args.now c.args.explained.now.line.now c.args.explained.now.set.now
     c.args.explained.now.seed c.in-Ok.work c.in-Ok-report_of.text has reads
-    (c.in-Ok.ensures.comes F (extends_then (asks_extends c.report_of.ensures.asks) e)) (c.in-Ok-report_of.ensures.reports F e has)
+    (c.in-Ok.ensures.comes F (extends_before c.report_of.ensures.asks e)) (c.in-Ok-report_of.ensures.reports F e has)
 
 pub returns-clause-asks : goal.returns-clause-asks
-returns-clause-asks g c = asks_then c.work_with.ensures.asks c.report_of.ensures.asks
+returns-clause-asks g c = asked_further c.work_with.ensures.asks c.report_of.ensures.asks

@@ -7,8 +7,8 @@ use Rattle.std.proofs.Common.{◌≡◌, ◌∙◌, IfOk, subst}
 
 pub returns-clause-reports : goal.returns-clause-reports
 returns-clause-reports g c F e has =
-    reported F c.args.report c.args.explained.now.args.now c.args.work.now c.args.explained.now.seed c.as_slice.result.now
+    reported F c.args.explained.now.report c.args.explained.now.args.now c.args.work.now c.args.explained.now.seed c.as_slice.result.now
     c.in_ok-reasons.reasons c.reasons_report.result (c.as_slice.ensures ∙ c.in_ok-parts.ensures)
     (c.in_ok-reasons.ensures.answers F e has)
-    (subst (λ rs. IfOk c.reasons_report.result (λ text. text ≡ reasons_report c.args.report rs)) c.as_slice-2.ensures
+    (subst (λ rs. IfOk c.reasons_report.result (λ text. text ≡ reasons_report c.args.explained.now.report rs)) c.as_slice-2.ensures
     c.reasons_report.ensures)

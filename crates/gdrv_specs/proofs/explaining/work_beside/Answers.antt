@@ -1,4 +1,4 @@
-use Rattle.drv_system.proofs.Asking.{asks_extends, asks_then, extends_then}
+use Rattle.drv_system.proofs.AskedCalls.{asked_further, extends_before}
 use Rattle.gdrv_specs.proofs.Reasons.{comes_with_specs, comes_without_specs, known_specs}
 use Rattle.gdrv_specs.proofs.explaining.work_beside.Goals as goal
 
@@ -14,11 +14,11 @@ returns-then-have_same_specs-clause-comes g c F e has =
 pub returns-in-Ok-clause-comes : goal.returns-in-Ok-clause-comes
 returns-in-Ok-clause-comes g c F e has =
     comes_with_specs F c.args.line.now c.in-Ok.set c.args.explained.now.seed c.work_with-in-Ok.result
-    (c.in-Ok.ensures.loads F (extends_then (asks_extends c.work_with-in-Ok.ensures.asks) e))
+    (c.in-Ok.ensures.loads F (extends_before c.work_with-in-Ok.ensures.asks e))
     (c.work_with-in-Ok.ensures.comes F e)
 
 pub returns-in-Ok-clause-asks : goal.returns-in-Ok-clause-asks
-returns-in-Ok-clause-asks g c = asks_then c.set_of.ensures.asks c.work_with-in-Ok.ensures.asks
+returns-in-Ok-clause-asks g c = asked_further c.set_of.ensures.asks c.work_with-in-Ok.ensures.asks
 
 pub returns-in-Err-clause-comes : goal.returns-in-Err-clause-comes
 returns-in-Err-clause-comes g c F e has =

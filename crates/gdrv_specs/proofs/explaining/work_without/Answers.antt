@@ -1,19 +1,20 @@
-use Rattle.drv_system.proofs.Asking.{asks_extends, asks_then, extends_refl, extends_then}
+use Rattle.drv_system.proofs.AskedCalls.{asked_further, extends_before}
+use Rattle.drv_system.proofs.Asking.{extends_refl}
 use Rattle.gdrv_specs.proofs.Reasons.{few_sources}
 use Rattle.gdrv_specs.proofs.explaining.work_without.Goals as goal
 
 -- work_without (src/explaining.rt). What words ask for beside a line whose specs are known.
 
 pub work_beside-requires : goal.work_beside-requires
-work_beside-requires g c = few_sources c.line_of_call.new.facts c.args.rest c.in-Ok.line
-    (c.in-Ok.ensures.comes c.line_of_call.new.facts (extends_refl c.line_of_call.new.facts))
+work_beside-requires g c = few_sources c.read_line.new.outside.facts.now c.args.rest c.in-Ok.line
+    (c.in-Ok.ensures.comes c.read_line.new.outside.facts.now (extends_refl c.read_line.new.outside.facts.now))
 
 pub returns-in-Ok-clause-asks : goal.returns-in-Ok-clause-asks
-returns-in-Ok-clause-asks g c = asks_then c.line_of_call.ensures.asks c.work_beside.ensures.asks
+returns-in-Ok-clause-asks g c = asked_further c.read_line.ensures.asks c.work_beside.ensures.asks
 
 pub returns-in-Ok-clause-comes : goal.returns-in-Ok-clause-comes
 returns-in-Ok-clause-comes g c F e has =
-    let reads = c.in-Ok.ensures.comes F (extends_then (asks_extends c.work_beside.ensures.asks) e) in
+    let reads = c.in-Ok.ensures.comes F (extends_before c.work_beside.ensures.asks e) in
     c.work_beside.ensures.comes F e has c.args.rest reads.0 reads.1 reads.2
 
 pub returns-in-Err-clause-comes : goal.returns-in-Err-clause-comes

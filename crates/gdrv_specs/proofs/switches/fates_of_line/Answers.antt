@@ -1,19 +1,19 @@
-use Rattle.drv_system.proofs.Asking.{asks_extends, asks_then, extends_then}
+use Rattle.drv_system.proofs.AskedCalls.{asked_further, extends_before}
 use Rattle.gdrv_specs.proofs.SwitchesTold.{line_short, line_told}
 use Rattle.gdrv_specs.proofs.switches.fates_of_line.Goals as goal
 
 -- fates_of_line (src/switches.rt). The text about the switches of a line, or its ending in its place.
 
 pub returns-in-Ok-fates_of-clause-asks : goal.returns-in-Ok-fates_of-clause-asks
-returns-in-Ok-fates_of-clause-asks g c = asks_then c.set_of.ensures.asks c.fates_of.ensures.asks
+returns-in-Ok-fates_of-clause-asks g c = asked_further c.set_of.ensures.asks c.fates_of.ensures.asks
 
 pub returns-in-Ok-fates_of-clause-gives : goal.returns-in-Ok-fates_of-clause-gives
 returns-in-Ok-fates_of-clause-gives g c F e =
     line_told F c.args.report c.args.line.now c.in-Ok.set c.in-Ok-fates_of.text
-    (c.in-Ok.ensures.loads F (extends_then (asks_extends c.fates_of.ensures.asks) e)) (c.in-Ok-fates_of.ensures.tells F e)
+    (c.in-Ok.ensures.loads F (extends_before c.fates_of.ensures.asks e)) (c.in-Ok-fates_of.ensures.tells F e)
 
 pub returns-clause-asks : goal.returns-clause-asks
-returns-clause-asks g c = asks_then c.set_of.ensures.asks c.fates_of.ensures.asks
+returns-clause-asks g c = asked_further c.set_of.ensures.asks c.fates_of.ensures.asks
 
 pub returns-clause-gives : goal.returns-clause-gives
 returns-clause-gives g c F e = line_short F c.args.report c.args.line.now

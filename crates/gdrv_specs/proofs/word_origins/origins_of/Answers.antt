@@ -1,4 +1,4 @@
-use Rattle.drv_system.proofs.Asking.{asks_extends, extends_then}
+use Rattle.drv_system.proofs.AskedCalls.{extends_before}
 use Rattle.gdrv_specs.proofs.WordsTold.{origins_found}
 use Rattle.gdrv_specs.proofs.word_origins.origins_of.Goals as goal
 
@@ -6,6 +6,6 @@ use Rattle.gdrv_specs.proofs.word_origins.origins_of.Goals as goal
 
 pub returns-clause-tells : goal.returns-clause-tells
 returns-clause-tells g c F e =
-    origins_found F c.args.traced.now.report c.args.traced.now.line.now c.args.traced.now.set.now c.args.traced.now.seed c.args.plan.now
-    c.in_ok-sources.sources c.origins_with.result
-    (c.in_ok-sources.ensures.opens F (extends_then (asks_extends c.origins_with.ensures.asks) e)) (c.origins_with.ensures.tells F e)
+    origins_found F c.args.traced.now.view c.args.traced.now.line.now c.args.set.now c.args.traced.now.seed c.args.plan.now
+    c.in_ok-sources.sources c.as_slice.result.now c.origins_with.result c.as_slice.ensures
+    (c.in_ok-sources.ensures.opens F (extends_before c.origins_with.ensures.asks e)) (c.origins_with.ensures.tells F e)

@@ -1,4 +1,4 @@
-use Rattle.drv_system.proofs.Asking.{asks_extends, asks_then, extends_then}
+use Rattle.drv_system.proofs.AskedCalls.{extends_before}
 use Rattle.gdrv_specs.proofs.Reasons.{comes_without_specs}
 use Rattle.gdrv_specs.proofs.word_origins.said_of_line.Goals as goal
 
@@ -6,13 +6,10 @@ use Rattle.gdrv_specs.proofs.word_origins.said_of_line.Goals as goal
 
 pub returns-in-Err-clause-gives : goal.returns-in-Err-clause-gives
 returns-in-Err-clause-gives g c F args e reads =
-    comes_without_specs F c.args.line.now c.args.seed c.in-Err.fault c.from.result c.from.ensures (c.in-Err.ensures.loads F e) args reads.0
-    reads.1 reads.2
-
-pub returns-clause-asks : goal.returns-clause-asks
-returns-clause-asks g c = asks_then c.set_of.ensures.asks c.said_with_specs.ensures.asks
+    comes_without_specs F c.args.traced.now.line.now c.args.traced.now.seed c.in-Err.fault c.from.result c.from.ensures
+    (c.in-Err.ensures.loads F e) args reads.0 reads.1 reads.2
 
 pub returns-clause-gives : goal.returns-clause-gives
 returns-clause-gives g c F args e reads =
     c.said_with_specs.ensures.gives F args e
-    (c.in-Ok.ensures.loads F (extends_then (asks_extends c.said_with_specs.ensures.asks) e)) reads
+    (c.in-Ok.ensures.loads F (extends_before c.said_with_specs.ensures.asks e)) reads
