@@ -16,9 +16,21 @@ use drv_system::{FactTable, Outside, System};
 use drv_words::Word;
 use std::alloc::Global;
 
-/// The result of a function for these arguments: a word, or nothing (GCC manual, "Spec Files"). In
-/// the link two functions change the outputs. Otherwise, and after an error, the outputs stay the
-/// same.
+/// A call of a function.
+#[derive(Clone, Copy)]
+pub struct FunctionCall<'a> {
+    pub function: Function,
+    pub args: &'a [Word],
+    /// The switches of the line.
+    pub switches: &'a Switches<'a>,
+    /// Which of them are hidden.
+    pub hidden: &'a Hidden,
+    /// The text that calls.
+    pub site: Site,
+}
+
+/// The result of a call: a word, or nothing (GCC manual, "Spec Files"). In the link two functions
+/// change the outputs. Otherwise, and after an error, the outputs stay the same.
 ///
 /// # Errors
 /// The first of these. `NotInLink`: the function is allowed only in the link. `WrongCount`: it takes
@@ -27,11 +39,7 @@ use std::alloc::Global;
 /// `VariableMissing`.
 pub fn call<S: System>(
     alloc: Global,
-    function: Function,
-    args: &[Word],
-    switches: &Switches<'_>,
-    hidden: &Hidden,
-    site: Site,
+    call: &FunctionCall<'_>,
     outputs: &mut Outputs,
     sys: &mut S,
     facts: &mut FactTable,
@@ -39,23 +47,25 @@ pub fn call<S: System>(
     ensures asks { Asks (S.events sys.old) (S.events sys.new) facts.old facts.new }
     ensures gives { (F : Facts) → Extends facts.new F → GivesKnown FuncsFault.Memory
         (λ word. record { given = word; outputs = outputs.new }) result
-        (called F switches.now hidden.now site function args.now outputs.old) }
+        (called F call.now.switches.now call.now.hidden.now call.now.site call.now.function
+        call.now.args.now outputs.old) }
     ensures err { OnErr result (outputs.new ≡ outputs.old) }
 {
+    let args = call.args;
     let outside = &mut Outside { sys, facts };
-    match function {
+    match call.function {
         Function::Getenv => getenv(args, outside),
         Function::IfExists => if_exists(args, outside),
         Function::IfExistsElse => if_exists_else(args, outside),
         Function::IfExistsThenElse => if_exists_then_else(args, outside),
         Function::ReplaceOutfile => {
-            replace_outfile(args, site, outputs)?;
+            replace_outfile(args, call.site, outputs)?;
             Ok(None)
         }
         Function::RemoveOutfile => {
-            remove_outfile(args, site, outputs)?;
+            remove_outfile(args, call.site, outputs)?;
             Ok(None)
         }
-        Function::VersionCompare => version_compare(alloc, args, switches, hidden),
+        Function::VersionCompare => version_compare(alloc, args, call.switches, call.hidden),
     }
 }

@@ -12,7 +12,7 @@ mod outputs;
 mod site;
 mod version;
 
-pub use calling::call;
+pub use calling::{FunctionCall, call};
 pub use fault::FuncsFault;
 pub use function::Function;
 pub use outputs::Outputs;

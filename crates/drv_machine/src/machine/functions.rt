@@ -11,7 +11,7 @@ ghost use Rattle.std.specs.Prelude.{length, ℕ};
 
 use super::{Cutter, Machine};
 use crate::{Context, MachineFault};
-use drv_funcs::{Function, call};
+use drv_funcs::{Function, FunctionCall, call};
 use drv_system::{Outside, System};
 use drv_words::Word;
 
@@ -37,13 +37,16 @@ impl Machine {
         let Some(function) = Function::by_name(name) else {
             return Ok(None);
         };
-        let given = call(
-            self.alloc,
+        let called = FunctionCall {
             function,
             args,
-            context.switches(),
-            &self.hidden,
-            context.site(),
+            switches: context.switches(),
+            hidden: &self.hidden,
+            site: context.site(),
+        };
+        let given = call(
+            self.alloc,
+            &called,
             &mut self.outputs,
             outside.sys,
             outside.facts,

@@ -3,7 +3,7 @@
 use super::NO_CALL;
 use crate::transcript::Transcript;
 use drv_args::Switch;
-use drv_funcs::{FuncsFault, Function, Outputs, Site, call, compare_versions};
+use drv_funcs::{FuncsFault, Function, FunctionCall, Outputs, Site, call, compare_versions};
 use drv_match::{Hidden, Switches};
 use drv_system::{FactTable, System};
 use drv_words::{Listing, Word, split};
@@ -129,10 +129,14 @@ impl Called<'_> {
         let line = switches_of(alloc, self.switches)?;
         let switches = &Switches::new(alloc, &line)?;
         let hidden = &Hidden::new(alloc, switches)?;
-        let facts = &mut FactTable::new(alloc);
-        call(
-            alloc, function, self.args, switches, hidden, self.site, outputs, sys, facts,
-        )
+        let called = FunctionCall {
+            function,
+            args: self.args,
+            switches,
+            hidden,
+            site: self.site,
+        };
+        call(alloc, &called, outputs, sys, &mut FactTable::new(alloc))
     }
 
     /// Adds the result of the function, followed by the outputs.
