@@ -159,6 +159,15 @@ fn has_long_pipe(groups: &[Group]) -> bool
     false
 }
 
+/// The groups of the commands so far.
+#[derive(Drop)]
+struct Grouping {
+    /// Those that have ended.
+    ended: Listing<Group>,
+    /// The commands of the one that is begun.
+    begun: Vec<Command>,
+}
+
 /// The groups of commands: with `-pipe` piped commands form one, otherwise each command is one.
 /// Lack of memory is the only error.
 #[tactic(auto, using(drv_system::proofs::AskedCalls::asked_none, drv_system::proofs::AskedCalls::asked_further))]
@@ -172,13 +181,16 @@ fn groups_of<S: System>(
     ensures made { (F : Facts) → Extends outside.new.facts.now F
         → IfOk result (λ made. groups F context.now lines ≡ Is (Ok made)) }
 {
-    let mut groups = Listing::new(alloc);
-    let mut begun = Vec::new(alloc);
+    let mut grouping = Grouping {
+        ended: Listing::new(alloc),
+        begun: Vec::new(alloc),
+    };
     for line in lines.into_vec() {
-        add_line(alloc, &mut groups, &mut begun, line, context, outside)?;
+        add_line(alloc, &mut grouping, line, context, outside)?;
     }
-    push_group(&mut groups, begun)?;
-    Ok(groups)
+    let begun = grouping.begun;
+    push_group(&mut grouping.ended, begun)?;
+    Ok(grouping.ended)
 }
 
 /// The command of one line more joins those of the group that is begun. That group then joins those
@@ -186,8 +198,7 @@ fn groups_of<S: System>(
 #[tactic(auto, using(drv_system::proofs::AskedCalls::asked_none))]
 fn add_line<S: System>(
     alloc: Global,
-    ended: &mut Listing<Group>,
-    begun: &mut Vec<Command>,
+    grouping: &mut Grouping,
     line: NamedLine,
     context: &Context<'_>,
     outside: &mut Outside<'_, S>,
@@ -195,15 +206,20 @@ fn add_line<S: System>(
     ensures asks { Asked S.events outside.old outside.new }
     ensures added { (F : Facts) → Extends outside.new.facts.now F
         → OnOk result ((lines : List cutting.NamedLine)
-        → grouped ended.old begun.old.items (groups F context.now (line ∷ lines))
-        ≡ grouped ended.new begun.new.items (groups F context.now lines)) }
+        → grouped grouping.old.ended grouping.old.begun.items (groups F context.now (line ∷ lines))
+        ≡ grouped grouping.new.ended grouping.new.begun.items (groups F context.now lines)) }
 {
     let is_joined = is_joined(context, &line);
-    begun.push(command_of(alloc, line, context, outside)?)?;
+    grouping
+        .begun
+        .push(command_of(alloc, line, context, outside)?)?;
     if is_joined {
         return Ok(());
     }
-    push_group(ended, mem::replace(begun, Vec::new(alloc)))?;
+    push_group(
+        &mut grouping.ended,
+        mem::replace(&mut grouping.begun, Vec::new(alloc)),
+    )?;
     Ok(())
 }
 

@@ -14,7 +14,7 @@ pub loop-line-init : goal.loop-line-init
 loop-line-init g c = record {
   asks = asked_none c.args.outside.now;
   made =
-      λ F e rest. grouped_none c.new-groups.result c.new-begun.result.items (groups F c.args.context.now rest) c.new-groups.ensures
+      λ F e rest. grouped_none c.new.result c.new-2.result.items (groups F c.args.context.now rest) c.new.ensures
       (search rules);
 }
 
@@ -38,4 +38,5 @@ returns-clause-made g c F e =
     c.next.result c.next.new.self c.in-None.is c.next.ensures.steps in
     let all : c.loop-line.yielded ≡ c.args.lines = sym (map-id c.loop-line.yielded) ∙ ended.0 ∙ c.into_vec-line-items.ensures in
     ap (groups F c.args.context.now) (sym all ∙ sym (append-nil c.loop-line.yielded)) ∙ c.loop-line.invariant.made F e []
-    ∙ all_grouped F c.args.context.now c.loop-line.groups c.push_group.new.groups c.loop-line.begun.items c.in_ok-push_group.ensures
+    ∙ all_grouped F c.args.context.now c.loop-line.grouping.ended c.push_group.new.groups c.loop-line.grouping.begun.items
+    c.in_ok-push_group.ensures

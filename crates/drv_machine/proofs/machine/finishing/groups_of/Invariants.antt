@@ -15,5 +15,5 @@ abbrev pub invariant-loop-line : goal.invariant-loop-line
 invariant-loop-line g l = record {
   asks : Asked g.S.System.events l.fn.outside l.outside;
   made : (F : Facts) → Extends l.outside.facts.now F → (rest : List NamedLine)
-      → groups F l.context (l.yielded ++ rest) ≡ grouped l.groups l.begun.items (groups F l.context rest);
+      → groups F l.context (l.yielded ++ rest) ≡ grouped l.grouping.ended l.grouping.begun.items (groups F l.context rest);
 }
