@@ -376,9 +376,8 @@ unfolding sections ignored unpaired debugged_by
 ignored_names = refl
 
 -- With a spec file of the line its switches are known, and start files are looked for in the compiler's folders.
-vendors : words_given (front_of known (codes "mfoo" ∷ []) nowhere (texts (codes "-c a.c -specs=v.specs -mfoo -DA -D B=1")))
-    ≡ gives (codes "-c a.c -specs=v.specs -mfoo -D A -D B=1 -B /g/ --gdrv-dirs --gdrv-define=A --gdrv-define=B=1 --gdrv-base=a.c"
-    ++ codes " --gdrv-ext=.c -pipe")
+vendors : words_given (front_of known (codes "mfoo" ∷ []) nowhere (texts (codes "-E a.c -specs=v -mfoo -DA -D B=1")))
+    ≡ gives (codes "-E a.c -specs=v -mfoo -D A -D B=1 -B /g/ --gdrv-dirs --gdrv-define=A --gdrv-define=B=1 --gdrv-base=a.c --gdrv-ext=.c")
 unfolding sections ignored unpaired debugged_by macro_word
 vendors = refl
 
@@ -485,12 +484,10 @@ verbose_run = refl
 
 -- folders of the environment
 abbrev found : Option (List (List ℕ))
-found = words_given (front_of known named (record {
-  compiler = codes "gcc";
+found = words_given (front_of known named (record nowhere {
   folders = codes "/g/" ∷ codes "/h" ∷ [];
   copies = codes "/v/" ∷ [];
-  compiler_path =
-      Some (codes "/p:");
+  compiler_path = Some (codes "/p:");
   library_path = Some (codes "/l");
 }) (texts (codes "o.o -B q")))
 

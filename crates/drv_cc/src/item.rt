@@ -96,7 +96,11 @@ impl Item {
 
     /// An option of a row without names that say by which name it is called: unknown, with the newer
     /// name as its argument.
-    pub(crate) fn unsettled(alloc: Global, option: &[u8], name: &[u8]) -> Result<Item, AllocError>
+    pub(crate) fn of_two_names(
+        alloc: Global,
+        option: &[u8],
+        name: &[u8],
+    ) -> Result<Item, AllocError>
         ensures { IfOk result (λ made. made ≡ unsettled option.now name.now) }
     {
         Ok(Item {

@@ -48,7 +48,7 @@ pub(crate) fn newer_item(
     ensures { IfOk result (λ item. item ≡ newer_item known.now option.now name.now) }
 {
     if known.is_empty() {
-        return Item::unsettled(alloc, option, name);
+        return Item::of_two_names(alloc, option, name);
     }
     let own = if is_own(known, option) { option } else { name };
     Item::new(alloc, own, b"", Spelling::Alone, Role::Switch)

@@ -196,7 +196,7 @@ failed_so F line driven name stop result named is tells =
     (IsFailure F line.request.now.calling.now.name driven.line line.request.now.seed) is
     (subst (λ n. IfTold stop (IsFailure F n driven.line line.request.now.seed)) named tells)
 
--- `prepared_plan` hands on why nobody carries a line out
+-- `prepare_line` hands on why nobody carries a line out
 pub undriven_plan : (F : Facts) (line : GccLine) (call : Call) (events : List HostEvent) (stop : Stop) (result : Result Prepared Stop)
     → IsErrAnd result (λ s. s ≡ stop) → IfTold stop (Undriven F line.request.now.calling.now line.chain call line.given events)
     → MatchResult result (λ prepared. IsPrepared F line call events prepared) (λ s. IfTold s (IsUnplanned F line call events))
@@ -205,7 +205,7 @@ undriven_plan F line call events stop result is tells =
     (told_as stop (Undriven F line.request.now.calling.now line.chain call line.given events) (IsUnplanned F line call events)
     (λ text un. inl un) tells)
 
--- `prepared_plan` lets the driver carry the line out
+-- `prepare_line` lets the driver carry the line out
 pub prepared_by_driver : (F : Facts) (line : GccLine) (call : Call) (events : List HostEvent) (worker : Worker) (driven : Driven)
     (result : Result Prepared Stop)
     → IsWorker F line.chain call line.given events worker → worker ≡ Driver driven
@@ -218,7 +218,7 @@ prepared_by_driver F line call events worker driven (Err stop) works is tells =
     told_as stop (IsFailure F line.request.now.calling.now.name driven.line line.request.now.seed) (IsUnplanned F line call events)
     (λ text un. inr (driven, subst (IsWorker F line.chain call line.given events) is works, un)) tells
 
--- `prepared_plan` lets the compiler carry the line out
+-- `prepare_line` lets the compiler carry the line out
 pub prepared_by_compiler : (F : Facts) (line : GccLine) (call : Call) (events : List HostEvent) (worker : Worker) (options slice : List ℕ)
     (prepared : Prepared)
     → IsWorker F line.chain call line.given events worker → worker ≡ Compiler options → slice ≡ options

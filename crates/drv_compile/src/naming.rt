@@ -83,7 +83,7 @@ fn names_specs(item: &Item) -> bool
 }
 
 /// Whether some item names a spec file.
-fn name_specs(items: &[Item]) -> bool
+fn any_names_specs(items: &[Item]) -> bool
     ensures { result ≡ list_any names_specs items.now }
 {
     items.iter().any(names_specs)
@@ -96,7 +96,7 @@ fn reads_again(answer: &Answer) -> bool
     match answer {
         Answer::Ask => false,
         Answer::Refuse(_) => true,
-        Answer::Run(call) => name_specs(call.items.as_slice()),
+        Answer::Run(call) => any_names_specs(call.items.as_slice()),
     }
 }
 

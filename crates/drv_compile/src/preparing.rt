@@ -218,7 +218,7 @@ fn handed_on(alloc: Global, line: &GccLine<'_>, options: &[u8]) -> Result<Prepar
 /// # Errors
 /// The text of its refusal.
 #[tactic(auto, using(drv_system::proofs::AskedCalls::asked_further))]
-fn prepared_plan<S: System, H: Host<S>>(
+fn prepare_line<S: System, H: Host<S>>(
     alloc: Global,
     line: &GccLine<'_>,
     call: Call,
@@ -266,7 +266,7 @@ fn compilation<S: System, H: Host<S>>(
         return Err(Stop::Told(text));
     }
     refuse_overwriting(alloc, name, &call, host)?;
-    prepared_plan(alloc, line, call, outside, host)
+    prepare_line(alloc, line, call, outside, host)
 }
 
 /// What a call does whose line is a question to a compiler.

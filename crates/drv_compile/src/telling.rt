@@ -6,7 +6,7 @@ ghost use Rattle.std.specs.Option.{option_copied};
 ghost use Rattle.std.specs.Prelude.{◌≡◌, ◌++◌, [], IfOk, List, OnOk, ℕ};
 
 use crate::compilers::values;
-use crate::nearest::meant;
+use crate::nearest::option_meant;
 use crate::wording::add_refusal;
 use drv_cc::Refusal;
 use drv_words::Word;
@@ -17,7 +17,7 @@ fn near_to(alloc: Global, known: &[Word], refusal: &Refusal) -> Result<Option<Wo
     ensures { IfOk result (λ near. IsMeant known.now refusal.now near) }
 {
     match refusal {
-        Refusal::UnknownOption(word) => meant(alloc, known, word.as_bytes()),
+        Refusal::UnknownOption(word) => option_meant(alloc, known, word.as_bytes()),
         Refusal::NoArgument(_)
         | Refusal::NotTaken(_)
         | Refusal::GivenFile(_)

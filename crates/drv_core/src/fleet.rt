@@ -222,7 +222,7 @@ impl Fleet {
     }
 
     /// How many sources have a child in flight.
-    fn flying(&self) -> usize
+    fn count_flying(&self) -> usize
         ensures { result ≡ flying (fleet_of self.now) }
     {
         let begun = self.begun.as_slice();
@@ -233,7 +233,7 @@ impl Fleet {
     fn allowance(&self) -> Allowed
         ensures { all_may result ≡ all_fly (fleet_of self.now) }
     {
-        if self.flying() == self.window.sources().min(self.unended) {
+        if self.count_flying() == self.window.sources().min(self.unended) {
             Allowed::All
         } else {
             Allowed::NotWaiting

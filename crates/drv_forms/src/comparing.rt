@@ -166,7 +166,7 @@ fn push_marked(
 }
 
 /// Adds two lines that differ, and the words that only one of them has.
-fn push_changed(
+fn push_differing(
     alloc: Global,
     text: &mut Vec<u8>,
     line: &PlanLine,
@@ -185,7 +185,7 @@ fn push_change(alloc: Global, text: &mut Vec<u8>, change: &LineChange) -> Result
     ensures { OnOk result (text.new.items ≡ text.old.items ++ change_text change.now) }
 {
     match (&change.line, &change.other) {
-        (Some(line), Some(other)) => push_changed(alloc, text, line, other),
+        (Some(line), Some(other)) => push_differing(alloc, text, line, other),
         (Some(line), None) => push_marked(alloc, text, b'-', line),
         (None, Some(other)) => push_marked(alloc, text, b'+', other),
         (None, None) => Ok(()),

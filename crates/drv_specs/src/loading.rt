@@ -183,7 +183,7 @@ impl SpecSet {
     }
 
     /// The set after the directives of a settled text, which may read `files` more files.
-    fn worked<S: System>(
+    fn with_text<S: System>(
         self,
         files: usize,
         text: &[u8],
@@ -274,6 +274,6 @@ impl SpecSet {
         let alloc = self.entries.alloc();
         let text = file_text(alloc, IfMissing::Refuse, name.as_bytes(), prefixes, outside)?;
         // The file at hand is one of those that may be read.
-        self.worked(MOST_FILES - 1, text.as_slice(), prefixes, outside)
+        self.with_text(MOST_FILES - 1, text.as_slice(), prefixes, outside)
     }
 }

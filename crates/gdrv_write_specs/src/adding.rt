@@ -82,7 +82,7 @@ fn copy_files(rt: &HostRuntime, work: &WorkFolder, stem: &Word) -> Result<(), Fa
 
 /// The row of these options, for a gcc with these folders.
 fn row_for(pair: Pair<'_>, folders: &[Word], naming: FolderName, key: &Word) -> Result<Row, Fault> {
-    let asked = pair.asked(key);
+    let asked = pair.gcc_with(key);
     let (_, probes) = with_natives(asked, asked.own_texts()?, Ways::Rows)?;
     match row_of(asked, probes.as_slice(), folders, naming)? {
         Some(row) => Ok(row),

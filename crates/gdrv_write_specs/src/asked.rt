@@ -29,7 +29,7 @@ pub struct Asked<'a> {
 
 impl<'a> Pair<'a> {
     /// The gcc of the pair, asked with an option.
-    pub fn asked(self, option: &'a Word) -> Asked<'a> {
+    pub fn gcc_with(self, option: &'a Word) -> Asked<'a> {
         Asked {
             rt: self.rt,
             work: self.work,

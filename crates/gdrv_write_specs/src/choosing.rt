@@ -57,12 +57,12 @@ pub fn choosers_of(pair: Pair<'_>) -> Result<Listing<Chooser>, Fault> {
     let alloc = pair.rt.alloc();
     let mut choosers: Listing<Chooser> = Listing::new(alloc);
     let none = Word::empty(alloc);
-    let Some(usual) = switches_of(pair.asked(&none))? else {
+    let Some(usual) = switches_of(pair.gcc_with(&none))? else {
         return Ok(choosers);
     };
     for option in CHOOSERS {
         let option = Word::from_bytes(alloc, option)?;
-        if let Some(words) = switches_of(pair.asked(&option))? {
+        if let Some(words) = switches_of(pair.gcc_with(&option))? {
             if !are_alike(words.as_slice(), usual.as_slice()) {
                 let first = first_alike(choosers.as_slice(), words.as_slice(), &option)?;
                 choosers.push(Chooser {

@@ -175,5 +175,5 @@ impl<'a> Asked<'a> {
 /// Whether a gcc has spec files of devices.
 pub fn has_devices(pair: Pair<'_>) -> Result<bool, Fault> {
     let option = Word::empty(pair.rt.alloc());
-    Ok(!pair.asked(&option).device_folder()?.is_empty())
+    Ok(!pair.gcc_with(&option).device_folder()?.is_empty())
 }

@@ -492,7 +492,7 @@ impl Gathered {
     pub fn add_machine(&mut self, pair: Pair<'_>, option: &Word) -> Result<(), Fault> {
         let asked = Asked {
             places: self.places,
-            ..pair.asked(option)
+            ..pair.gcc_with(option)
         };
         if let Some(machine) = machine_of(asked)? {
             self.others.push(facts_for(
@@ -511,7 +511,7 @@ impl Gathered {
 pub fn gather(pair: Pair<'_>, ways: Ways) -> Result<Gathered, Fault> {
     let alloc = pair.rt.alloc();
     let option = Word::empty(alloc);
-    let plain = pair.asked(&option);
+    let plain = pair.gcc_with(&option);
     let asked = Asked {
         places: plain.places_of()?,
         ..plain

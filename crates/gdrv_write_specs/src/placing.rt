@@ -297,7 +297,7 @@ fn check_rows(pair: Pair<'_>, gathered: &mut Gathered) -> Result<(), Fault> {
 fn library_keys(pair: Pair<'_>, ways: Ways) -> Result<Listing<Word>, Fault> {
     let none = Word::empty(pair.rt.alloc());
     match ways {
-        Ways::Rows => multilibs(pair.asked(&none)),
+        Ways::Rows => multilibs(pair.gcc_with(&none)),
         Ways::Texts => Ok(Listing::new(pair.rt.alloc())),
     }
 }

@@ -102,8 +102,8 @@ pub fn multilib_facts(
     let alloc = pair.rt.alloc();
     let none = Word::empty(alloc);
     let mut found = Listing::new(alloc);
-    for option in multilibs(pair.asked(&none))?.as_slice() {
-        let asked = pair.asked(option);
+    for option in multilibs(pair.gcc_with(&none))?.as_slice() {
+        let asked = pair.gcc_with(option);
         let place = asked.answer(b"-print-multi-directory", b"")?;
         let mut facts = facts_for(asked, folder, names, &[], &[])?;
         let switch = folder_switch(alloc, &place, FolderName::Tested)?;

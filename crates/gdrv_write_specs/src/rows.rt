@@ -300,7 +300,7 @@ fn keys_of(asked: Asked<'_>) -> Result<Listing<Word>, Fault> {
 fn all_keys(pair: Pair<'_>, choosers: &[Chooser]) -> Result<Listing<Word>, Fault> {
     let none = Word::empty(pair.rt.alloc());
     let mut all = Listing::new(pair.rt.alloc());
-    for key in keys_of(pair.asked(&none))?.as_slice() {
+    for key in keys_of(pair.gcc_with(&none))?.as_slice() {
         for whole in keys_with(key, choosers, pair.rt.alloc())?.into_vec() {
             all.push(whole)?;
         }
@@ -319,7 +319,7 @@ pub fn rows_of(
 ) -> Result<Listing<Row>, Fault> {
     let mut rows = Listing::new(pair.rt.alloc());
     for key in all_keys(pair, choosers)?.as_slice() {
-        if let Some(row) = row_of(pair.asked(key), probes, folders, naming)? {
+        if let Some(row) = row_of(pair.gcc_with(key), probes, folders, naming)? {
             rows.push(row)?;
         }
     }
@@ -329,7 +329,7 @@ pub fn rows_of(
 /// The suffix that gcc gives the name of a program; empty if none.
 pub fn suffix_of(pair: Pair<'_>) -> Result<Word, Fault> {
     let none = Word::empty(pair.rt.alloc());
-    let asked = pair.asked(&none);
+    let asked = pair.gcc_with(&none);
     let planned = asked.plan(b"-### x.o -o made")?;
     let link = match planned.as_slice().last() {
         Some(link) => link.as_slice(),

@@ -28,7 +28,7 @@ returns-in_err-refuse_overwriting-clause-performs g c =
 
 pub returns-clause-performs : goal.returns-clause-performs
 returns-clause-performs g c =
-    performs_noted c.args.line.now c.args.call _ _ _ c.prepared_plan.result _
+    performs_noted c.args.line.now c.args.call _ _ _ c.prepare_line.result _
     (λ F e. free_as F c.args.line.now c.args.call _ c.in_ok-text.text _ c.is_empty.result c.as_bytes-name.ensures c.as_slice.ensures
-    (c.in_ok-text.ensures.text F (extends_before c.prepared_plan.ensures.asks e)) c.is_empty.ensures c.if-not-is_empty.false)
-    c.in_ok-refuse_overwriting.ensures c.prepared_plan.ensures.plans
+    (c.in_ok-text.ensures.text F (extends_before c.prepare_line.ensures.asks e)) c.is_empty.ensures c.if-not-is_empty.false)
+    c.in_ok-refuse_overwriting.ensures c.prepare_line.ensures.plans

@@ -17,7 +17,7 @@ pub returns-in_err-text-clause-asks : goal.returns-in_err-text-clause-asks
 returns-in_err-text-clause-asks g c = let asks = c.file_text.ensures.asks.asks in search rules
 
 pub returns-clause-asks : goal.returns-clause-asks
-returns-clause-asks g c = let asks = (asked_further c.file_text.ensures.asks c.worked.ensures.asks).asks in search rules
+returns-clause-asks g c = let asks = (asked_further c.file_text.ensures.asks c.with_text.ensures.asks).asks in search rules
 
 -- a file that can't be read is refused
 pub returns-in_err-text-clause-loads : goal.returns-in_err-text-clause-loads
@@ -32,16 +32,16 @@ returns-in_err-text-clause-loads g c F e =
 -- the directives of the file's text are carried out
 pub returns-clause-loads : goal.returns-clause-loads
 returns-clause-loads g c F e =
-    let known : Extends c.worked.new.outside.facts.now F = search rules in
-    given_alike _ c.worked.result (worked F c.args.prefixes.now c.args.self 1999 (read_settled c.as_slice.result.now))
+    let known : Extends c.with_text.new.outside.facts.now F = search rules in
+    given_alike _ c.with_text.result (worked F c.args.prefixes.now c.args.self 1999 (read_settled c.as_slice.result.now))
     (file_loaded F c.args.prefixes.now c.args.self c.args.name.now)
     (file_read F c.args.prefixes.now c.args.self c.as_bytes.result.now c.in_ok-text.text.items c.as_slice.result.now
-    (c.in_ok-text.ensures.text F (extends_before c.worked.ensures.asks known)) c.as_slice.ensures.value
+    (c.in_ok-text.ensures.text F (extends_before c.with_text.ensures.asks known)) c.as_slice.ensures.value
     ∙ ap (file_loaded F c.args.prefixes.now c.args.self) c.as_bytes.ensures)
-    (c.worked.ensures.works F known)
+    (c.with_text.ensures.works F known)
 
-pub worked-requires : goal.worked-requires
-worked-requires g c =
+pub with_text-requires : goal.with_text-requires
+with_text-requires g c =
     let file = read_file (file_text c.file_text.new.outside.facts.now c.args.prefixes.now Refuse c.as_bytes.result.now)
     c.in_ok-text.text.items (c.in_ok-text.ensures.text c.file_text.new.outside.facts.now
     (extends_refl c.file_text.new.outside.facts.now)) in

@@ -1,8 +1,8 @@
 use Rattle.drv_specs.proofs.Keeping.{settled_keeps}
-use Rattle.drv_specs.proofs.set.SpecSet.worked.Goals as goal
+use Rattle.drv_specs.proofs.set.SpecSet.with_text.Goals as goal
 use Rattle.drv_system.proofs.Asking.{extends_refl}
 
--- worked (src/loading.rt). The set after the directives of a settled text, which may read `files` more files.
+-- with_text (src/loading.rt). The set after the directives of a settled text, which may read `files` more files.
 
 pub invariant_of-result : goal.invariant_of-result
 invariant_of-result g c =

@@ -1,9 +1,9 @@
 use Rattle.drv_compile.proofs.Noting.{memory_noted_over, noted_as}
 use Rattle.drv_compile.proofs.Prepared.{prepared_by_compiler, prepared_by_driver, undriven_plan}
-use Rattle.drv_compile.proofs.preparing.prepared_plan.Goals as goal
+use Rattle.drv_compile.proofs.preparing.prepare_line.Goals as goal
 use Rattle.drv_system.proofs.AskedCalls.{asked_further, extends_before}
 
--- prepared_plan (src/preparing.rt). What a call does for a line that nothing refuses.
+-- prepare_line (src/preparing.rt). What a call does for a line that nothing refuses.
 
 pub returns-in_err-driven-clause-plans : goal.returns-in_err-driven-clause-plans
 returns-in_err-driven-clause-plans g c =
