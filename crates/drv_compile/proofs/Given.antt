@@ -64,12 +64,10 @@ pub context_made : (F : Facts) (set : Set) (text : List ℕ) (line : Line) (pref
     → worked_along F set text line prefixes ≡ of_outcome (of_text (outcome F context (tree_of text)))
 context_made F set text line prefixes context made = ap (λ c. of_outcome (of_text (outcome F c (tree_of text)))) (sym made)
 
--- `worked_line` looks for the prefixes of the line that the driver is called with
-pub prefixes_made : (F : Facts) (settings : Settings) (set : Set) (text : List ℕ) (line : Line) (dirs : List (List ℕ)) (prefixes : Prefixes)
-    → dirs ≡ settings.prefixes → prefixes_of F dirs ≡ Is prefixes
-    → worked_for F settings set text (Ok line) ≡ worked_along F set text line prefixes
-prefixes_made F settings set text line dirs prefixes same known =
-    ap (λ d. prefixes_of F d >>= worked_along F set text line) (sym same) ∙ ap (λ k. k >>= worked_along F set text line) known
+-- `worked_line` gets the prefixes of the line that the driver is called with
+pub prefixes_made : (F : Facts) (settings : Settings) (set : Set) (text : List ℕ) (line : Line) (prefixes : Prefixes)
+    → prefixes_of F settings.prefixes ≡ Is prefixes → worked_for F settings set text (Ok line) ≡ worked_along F set text line prefixes
+prefixes_made F settings set text line prefixes known = ap (λ k. k >>= worked_along F set text line) known
 
 -- a fault of the plan ends the call, unless it is lack of memory
 by_plan : (fault : PlanFault) (found : Known (Result Outcome PlanFault)) (defined : Ended Worked) → defined ≡ of_outcome found

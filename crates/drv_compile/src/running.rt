@@ -4,22 +4,25 @@ ghost use Rattle.drv_args.specs.declared.fault.ArgsFault.TheVariants as args_fau
 ghost use Rattle.drv_compile.specs.Code.Working.{IsUnworked, IsWorked};
 ghost use Rattle.drv_compile.specs.Runs.{Stops, Works, line_given, specs_of};
 ghost use Rattle.drv_run.specs.Calls.{IsWindow};
+ghost use Rattle.drv_search.specs.Search.{prefixes_of};
 ghost use Rattle.drv_specs.specs.declared.fault.SpecsFault.TheVariants as specs_fault;
 ghost use Rattle.drv_system.specs.Asking.{Extends};
 ghost use Rattle.drv_system.specs.Code.Asked.{Asked};
 ghost use Rattle.drv_system.specs.Facts.{Facts};
 ghost use Rattle.drv_system.specs.Gives.{GivesKnown};
+ghost use Rattle.drv_system.specs.Known.{Is};
 ghost use Rattle.drv_words.specs.Gives.{Gives};
-ghost use Rattle.std.specs.Prelude.{◌≤◌, IfOk, MatchResult};
+ghost use Rattle.std.specs.Prelude.{◌≡◌, ◌≤◌, IfOk, MatchResult};
 
 use crate::sources::refuse_several;
 use drv_args::{ArgsFault, Item, Line, Settings, line_of};
 use drv_plan::Specified;
-use drv_run::{Ending, Work, load_specs, work_of};
+use drv_run::{Ending, Work, load_along, work_along};
+use drv_search::Prefixes;
 use drv_specs::{SpecSet, SpecsFault, suffixes};
 use drv_system::{Outside, System};
 use drv_words::Listing;
-use std::alloc::Global;
+use std::alloc::{AllocError, Global};
 use std::mem::forget;
 
 /// The driver's line, as items.
@@ -42,40 +45,58 @@ pub(crate) fn line_given(alloc: Global, given: &DriverLine) -> Result<Line, Args
     line_of(alloc, given.from_file, given.items.as_slice())
 }
 
-/// The specs of a line: what the files of `-specs=` make of the suffixes.
+/// The prefixes of a line's `-B`.
+pub(crate) fn prefixes_of<S: System>(
+    alloc: Global,
+    settings: &Settings,
+    outside: &mut Outside<'_, S>,
+) -> Result<Prefixes, AllocError>
+    ensures asks { Asked S.events outside.old outside.new }
+    ensures prefixes { (F : Facts) → Extends outside.new.facts.now F
+        → IfOk result (λ prefixes. prefixes_of F settings.now.prefixes ≡ Is prefixes) }
+{
+    let dirs = settings.prefixes.as_slice();
+    Prefixes::new(alloc, dirs, outside.sys, outside.facts)
+}
+
+/// The specs of a line, along the prefixes of its `-B`: what the files of `-specs=` make of the
+/// suffixes.
 pub(crate) fn specs_of<S: System>(
     alloc: Global,
     settings: &Settings,
+    prefixes: &Prefixes,
     outside: &mut Outside<'_, S>,
 ) -> Result<SpecSet, SpecsFault>
     ensures asks { Asked S.events outside.old outside.new }
     ensures loads { (F : Facts) → Extends outside.new.facts.now F
+        → prefixes_of F settings.now.prefixes ≡ Is prefixes.now
         → GivesKnown specs_fault.Memory (λ set. set) result (specs_of F settings.now) }
 {
     let set = suffixes(alloc)?;
-    load_specs(alloc, set, settings, outside.sys, outside.facts)
+    load_along(set, settings, prefixes, outside.sys, outside.facts)
 }
 
-/// What a line with these specs asks for, if it doesn't name one output for several sources.
+/// What a line with these specs asks for, along the prefixes of its `-B`, if it doesn't name one
+/// output for several sources.
 ///
 /// # Errors
 /// That refusal, or that of the plan.
 fn line_work<S: System>(
     alloc: Global,
-    line: &Line,
-    set: &SpecSet,
-    seed: u32,
+    given: &Specified<'_>,
+    prefixes: &Prefixes,
     outside: &mut Outside<'_, S>,
 ) -> Result<Work, Ending>
-    requires { IsWindow line.now.settings.jobs }
+    requires { IsWindow given.now.line.now.settings.jobs }
     ensures asks { Asked S.events outside.old outside.new }
     ensures works { (F : Facts) → Extends outside.new.facts.now F
-        → MatchResult result (λ work. IsWorked F line.now set.now seed work)
-        (λ ending. IsUnworked F line.now set.now seed ending) }
+        → prefixes_of F given.now.line.now.settings.prefixes ≡ Is prefixes.now
+        → MatchResult result
+        (λ work. IsWorked F given.now.line.now given.now.set.now given.now.seed work)
+        (λ ending. IsUnworked F given.now.line.now given.now.set.now given.now.seed ending) }
 {
-    refuse_several(alloc, set, line)?;
-    let given = Specified { line, set, seed };
-    let work = work_of(alloc, &given, outside.sys, outside.facts)?;
+    refuse_several(alloc, given.set, given.line)?;
+    let work = work_along(alloc, given, prefixes, outside.sys, outside.facts)?;
     Ok(work)
 }
 
@@ -97,8 +118,14 @@ pub(crate) fn work_of_items<S: System>(
         (λ ending. Stops F given.now seed ending) }
 {
     let line = line_given(alloc, given)?;
-    let set = specs_of(alloc, &line.settings, outside)?;
-    let work = line_work(alloc, &line, &set, seed, outside);
+    let prefixes = prefixes_of(alloc, &line.settings, outside)?;
+    let set = specs_of(alloc, &line.settings, &prefixes, outside)?;
+    let specified = Specified {
+        line: &line,
+        set: &set,
+        seed,
+    };
+    let work = line_work(alloc, &specified, &prefixes, outside);
     // The call ends soon: what dropping the set takes is saved.
     forget(set);
     work

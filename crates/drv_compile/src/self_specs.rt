@@ -13,6 +13,7 @@ ghost use Rattle.drv_machine.specs.Outcome.{outcome};
 ghost use Rattle.drv_plan.specs.Denoted.{of_text};
 ghost use Rattle.drv_plan.specs.declared.fault.PlanFault.TheVariants as plan_fault;
 ghost use Rattle.drv_run.specs.declared.ending.Ending.TheVariants as ending;
+ghost use Rattle.drv_search.specs.Search.{prefixes_of};
 ghost use Rattle.drv_specs.specs.Sets.{text_of};
 ghost use Rattle.drv_syntax.specs.Parsed.{tree_of};
 ghost use Rattle.drv_system.specs.Asking.{Extends};
@@ -26,7 +27,7 @@ ghost use Rattle.std.specs.Prelude.{◌≡◌, ◌∷◌, [], IfOk, Ok, Some, co
 use crate::finding::known_names;
 use crate::reading::{items_names, specs_given};
 use crate::request::GccLine;
-use crate::running::{DriverLine, line_given, specs_of};
+use crate::running::{DriverLine, line_given, prefixes_of, specs_of};
 use drv_args::{Item, Line, Settings};
 use drv_cc::{Answer, Given, OptionNames, Refusal, front_with, seen_items};
 use drv_machine::{Context, Outcome, run};
@@ -57,6 +58,8 @@ struct OwnSpecs<'a> {
     settings: &'a Settings,
     /// What its spec files make.
     set: &'a SpecSet,
+    /// The prefixes of its `-B`.
+    prefixes: &'a Prefixes,
 }
 
 /// What two groups give, if each is one command.
@@ -126,7 +129,6 @@ fn worked_in<S: System>(
 }
 
 /// What the text gives a line.
-#[tactic(auto, using(drv_system::proofs::AskedCalls::asked_further))]
 fn worked_line<S: System>(
     alloc: Global,
     own: &OwnSpecs<'_>,
@@ -136,12 +138,11 @@ fn worked_line<S: System>(
 ) -> Result<Worked, Ending>
     ensures asks { Asked S.events outside.old outside.new }
     ensures works { (F : Facts) → Extends outside.new.facts.now F
+        → prefixes_of F own.now.settings.now.prefixes ≡ Is own.now.prefixes.now
         → GivesKnown ending.OutOfMemory (λ made. made) result
         (worked_for F own.now.settings.now own.now.set.now text.now (Ok line.now)) }
 {
-    let folders = own.settings.prefixes.as_slice();
-    let prefixes = Prefixes::new(alloc, folders, outside.sys, outside.facts)?;
-    let context = Context::new(alloc, line, own.set, &prefixes, 0)?;
+    let context = Context::new(alloc, line, own.set, own.prefixes, 0)?;
     worked_in(alloc, text, &context, outside)
 }
 
@@ -155,6 +156,7 @@ fn worked_for<S: System>(
 ) -> Result<Worked, Ending>
     ensures asks { Asked S.events outside.old outside.new }
     ensures works { (F : Facts) → Extends outside.new.facts.now F
+        → prefixes_of F own.now.settings.now.prefixes ≡ Is own.now.prefixes.now
         → GivesKnown ending.OutOfMemory (λ made. made) result
         (worked_for F own.now.settings.now own.now.set.now text.now (line_given seen.now)) }
 {
@@ -171,6 +173,7 @@ fn worked_by<S: System>(
 ) -> Result<Worked, Ending>
     ensures asks { Asked S.events outside.old outside.new }
     ensures works { (F : Facts) → Extends outside.new.facts.now F
+        → prefixes_of F own.now.settings.now.prefixes ≡ Is own.now.prefixes.now
         → GivesKnown ending.OutOfMemory (λ made. made) result
         (worked_by F own.now.settings.now own.now.set.now (line_given seen.now)
         (text_of own.now.set.now (codes "gdrv_self"))) }
@@ -196,10 +199,12 @@ fn self_worked<S: System>(
 {
     let line = line_given(alloc, first)?;
     let settings = &line.settings;
-    let set = specs_of(alloc, settings, outside)?;
+    let prefixes = prefixes_of(alloc, settings, outside)?;
+    let set = specs_of(alloc, settings, &prefixes, outside)?;
     let own = OwnSpecs {
         settings,
         set: &set,
+        prefixes: &prefixes,
     };
     worked_by(alloc, &own, seen, outside)
 }

@@ -50,11 +50,36 @@ fn load_files<S: System>(
     Ok(loaded)
 }
 
-/// The specs of a line over a set: what the files of `-specs=` make of it, in the line's order. Each
-/// is found along the prefixes of `-B`. It asks the system only where the table has no answer.
+/// The specs of a line over a set, along the prefixes of its `-B`: what the files of `-specs=` make
+/// of it, in the line's order. It asks the system only where the table has no answer.
 ///
 /// # Errors
 /// The refusal of the first file that is refused.
+pub fn load_along<S: System>(
+    set: SpecSet,
+    settings: &Settings,
+    prefixes: &Prefixes,
+    sys: &mut S,
+    facts: &mut FactTable,
+) -> Result<SpecSet, SpecsFault>
+    ensures asks { Asks (S.events sys.old) (S.events sys.new) facts.old facts.new }
+    ensures loads { (F : Facts) → Extends facts.new F
+        → prefixes_of F settings.now.prefixes ≡ Is prefixes.now
+        → GivesKnown specs_fault.Memory (λ loaded. loaded) result
+        (specs_over F set settings.now) }
+{
+    load_files(
+        set,
+        settings.specs.as_slice(),
+        prefixes,
+        &mut Outside { sys, facts },
+    )
+}
+
+/// The specs of a line over a set, as `load_along` gives them. The prefixes of `-B` are found first.
+///
+/// # Errors
+/// Those of `load_along`.
 #[tactic(auto, using(drv_system::proofs::Asking::asks_then))]
 pub fn load_specs<S: System>(
     alloc: Global,
@@ -69,12 +94,7 @@ pub fn load_specs<S: System>(
         (specs_over F set settings.now) }
 {
     let prefixes = Prefixes::new(alloc, settings.prefixes.as_slice(), sys, facts)?;
-    load_files(
-        set,
-        settings.specs.as_slice(),
-        &prefixes,
-        &mut Outside { sys, facts },
-    )
+    load_along(set, settings, &prefixes, sys, facts)
 }
 
 /// The prefixes of a line's `-B`.
@@ -109,19 +129,26 @@ fn specs_along<S: System>(
         → GivesKnown specs_fault.Memory (λ set. set) result (specs_of F settings.now) }
 {
     let set = builtin(alloc)?;
-    load_files(set, settings.specs.as_slice(), prefixes, outside)
+    load_along(set, settings, prefixes, outside.sys, outside.facts)
 }
 
-/// What a line with these specs asks for, along the prefixes of its `-B`.
-fn work_along<S: System>(
+/// What a line with these specs asks for, along the prefixes of its `-B`: their dump, or its plan
+/// with what is done with it (GCC manual, "Overall Options", `-dumpspecs` and `-###`). The seed is
+/// for the names of temporaries. It asks the system only where the table has no answer.
+///
+/// # Errors
+/// The refusal of the plan.
+#[tactic(auto, using(drv_system::proofs::Asking::asks_nothing))]
+pub fn work_along<S: System>(
     alloc: Global,
     given: &Specified<'_>,
     prefixes: &Prefixes,
-    outside: &mut Outside<'_, S>,
+    sys: &mut S,
+    facts: &mut FactTable,
 ) -> Result<Work, PlanFault>
     requires { IsWindow given.now.line.now.settings.jobs }
-    ensures asks { Asked S.events outside.old outside.new }
-    ensures works { (F : Facts) → Extends outside.new.facts.now F
+    ensures asks { Asks (S.events sys.old) (S.events sys.new) facts.old facts.new }
+    ensures works { (F : Facts) → Extends facts.new F
         → prefixes_of F given.now.line.now.settings.prefixes ≡ Is prefixes.now
         → GivesKnown plan_fault.Memory (λ work. work) result
         (work_of F given.now.line.now given.now.set.now given.now.seed) }
@@ -130,17 +157,16 @@ fn work_along<S: System>(
     if given.line.settings.dump {
         return Ok(Work::Dump(given.set.dump()?));
     }
-    let plan = plan_along(alloc, given, prefixes, outside.sys, outside.facts)?;
+    let plan = plan_along(alloc, given, prefixes, sys, facts)?;
     Ok(work_with(&given.line.settings, plan))
 }
 
-/// What a line with these specs asks for: their dump, or its plan with what is done with it (GCC
-/// manual, "Overall Options", `-dumpspecs` and `-###`). The seed is for the names of temporaries.
-/// It asks the system only where the table has no answer.
+/// What a line with these specs asks for, as `work_along` gives it. The prefixes of its `-B` are
+/// found first.
 ///
 /// # Errors
-/// The refusal of the plan.
-#[tactic(auto, using(drv_system::proofs::AskedCalls::asked_further))]
+/// Those of `work_along`.
+#[tactic(auto, using(drv_system::proofs::Asking::asks_then))]
 pub fn work_of<S: System>(
     alloc: Global,
     given: &Specified<'_>,
@@ -154,9 +180,8 @@ pub fn work_of<S: System>(
         (work_of F given.now.line.now given.now.set.now given.now.seed) }
     ensures apart { IfErr result (λ fault. fault ≢ PlanFault.Machine machine_fault.Memory) }
 {
-    let outside = &mut Outside { sys, facts };
-    let prefixes = prefixes_of(alloc, &given.line.settings, outside)?;
-    work_along(alloc, given, &prefixes, outside)
+    let prefixes = Prefixes::new(alloc, given.line.settings.prefixes.as_slice(), sys, facts)?;
+    work_along(alloc, given, &prefixes, sys, facts)
 }
 
 /// What a line asks for: its spec files are loaded first. The prefixes of its `-B` are found once.
@@ -183,7 +208,7 @@ pub(crate) fn work_of_line<S: System>(
         set: &set,
         seed,
     };
-    let work = work_along(alloc, &given, &prefixes, outside)?;
+    let work = work_along(alloc, &given, &prefixes, outside.sys, outside.facts)?;
     Ok(work)
 }
 

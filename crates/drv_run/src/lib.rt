@@ -16,7 +16,7 @@ mod version;
 mod wording;
 mod work;
 
-pub use deciding::{load_specs, work_of, work_of_call};
+pub use deciding::{load_along, load_specs, work_along, work_of, work_of_call};
 pub use doing::do_work;
 pub use driving::{EndedCall, drive, drive_over};
 pub use ending::{Ending, Refusal};

@@ -2,11 +2,11 @@ use Rattle.drv_compile.proofs.running.specs_of.Goals as goal
 use Rattle.drv_compile.proofs.Ran.{suffixes_given}
 use Rattle.std.proofs.Common.{refl}
 
--- specs_of (src/running.rt). The specs of a line: what the files of `-specs=` make of the suffixes.
+-- specs_of (src/running.rt). The specs of a line, along the prefixes of its `-B`: what the files of `-specs=` make of the suffixes.
 
 pub returns-clause-loads : goal.returns-clause-loads
-returns-clause-loads g c F e = suffixes_given F c.args.settings.now c.in_ok-set.set c.load_specs.result c.in_ok-set.ensures
-    (c.load_specs.ensures.loads F e)
+returns-clause-loads g c F e known = suffixes_given F c.args.settings.now c.in_ok-set.set c.load_along.result c.in_ok-set.ensures
+    (c.load_along.ensures.loads F e known)
 
 pub returns-clause-asks : goal.returns-clause-asks
-returns-clause-asks g c = record { asks = c.load_specs.ensures.asks; same_sys = refl; same_facts = refl }
+returns-clause-asks g c = record { asks = c.load_along.ensures.asks; same_sys = refl; same_facts = refl }

@@ -1,6 +1,6 @@
 use Rattle.drv_compile.proofs.Ran.{loading_ends, reading_ends, working_comes}
 use Rattle.drv_compile.proofs.running.work_of_items.Goals as goal
-use Rattle.drv_system.proofs.AskedCalls.{extends_before}
+use Rattle.drv_system.proofs.AskedCalls.{asked_further, extends_before}
 
 -- work_of_items (src/running.rt). What items of the driver's line ask for: the line judged, its spec files loaded, and its plan with what
 -- is done with it.
@@ -14,12 +14,15 @@ pub returns-in_err-set-clause-comes : goal.returns-in_err-set-clause-comes
 returns-in_err-set-clause-comes g c F e =
     loading_ends F c.args.given.now c.args.seed c.in_ok-line.line c.in_err-set.field-0.0 c.from_residual-in_err-set.result
     c.from_residual-in_err-set.ensures.1
-    c.in_ok-line.ensures.line (c.in_err-set.ensures.loads F e)
+    c.in_ok-line.ensures.line
+    (c.in_err-set.ensures.loads F e (c.in_ok-prefixes.ensures.prefixes F (extends_before c.specs_of.ensures.asks e)))
 
 pub returns-clause-comes : goal.returns-clause-comes
 returns-clause-comes g c F e =
+    let loaded = extends_before c.line_work-work.ensures.asks e in
+    let known = c.in_ok-prefixes.ensures.prefixes F (extends_before c.specs_of.ensures.asks loaded) in
     working_comes F c.args.given.now c.args.seed c.in_ok-line.line c.in_ok-set.set c.line_work-work.result c.in_ok-line.ensures.line
-    (c.in_ok-set.ensures.loads F (extends_before c.line_work-work.ensures.asks e)) (c.line_work-work.ensures.works F e)
+    (c.in_ok-set.ensures.loads F loaded known) (c.line_work-work.ensures.works F e known)
 
 pub line_work-work-requires : goal.line_work-work-requires
 line_work-work-requires g c = c.in_ok-line.ensures.jobs

@@ -18,15 +18,18 @@ pub returns-in_err-set-clause-works : goal.returns-in_err-set-clause-works
 returns-in_err-set-clause-works g c F e =
     specs_refused c.in_err-set.field-0.0 F c.in_ok-line.line (line_given c.args.seen.now)
     (line_given c.args.first.now) c.from_residual-in_err-set.result
-    c.in_ok-line.ensures.line c.from_residual-in_err-set.ensures.1 (c.in_err-set.ensures.loads F e)
+    c.in_ok-line.ensures.line c.from_residual-in_err-set.ensures.1
+    (c.in_err-set.ensures.loads F e (c.in_ok-prefixes.ensures.prefixes F (extends_before c.specs_of.ensures.asks e)))
 
 pub returns-clause-works : goal.returns-clause-works
 returns-clause-works g c F e =
+    let loaded = extends_before c.worked_by.ensures.asks e in
+    let known = c.in_ok-prefixes.ensures.prefixes F (extends_before c.specs_of.ensures.asks loaded) in
     alike _ c.worked_by.result
     (worked_by F c.in_ok-line.line.settings c.in_ok-set.set (line_given c.args.seen.now)
     (text_of c.in_ok-set.set (codes "gdrv_self")))
     (worked_of F (line_given c.args.seen.now) (line_given c.args.first.now))
     (specs_go F c.in_ok-line.line c.in_ok-set.set (line_given c.args.seen.now)
     (line_given c.args.first.now) c.in_ok-line.ensures.line
-    (c.in_ok-set.ensures.loads F (extends_before c.worked_by.ensures.asks e)))
-    (c.worked_by.ensures.works F e)
+    (c.in_ok-set.ensures.loads F loaded known))
+    (c.worked_by.ensures.works F e known)

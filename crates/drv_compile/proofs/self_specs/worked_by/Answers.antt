@@ -8,16 +8,16 @@ use Rattle.std.proofs.Common.{codes}
 -- worked_by (src/self_specs.rt). What specs give a line whose switches these are.
 
 pub returns-in-Some-clause-works : goal.returns-in-Some-clause-works
-returns-in-Some-clause-works g c F e =
+returns-in-Some-clause-works g c F e known =
     alike _ c.worked_for.result (worked_for F c.args.own.now.settings.now c.args.own.now.set.now c.in-Some.text.now
     (line_given c.args.seen.now))
     (worked_by F c.args.own.now.settings.now c.args.own.now.set.now (line_given c.args.seen.now)
     (text_of c.args.own.now.set.now (codes "gdrv_self")))
     (text_there _ c.tree.result c.in-Some.text F c.args.own.now.settings.now c.args.own.now.set.now
     (line_given c.args.seen.now) _ c.tree.ensures c.in-Some.is)
-    (c.worked_for.ensures.works F e)
+    (c.worked_for.ensures.works F e known)
 
 pub returns-in-None-clause-works : goal.returns-in-None-clause-works
-returns-in-None-clause-works g c F e =
+returns-in-None-clause-works g c F e known =
     no_text _ c.tree.result F c.args.own.now.settings.now c.args.own.now.set.now
     (line_given c.args.seen.now) _ c.tree.ensures c.in-None.is

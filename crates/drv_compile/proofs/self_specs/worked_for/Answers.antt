@@ -7,14 +7,14 @@ use Rattle.std.proofs.Common.{Ok, ap, refl}
 -- worked_for (src/self_specs.rt). What the text gives a line whose switches these are.
 
 pub returns-in_err-line-clause-works : goal.returns-in_err-line-clause-works
-returns-in_err-line-clause-works g c F e =
+returns-in_err-line-clause-works g c F e known =
     line_refused c.in_err-line.field-0.0 (line_given c.args.seen.now)
     (worked_for F c.args.own.now.settings.now c.args.own.now.set.now c.args.text.now) c.from_residual.result refl
     c.from_residual.ensures.1 c.in_err-line.ensures.line
 
 pub returns-clause-works : goal.returns-clause-works
-returns-clause-works g c F e =
+returns-clause-works g c F e known =
     alike _ c.worked_line.result (worked_for F c.args.own.now.settings.now c.args.own.now.set.now c.args.text.now (Ok c.in_ok-line.line))
     (worked_for F c.args.own.now.settings.now c.args.own.now.set.now c.args.text.now (line_given c.args.seen.now))
     (ap (worked_for F c.args.own.now.settings.now c.args.own.now.set.now c.args.text.now) c.in_ok-line.ensures.line)
-    (c.worked_line.ensures.works F e)
+    (c.worked_line.ensures.works F e known)

@@ -4,22 +4,15 @@ use Rattle.drv_compile.specs.SelfSpecs.{of_outcome, worked_for}
 use Rattle.drv_machine.specs.Outcome.{outcome}
 use Rattle.drv_plan.specs.Denoted.{of_text}
 use Rattle.drv_syntax.specs.Parsed.{tree_of}
-use Rattle.drv_system.proofs.AskedCalls.{asked_further, extends_before}
-use Rattle.std.proofs.Common.{◌∙◌, Ok, refl}
+use Rattle.std.proofs.Common.{◌∙◌, Ok}
 
 -- worked_line (src/self_specs.rt). What the text gives a line.
 
 pub returns-clause-works : goal.returns-clause-works
-returns-clause-works g c F e =
+returns-clause-works g c F e known =
     alike _ c.worked_in.result (of_outcome (of_text (outcome F c.in_ok-context.context (tree_of c.args.text.now))))
     (worked_for F c.args.own.now.settings.now c.args.own.now.set.now c.args.text.now (Ok c.args.line.now))
-    (prefixes_made F c.args.own.now.settings.now c.args.own.now.set.now c.args.text.now c.args.line.now c.as_slice-folders.result.now
-    c.in_ok-prefixes.prefixes
-    c.as_slice-folders.ensures (c.in_ok-prefixes.ensures.prefixes F (extends_before c.worked_in.ensures.asks e))
-    ∙ context_made F c.args.own.now.set.now c.args.text.now c.args.line.now c.in_ok-prefixes.prefixes c.in_ok-context.context
+    (prefixes_made F c.args.own.now.settings.now c.args.own.now.set.now c.args.text.now c.args.line.now c.args.own.now.prefixes.now known
+    ∙ context_made F c.args.own.now.set.now c.args.text.now c.args.line.now c.args.own.now.prefixes.now c.in_ok-context.context
     c.in_ok-context.ensures)
     (c.worked_in.ensures.works F e)
-
-pub returns-clause-asks : goal.returns-clause-asks
-returns-clause-asks g c = asked_further (record { asks = c.new.ensures.asks; same_sys = refl; same_facts = refl })
-    c.worked_in.ensures.asks

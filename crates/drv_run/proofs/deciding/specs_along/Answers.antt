@@ -1,4 +1,4 @@
-use Rattle.drv_run.proofs.Files.{builtin_given, specs_loaded}
+use Rattle.drv_run.proofs.Files.{builtin_given}
 use Rattle.drv_run.proofs.deciding.specs_along.Goals as goal
 use Rattle.std.proofs.Common.{refl}
 
@@ -7,6 +7,7 @@ use Rattle.std.proofs.Common.{refl}
 
 pub returns-clause-loads : goal.returns-clause-loads
 returns-clause-loads g c F e known =
-    builtin_given F c.args.settings.now c.in_ok-set.set c.load_files.result c.in_ok-set.ensures
-    (specs_loaded F c.args.settings.now _ c.as_slice.result.now c.args.prefixes.now c.in_ok-set.set c.load_files.result refl
-    c.as_slice.ensures known (c.load_files.ensures.loads F e))
+    builtin_given F c.args.settings.now c.in_ok-set.set c.load_along.result c.in_ok-set.ensures (c.load_along.ensures.loads F e known)
+
+pub returns-clause-asks : goal.returns-clause-asks
+returns-clause-asks g c = record { asks = c.load_along.ensures.asks; same_sys = refl; same_facts = refl }

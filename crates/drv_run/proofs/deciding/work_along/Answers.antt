@@ -5,7 +5,8 @@ use Rattle.drv_run.proofs.deciding.work_along.Goals as goal
 use Rattle.drv_run.specs.Drives.{work_of}
 use Rattle.std.proofs.Common.{refl}
 
--- work_along (src/deciding.rt). What a line with these specs asks for, along the prefixes of its `-B`.
+-- work_along (src/deciding.rt). What a line with these specs asks for, along the prefixes of its `-B`: their dump, or its plan with what is
+-- done with it (GCC manual, "Overall Options", `-dumpspecs` and `-###`).
 
 pub returns-then-given-clause-works : goal.returns-then-given-clause-works
 returns-then-given-clause-works g c F e known =
@@ -23,9 +24,3 @@ pub returns-clause-works : goal.returns-clause-works
 returns-clause-works g c F e known =
     work_planned F c.args.given.now.line.now c.args.given.now.set.now c.args.given.now.seed c.in_ok-plan.plan c.work_with.result
     c.if-given.false (c.in_ok-plan.ensures.plans F e known) c.work_with.ensures
-
-pub returns-in_err-plan-clause-asks : goal.returns-in_err-plan-clause-asks
-returns-in_err-plan-clause-asks g c = record { asks = c.plan_along.ensures.asks; same_sys = refl; same_facts = refl }
-
-pub returns-clause-asks : goal.returns-clause-asks
-returns-clause-asks g c = record { asks = c.plan_along.ensures.asks; same_sys = refl; same_facts = refl }
