@@ -13,7 +13,6 @@ ghost use Rattle.drv_words.specs.Stepping.{pipe_pending};
 ghost use Rattle.std.specs.Option.{option_copied};
 ghost use Rattle.std.specs.Prelude.{◌≡◌, ◌≤◌, List, OnErr, OnOk, false, length};
 
-use crate::calling::Calling;
 use crate::host::Host;
 use crate::preparing::{Prepared, prepare};
 use crate::request::Request;
@@ -22,7 +21,7 @@ use crate::temp_folder::settle;
 use drv_cc::Variable;
 use drv_run::{Work, do_work};
 use drv_system::{Event, FactTable, Outside, System};
-use drv_words::{Answer, Job, Listing, NotStarted, Place, RunEvent, StartAnswer, Step, Word};
+use drv_words::{Answer, Job, NotStarted, Place, RunEvent, StartAnswer, Step, Word};
 use std::alloc::{AllocError, Global};
 
 /// How a call ends.
@@ -262,9 +261,7 @@ fn compile_settled<S: System, H: Host<S>>(
     }
 }
 
-/// A call of `gdrv-cc` with these arguments (GCC manual, "Invoking GCC"; as `c99`, POSIX c99). The
-/// spec file of this program lies at `own`, if that is known; the seed is for the names of
-/// temporaries.
+/// A call of `gdrv-cc` with these arguments (GCC manual, "Invoking GCC"; as `c99`, POSIX c99).
 ///
 /// The call first asks for the folder of temporaries: TMPDIR, TMP and TEMP may name it, if files can
 /// be made there.
@@ -282,27 +279,19 @@ fn compile_settled<S: System, H: Host<S>>(
 #[tactic(auto, using(crate::proofs::Settled::no_pipe_begun))]
 pub fn compile<S: System, H: Host<S>>(
     alloc: Global,
-    calling: &Calling,
-    own: &Option<Word>,
-    args: &Listing<Word>,
-    seed: u32,
+    request: &Request<'_>,
     sys: &mut S,
     host: &mut H,
 ) -> Outcome
     requires pipe { pipe_pending (run_of (S.events sys.old)) ≡ false }
     ensures compiled { Compiled (S.events sys.old) (S.events sys.new)
-        (H.notes host.old) (H.notes host.new) calling.now own.now args.now seed result }
+        (H.notes host.old) (H.notes host.new) request.now.calling.now request.now.own.now
+        request.now.args.now request.now.seed result }
     ensures pipe { pipe_pending (run_of (S.events sys.new)) ≡ false }
 {
-    let request = Request {
-        calling,
-        own,
-        args,
-        seed,
-    };
     let facts = &mut FactTable::new(alloc);
     match settle(alloc, sys, facts, host) {
-        Ok(()) => compile_settled(alloc, &request, sys, facts, host),
+        Ok(()) => compile_settled(alloc, request, sys, facts, host),
         Err(_) => Outcome::OutOfMemory,
     }
 }

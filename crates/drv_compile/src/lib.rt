@@ -40,3 +40,4 @@ pub use calling::{Calling, Front, calling_of};
 pub use compiling::{Outcome, compile};
 pub use host::{Host, HostEvent};
 pub use places::beside;
+pub use request::Request;

@@ -7,15 +7,15 @@ use drv_words::{Listing, Word};
 
 /// What a call is given.
 #[derive(Drop)]
-pub(crate) struct Request<'a> {
+pub struct Request<'a> {
     /// By which name the program was called.
-    pub(crate) calling: &'a Calling,
+    pub calling: &'a Calling,
     /// Where the spec file of this program lies, if that is known.
-    pub(crate) own: &'a Option<Word>,
+    pub own: &'a Option<Word>,
     /// The arguments.
-    pub(crate) args: &'a Listing<Word>,
+    pub args: &'a Listing<Word>,
     /// The seed for the names of temporaries.
-    pub(crate) seed: u32,
+    pub seed: u32,
 }
 
 /// A line of gcc that a call carries out.

@@ -191,7 +191,6 @@ impl System for HostSystem {
         let output = if to_pipe { Output::Pipe } else { Output::Own };
         match spawn(
             &self.rt,
-            self.rt.alloc(),
             command,
             self.variables.as_slice(),
             &self.pending,

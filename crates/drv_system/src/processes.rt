@@ -98,7 +98,6 @@ fn spawn_made(
 /// one.
 pub fn spawn(
     rt: &HostRuntime,
-    alloc: Global,
     command: &Command,
     variables: &[(Word, Word)],
     pending: &Option<PipeReader>,
@@ -106,7 +105,7 @@ pub fn spawn(
 ) -> io::Result<(Child, Option<PipeReader>)>
     ensures { IfOk result (λ started. is_some started.1 ≡ is_pipe output) }
 {
-    let mut made = command_of(alloc, command, variables, pending)?;
+    let mut made = command_of(rt.alloc(), command, variables, pending)?;
     spawn_made(rt, &mut made, output)
 }
 
@@ -115,7 +114,7 @@ pub fn spawn(
 /// # Errors
 /// Why it could not be started.
 pub fn call(rt: &HostRuntime, command: &Command) -> Result<WaitAnswer, NotStarted> {
-    match spawn(rt, rt.alloc(), command, &[], &None, Output::Own) {
+    match spawn(rt, command, &[], &None, Output::Own) {
         Ok((child, _)) => Ok(answer_of(status_of(child))),
         Err(e) => Err(reason_of(&e)),
     }

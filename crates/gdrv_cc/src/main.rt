@@ -7,7 +7,7 @@ ghost use Rattle.std.specs.Prelude.{◌≡◌};
 
 mod process;
 
-use drv_compile::{Outcome, beside, calling_of, compile};
+use drv_compile::{Outcome, Request, beside, calling_of, compile};
 use drv_system::{HostSystem, Reporter, arguments, called_as, clock_seed, complain};
 use drv_words::Word;
 use process::Process;
@@ -68,7 +68,13 @@ fn call(rt: &HostRuntime) -> io::Result<Outcome> {
     let seed = clock_seed(rt)?;
     let mut sys = HostSystem::new(rt.clone()?, Reporter::GdrvCc);
     let mut host = Process::new(rt.clone()?);
-    let outcome = compile(rt.alloc(), &calling, &own, &args, seed, &mut sys, &mut host);
+    let request = Request {
+        calling: &calling,
+        own: &own,
+        args: &args,
+        seed,
+    };
+    let outcome = compile(rt.alloc(), &request, &mut sys, &mut host);
     // The process ends: what dropping them takes is saved.
     forget(sys);
     forget(host);

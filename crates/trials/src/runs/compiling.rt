@@ -12,7 +12,7 @@ use crate::runs::showing::add_line;
 use crate::script::{read_lines, system};
 use crate::transcript::Transcript;
 use drv_cc::Variable;
-use drv_compile::{Host, HostEvent, Outcome, beside, calling_of, compile};
+use drv_compile::{Host, HostEvent, Outcome, Request, beside, calling_of, compile};
 use drv_system::{Event, ScriptSystem, System};
 use drv_words::{Listing, Word};
 use std::alloc::{AllocError, Global};
@@ -258,7 +258,13 @@ fn compile_on(
 {
     let calling = calling_of(alloc, name.as_bytes())?;
     let own = Some(beside(alloc, b"/bin/gdrv-cc", calling.machine.as_bytes())?);
-    Ok(compile(alloc, &calling, &own, args, SEED, sys, host))
+    let request = Request {
+        calling: &calling,
+        own: &own,
+        args,
+        seed: SEED,
+    };
+    Ok(compile(alloc, &request, sys, host))
 }
 
 /// Makes a call of `gdrv-cc` by a name over what lines say.
