@@ -2,8 +2,8 @@ use Rattle.drv_specs.proofs.Keys.{is_key_of, key_renamed, same_bytes, same_key, 
 use Rattle.drv_specs.specs.Code.Keyed.{texts_left, with_left}
 use Rattle.indexmap.proofs.MapLemmas.{absent_from_lookup, insert_entry-absent}
 use Rattle.indexmap.specs.IndexMap.{insert_entry, swap_remove_entry}
-use Rattle.std.proofs.Common.{◌≡◌, ◌∙◌, Bool, List, [], ◌∷◌, None, Option, Some, ap, cond, false, filter, if◌then◌else◌, is_some, nat_eq}
-use Rattle.std.proofs.Common.{refl, subst, sym, true, ℕ}
+use Rattle.std.proofs.Common.{◌≡◌, ◌∙◌, Bool, IfSome, List, [], ◌∷◌, None, Option, Some, ap, cond, false, filter, if◌then◌else◌, is_some}
+use Rattle.std.proofs.Common.{nat_eq, refl, subst, sym, true, ℕ}
 use Rattle.std.proofs.lemmas.Option.{slice_get-map}
 use Rattle.std.proofs.lemmas.Map.Keys.{IsDistinct-head, IsDistinct-tail}
 use Rattle.std.proofs.lemmas.Cmp.{nat_list_eq_equiv}
@@ -18,6 +18,12 @@ use Rattle.std.specs.Prelude.{⊤, slice_get, vec_len}
 -- the list of the texts that are left. Each change of the map changes that list as the definitions change the list of a set.
 -- Names: `name` is the name of a text. `text` is a text. `hit` says whether the entry at hand has the name. `old` is the old name.
 -- `texts_left` is the entries that have a text.
+
+-- a name has no entry, or one with a text
+abbrev pub IsHeld : Option (Option (List ℕ)) → Type 0
+IsHeld None = ⊤
+IsHeld (Some None) = ⊥
+IsHeld (Some (Some text)) = ⊤
 
 -- the text of one name
 module _ (name : List ℕ) where
@@ -63,19 +69,22 @@ module _ (name : List ℕ) where
           ap (λ b. cond b (Some text) (lookup (pointwise nat_eq name) (texts_left es))) is ∙ later
           ∙ sym (ap (λ b. option_flatten (cond b (Some (Some text)) (lookup (is_key_of name) es))) is)
 
-  -- a name without an entry has no text
-  pub unlisted : (es : List (Vec ℕ × Option (List ℕ))) → lookup (is_key_of name) es ≡ None
-      → lookup (pointwise nat_eq name) (texts_left es) ≡ None
-  unlisted [] none = refl
-  unlisted (e ∷ es) none = by e.1 (pointwise nat_eq name e.0.items) refl none (unlisted es)
+  -- a name whose first entry has a text has this text, and a name without an entry has none
+  pub held_left : (found : Option (Option (List ℕ))) (es : List (Vec ℕ × Option (List ℕ))) → lookup (is_key_of name) es ≡ found
+      → IsHeld found → lookup (pointwise nat_eq name) (texts_left es) ≡ option_flatten found
+  held_left found [] is held = ap option_flatten is
+  held_left found (e ∷ es) is held = by e.1 (pointwise nat_eq name e.0.items) refl is (held_left found es)
     where
       by : (text : Option (List ℕ)) (hit : Bool) → pointwise nat_eq name e.0.items ≡ hit
-          → cond hit (Some text) (lookup (is_key_of name) es) ≡ None
-          → (lookup (is_key_of name) es ≡ None → lookup (pointwise nat_eq name) (texts_left es) ≡ None)
-          → lookup (pointwise nat_eq name) (with_left e.0.items text (texts_left es)) ≡ None
-      by text true is none later = absurd cc
-      by None false is none later = later none
-      by (Some text) false is none later = ap (λ b. cond b (Some text) (lookup (pointwise nat_eq name) (texts_left es))) is ∙ later none
+          → cond hit (Some text) (lookup (is_key_of name) es) ≡ found
+          → (lookup (is_key_of name) es ≡ found → IsHeld found → lookup (pointwise nat_eq name) (texts_left es) ≡ option_flatten found)
+          → lookup (pointwise nat_eq name) (with_left e.0.items text (texts_left es)) ≡ option_flatten found
+      by None true hit is' later = absurd (subst IsHeld (sym is') held)
+      by None false hit is' later = later is' held
+      by (Some text) true hit is' later =
+          ap (λ b. cond b (Some text) (lookup (pointwise nat_eq name) (texts_left es))) hit ∙ ap option_flatten is'
+      by (Some text) false hit is' later =
+          ap (λ b. cond b (Some text) (lookup (pointwise nat_eq name) (texts_left es))) hit ∙ later is' held
 
   -- an entry without a text may be dropped
   pub left_vacated : (es : List (Vec ℕ × Option (List ℕ))) → lookup (pointwise nat_eq name) (texts_left es) ≡ None
@@ -135,7 +144,7 @@ module _ (name : List ℕ) where
   -- the removal of a name without an entry changes nothing
   pub left_unlisted : (es : List (Vec ℕ × Option (List ℕ))) → lookup (is_key_of name) es ≡ None
       → texts_left es ≡ remove_entry (pointwise nat_eq name) (texts_left es)
-  left_unlisted es none = absent (texts_left es) (unlisted es none)
+  left_unlisted es none = absent (texts_left es) (held_left None es none tt)
     where
       absent : (texts : List (List ℕ × List ℕ)) → lookup (pointwise nat_eq name) texts ≡ None
           → texts ≡ remove_entry (pointwise nat_eq name) texts
@@ -163,11 +172,14 @@ text_found name es place found distinct there is =
     lookup_left name es distinct ∙ ap option_flatten (sym there ∙ slice_get-map (λ (e : Vec ℕ × Option (List ℕ)). e.1) es place
     ∙ ap (option_map (λ e. e.1)) (sym is))
 
--- a name has no entry, or one with a text
-abbrev pub IsHeld : Option (Option (List ℕ)) → Type 0
-IsHeld None = ⊤
-IsHeld (Some None) = ⊥
-IsHeld (Some (Some text)) = ⊤
+-- for text_there: the text that the code finds at a place is that of the name, if the name there is this one
+pub text_noted : {B : Type 0} (result : Option B) (now : B → List ℕ) (name bytes : List ℕ) (key : Vec ℕ) (had : Option (List ℕ))
+    (es : List (Vec ℕ × Option (List ℕ))) → lookup (same_key key) es ≡ Some had → bytes ≡ key.items → pointwise nat_eq bytes name ≡ true
+    → option_map now result ≡ had → IfSome result (λ text. lookup (pointwise nat_eq name) (texts_left es) ≡ Some (now text))
+text_noted None now name bytes key had es there is same lent = tt
+text_noted (Some text) now name bytes key had es there is same lent =
+    let named : key.items ≡ name = sym is ∙ same_text bytes name (sym same) in
+    held_left name (Some (Some (now text))) es (ap (λ n. lookup (is_key_of n) es) (sym named) ∙ there ∙ ap Some (sym lent)) tt
 
 -- a text is put under such a name in the map as in the list
 pub left_with : (key : Vec ℕ) (text : List ℕ) (es : List (Vec ℕ × Option (List ℕ))) → IsHeld (lookup (is_key_of key.items) es)
@@ -247,7 +259,7 @@ text_before key name text es after same is distinct = by (lookup (same_key key) 
   where
     by : (old : Option (Option (List ℕ))) → lookup (same_key key) es ≡ old
         → lookup (pointwise nat_eq name) (texts_left es) ≡ option_flatten (lookup (same_key key) es)
-    by None none = unlisted name es (ap (λ n. lookup (is_key_of n) es) (sym same) ∙ none) ∙ sym (ap option_flatten none)
+    by None none = held_left name None es (ap (λ n. lookup (is_key_of n) es) (sym same) ∙ none) tt ∙ sym (ap option_flatten none)
     by (Some old) there =
         lookup_left name es (distinct_before key (Some text) es after (ap is_some there) is distinct)
         ∙ ap (λ n. option_flatten (lookup (is_key_of n) es)) (sym same)

@@ -126,6 +126,7 @@ impl Entries {
     }
 
     /// The text of a name.
+    #[inline(always)]
     pub(crate) fn text(&self, name: &[u8]) -> Option<&Text>
         ensures { option_map (λ text. text.now) result ≡ text_of self.now name.now }
     {

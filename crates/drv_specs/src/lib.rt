@@ -13,6 +13,7 @@ mod laws;
 mod lines;
 mod loading;
 mod named_texts;
+mod places;
 mod reading;
 mod set;
 mod settling;

@@ -7,8 +7,10 @@ ghost use Rattle.std.specs.Cmp.Lexicographic.{pointwise};
 ghost use Rattle.std.specs.Global.{Vec};
 ghost use Rattle.std.specs.Map.{lookup, remove_entry, set_key};
 ghost use Rattle.std.specs.Option.{option_map};
-ghost use Rattle.std.specs.Prelude.{◌≡◌, [], IfOk, None, OnOk, Some, is_some, nat_eq};
+ghost use Rattle.std.specs.Prelude.{◌≡◌, [], IfOk, IfSome, None, OnOk, Some};
+ghost use Rattle.std.specs.Prelude.{is_some, nat_eq};
 
+use crate::places::Places;
 use crate::text::Text;
 use indexmap::IndexMap;
 use std::alloc::{AllocError, Global};
@@ -22,6 +24,8 @@ pub(crate) struct NamedTexts {
     kept: IndexMap<Vec<u8>, Option<Text>>,
     /// How many entries have no text.
     vacant: usize,
+    /// Where the entries of names may be.
+    places: Places,
 }
 
 impl Model for NamedTexts {
@@ -44,7 +48,23 @@ fn drop_vacant(kept: &mut IndexMap<Vec<u8>, Option<Text>>)
     );
 }
 
-/// The text of a name.
+/// The text of a name, if its entry is at this place.
+fn text_there<'a>(
+    kept: &'a IndexMap<Vec<u8>, Option<Text>>,
+    place: usize,
+    name: &[u8],
+) -> Option<&'a Text>
+    ensures { IfSome result (λ text. lookup (pointwise nat_eq name.now) (texts_left kept.now.entries)
+        ≡ Some text.now) }
+{
+    match kept.get_index(place) {
+        Some((key, text)) if key.as_slice() == name => text.as_ref(),
+        _ => None,
+    }
+}
+
+/// The text of a name, by a look-up of its hash. Most names are found before.
+#[inline(never)]
 fn text_at<'a>(kept: &'a IndexMap<Vec<u8>, Option<Text>>, name: &[u8]) -> Option<&'a Text>
     ensures { option_map (λ text. text.now) result
         ≡ lookup (pointwise nat_eq name.now) (texts_left kept.now.entries) }
@@ -81,6 +101,7 @@ impl NamedTexts {
             alloc,
             kept: IndexMap::new(alloc),
             vacant: 0,
+            places: Places::new(),
         }
     }
 
@@ -92,6 +113,7 @@ impl NamedTexts {
             alloc,
             kept: IndexMap::with_capacity(alloc, count)?,
             vacant: 0,
+            places: Places::new(),
         })
     }
 
@@ -103,10 +125,14 @@ impl NamedTexts {
     }
 
     /// The text of a name.
+    #[inline(always)]
     pub(crate) fn get(&self, name: &[u8]) -> Option<&Text>
         ensures { option_map (λ text. text.now) result ≡ lookup (pointwise nat_eq name.now) self.now }
     {
-        text_at(&self.kept, name)
+        match text_there(&self.kept, self.places.of(name), name) {
+            Some(text) => Some(text),
+            None => text_at(&self.kept, name),
+        }
     }
 
     /// Puts a text under a name: a name that is there keeps its place, a new one goes last. Returns
@@ -117,8 +143,12 @@ impl NamedTexts {
             ≡ insert_entry (pointwise nat_eq) self.old name.now text) }
     {
         let key = name.to_vec(self.alloc)?;
+        let place = self.kept.len();
         match self.kept.insert(key, Some(text))? {
-            None => Ok(None),
+            None => {
+                self.places.note(name, place);
+                Ok(None)
+            }
             Some(Some(old)) => Ok(Some(old)),
             // The name was deleted: its entry goes from its place, and comes last again.
             Some(None) => {
@@ -174,6 +204,7 @@ impl NamedTexts {
             alloc: self.alloc,
             kept: self.kept.clone()?,
             vacant: self.vacant,
+            places: self.places,
         })
     }
 }

@@ -69,6 +69,7 @@ impl SpecSet {
     }
 
     /// The text of a name, with its tree. The call allocates nothing.
+    #[inline(always)]
     pub fn tree(&self, name: &[u8]) -> Option<&SpecTree>
         ensures { option_map (λ tree. tree.now) result ≡ text_of self.now name.now }
     {

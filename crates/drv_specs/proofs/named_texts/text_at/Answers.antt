@@ -1,14 +1,14 @@
-use Rattle.drv_specs.proofs.Left.{none_of, text_found, unlisted}
+use Rattle.drv_specs.proofs.Left.{held_left, none_of, text_found}
 use Rattle.drv_specs.proofs.named_texts.text_at.Goals as goal
-use Rattle.std.proofs.Common.{◌∙◌, ap, is_some, sym}
+use Rattle.std.proofs.Common.{◌∙◌, None, ap, is_some, sym}
 use Rattle.std.specs.Map.Iter.{deref_pair}
 use Rattle.std.specs.Option.{option_flatten, option_map}
 
--- text_at (src/named_texts.rt). The text of a name.
+-- text_at (src/named_texts.rt). The text of a name, by a look-up of its hash.
 
 pub returns-in_default : goal.returns-in_default
-returns-in_default c = sym (unlisted c.args.name.now c.args.kept.now.entries
-    (none_of _ (sym c.get_index_of.ensures.found ∙ ap is_some c.in_default.is)))
+returns-in_default c = sym (held_left c.args.name.now None c.args.kept.now.entries
+    (none_of _ (sym c.get_index_of.ensures.found ∙ ap is_some c.in_default.is)) tt)
 
 pub returns-in_default-get_index : goal.returns-in_default-get_index
 returns-in_default-get_index c =
