@@ -9,7 +9,8 @@ use Rattle.std.proofs.Common.{◌≡◌, ◌∙◌, ap, sym}
 -- (specs/Code/RunState) does.
 
 -- the code's function for a phase moves on as the definition does in that phase
-pub in_part : (plan : Plan) (p q r : RunState) (s : Step) (a : Answer) (h : Phase) → q ≡ kept p s a → q.phase ≡ h → r ≡ moved_in h plan q a
-    → r ≡ moved plan p s a
-in_part plan p q r s a h e at is = is ∙ ap (λ x. moved_in h plan x a) e ∙ ap (λ t. moved_in t plan (kept p s a) a)
+pub in_part : (plan : Plan) (old held new : RunState) (s : Step) (a : Answer) (phase : Phase) → held ≡ kept old s a → held.phase
+    ≡ phase → new ≡ moved_in phase plan held a
+    → new ≡ moved plan old s a
+in_part plan old held new s a phase e at is = is ∙ ap (λ x. moved_in phase plan x a) e ∙ ap (λ t. moved_in t plan (kept old s a) a)
     (sym at ∙ ap (λ x. x.phase) e)

@@ -168,10 +168,11 @@ open_at k job (RemovalReport i) E v o = tt
 open_at k job Ended E v o = tt
 
 -- if there was no wait from a place on, there was none from a later place on
-later_next : (k g h i l : ℕ) (E : List RunEvent) → (g < h) ⊎ ((h ≡ g) × (i ≤ l)) → Later k g i E → Later k h l E
-later_next k g h i l E from w a b to = w a b (at from to)
+later_next : (k g group i member : ℕ) (E : List RunEvent) → (g < group) ⊎ ((group ≡ g) × (i ≤ member)) → Later k g i E
+    → Later k group member E
+later_next k g group i member E from w a b to = w a b (at from to)
   where
-    at : (g < h) ⊎ ((h ≡ g) × (i ≤ l)) → (h < a) ⊎ ((a ≡ h) × (l ≤ b)) → (g < a) ⊎ ((a ≡ g) × (i ≤ b))
+    at : (g < group) ⊎ ((group ≡ g) × (i ≤ member)) → (group < a) ⊎ ((a ≡ group) × (member ≤ b)) → (g < a) ⊎ ((a ≡ g) × (i ≤ b))
     at (inl x) (inl y) = inl (omega (arith, x, y))
     at (inl x) (inr y) = inl (let e = y.0 in omega (arith, x, e))
     at (inr x) (inl y) = inl (let e = x.0 in omega (arith, e, y))
@@ -222,22 +223,24 @@ opens_waits k job g was ids i fault E w b = by (nat_lt i (length ids))
     by false = opens_end k job g i (was || not (none ids)) fault E w
 
 -- an event that is not a wait
-later_kept : (k g i : ℕ) (E : List RunEvent) (e : RunEvent) → ((p : Place) → is_wait_at p e.step ≡ false) → Later k g i E
-    → Later k g i (E ++ e ∷ [])
-later_kept k g i E e n w h l at = unwaited_more (place.Command k h l) E e (w h l at) (n (place.Command k h l))
+later_kept : (k g i : ℕ) (E : List RunEvent) (added : RunEvent) → ((spot : Place) → is_wait_at spot added.step ≡ false) → Later k g i E
+    → Later k g i (E ++ added ∷ [])
+later_kept k g i E added n w group member at =
+    unwaited_more (place.Command k group member) E added (w group member at) (n (place.Command k group member))
 
 -- one more event changes nothing of the children that were started
-begun_kept : (k g : ℕ) (ids : List ℕ) (i : ℕ) (E : List RunEvent) (e : RunEvent) → Begun k g ids i E → Begun k g ids i (E ++ e ∷ [])
-begun_kept k g ids i E e b l from lt = started_more (place.Command k g l) (get_or ids l 0) E e (b l from lt)
+begun_kept : (k g : ℕ) (ids : List ℕ) (i : ℕ) (E : List RunEvent) (added : RunEvent) → Begun k g ids i E → Begun k g ids i (E ++ added ∷ [])
+begun_kept k g ids i E added b member from lt = started_more (place.Command k g member) (get_or ids member 0) E added (b member from lt)
 
 -- after a wait at a member there was none from the next one on
-later_waited : (k g i id : ℕ) (a : Answer) (E : List RunEvent) → Later k g i E
-    → Later k g (i + 1) (E ++ event (step.Wait (place.Command k g i) id) a ∷ [])
-later_waited k g i id a E w h l at = unwaited_more (place.Command k h l) E (event (step.Wait (place.Command k g i) id) a)
-    (w h l (wider at)) (apart at)
+later_waited : (k g i id : ℕ) (reply : Answer) (E : List RunEvent) → Later k g i E
+    → Later k g (i + 1) (E ++ event (step.Wait (place.Command k g i) id) reply ∷ [])
+later_waited k g i id reply E w group member at =
+    unwaited_more (place.Command k group member) E (event (step.Wait (place.Command k g i) id) reply)
+    (w group member (wider at)) (apart at)
   where
     -- Plan: a place after member i + 1 is also after member i (`wider`), and it is not the place of this wait (`apart`).
-    wider : (g < h) ⊎ ((h ≡ g) × (i + 1 ≤ l)) → (g < h) ⊎ ((h ≡ g) × (i ≤ l))
+    wider : (g < group) ⊎ ((group ≡ g) × (i + 1 ≤ member)) → (g < group) ⊎ ((group ≡ g) × (i ≤ member))
     wider (inl x) = inl x
     wider (inr x) = inr (x.0, (let p = x.1 in omega (arith, p)))
 
@@ -245,16 +248,19 @@ later_waited k g i id a E w h l at = unwaited_more (place.Command k h l) E (even
     last true u e = e
     last false u e = refl
 
-    apart : (g < h) ⊎ ((h ≡ g) × (i + 1 ≤ l)) → (nat_eq k k && (nat_eq h g && nat_eq l i)) ≡ false
-    apart (inl x) = last (nat_eq k k) (nat_eq h g && nat_eq l i) (let ne : nat_eq h g ≡ false = grind (arith, nat_tests) in rw ne refl)
+    apart : (g < group) ⊎ ((group ≡ g) × (i + 1 ≤ member)) → (nat_eq k k && (nat_eq group g && nat_eq member i)) ≡ false
+    apart (inl x) = last (nat_eq k k) (nat_eq group g && nat_eq member i) (let ne : nat_eq group g
+    ≡ false = grind (arith, nat_tests) in rw ne refl)
     apart (inr x) =
         let p = x.1 in
-        last (nat_eq k k) (nat_eq h g && nat_eq l i) (last (nat_eq h g) (nat_eq l i)
-        (let ne : nat_eq l i ≡ false = grind (arith, nat_tests) in ne))
+        last (nat_eq k k) (nat_eq group g && nat_eq member i) (last (nat_eq group g) (nat_eq member i)
+        (let ne : nat_eq member i ≡ false = grind (arith, nat_tests) in ne))
 
 -- after one more wait the later children are still those that were started
-begun_waited : (k g : ℕ) (ids : List ℕ) (i : ℕ) (E : List RunEvent) (e : RunEvent) → Begun k g ids i E → Begun k g ids (i + 1) (E ++ e ∷ [])
-begun_waited k g ids i E e b l from lt = started_more (place.Command k g l) (get_or ids l 0) E e (b l (omega (arith, from)) lt)
+begun_waited : (k g : ℕ) (ids : List ℕ) (i : ℕ) (E : List RunEvent) (added : RunEvent) → Begun k g ids i E → Begun k g ids (i + 1) (E
+    ++ added ∷ [])
+begun_waited k g ids i E added b member from lt =
+    started_more (place.Command k g member) (get_or ids member 0) E added (b member (omega (arith, from)) lt)
 
 -- the items of a list with one more at its end are where they were
 get_front : (ids : List ℕ) (id l : ℕ) → l < length ids → get_or (ids ++ id ∷ []) l 0 ≡ get_or ids l 0
@@ -332,8 +338,8 @@ opens_refusal k job g was ids why t E w b = by (nat_lt 0 (length ids))
     by false = opens_waits k job g was ids 0 true E w b
 
 -- the answer to a wait keeps `Opens`
-opens_waited : (k : ℕ) (job : Job) (g : ℕ) (was : Bool) (ids : List ℕ) (i : ℕ) (fault : Bool) (x : WaitAnswer) (E : List RunEvent)
-    → Later k g (i + 1) E → Begun k g ids (i + 1) E → Opens k (after job (Waits g was ids i fault) (answer.Wait x)) E
+opens_waited : (k : ℕ) (job : Job) (g : ℕ) (was : Bool) (ids : List ℕ) (i : ℕ) (fault : Bool) (reply : WaitAnswer) (E : List RunEvent)
+    → Later k g (i + 1) E → Begun k g ids (i + 1) E → Opens k (after job (Waits g was ids i fault) (answer.Wait reply)) E
 opens_waited k job g was ids i fault (Exit n) E w b = opens_waits k job g was ids (i + 1) (fault || not (nat_eq n 0)) E w b
 opens_waited k job g was ids i fault Signal E w b = (w, b)
 opens_waited k job g was ids i fault Lost E w b = (w, b)
@@ -374,42 +380,45 @@ opens_after k job (RemovalReport i) a E l e o = opens_removals k job (i + 1)
 opens_after k job Ended a E l e o = absurd cc
 
 -- the next step of another source is no wait at a place of this one
-other_wait : (j k : ℕ) (job : Job) (s : Stage) → nat_eq k j ≡ false → (h l : ℕ)
-    → is_wait_at (place.Command k h l) (asked (asks j job s)) ≡ false
-other_wait j k job (Claims i) e h l = refl
-other_wait j k job (ClaimReport i x) e h l = refl
-other_wait j k job (Starts g was ids) e h l = refl
-other_wait j k job (StartReport g was ids why) e h l = refl
-other_wait j k job (Closing g was ids why told) e h l = refl
-other_wait j k job (Waits g was ids i fault) e h l = rw e refl
-other_wait j k job (WaitReport g was ids i fault x) e h l = refl
-other_wait j k job (Removals i) e h l = refl
-other_wait j k job (RemovalReport i) e h l = refl
-other_wait j k job Ended e h l = refl
+other_wait : (j k : ℕ) (job : Job) (stage : Stage) → nat_eq k j ≡ false → (group member : ℕ)
+    → is_wait_at (place.Command k group member) (asked (asks j job stage)) ≡ false
+other_wait j k job (Claims i) e group member = refl
+other_wait j k job (ClaimReport i x) e group member = refl
+other_wait j k job (Starts g was ids) e group member = refl
+other_wait j k job (StartReport g was ids why) e group member = refl
+other_wait j k job (Closing g was ids why told) e group member = refl
+other_wait j k job (Waits g was ids i fault) e group member = rw e refl
+other_wait j k job (WaitReport g was ids i fault x) e group member = refl
+other_wait j k job (Removals i) e group member = refl
+other_wait j k job (RemovalReport i) e group member = refl
+other_wait j k job Ended e group member = refl
 
 -- one more event that is no wait of job k leaves it without waits from the same place on
-later_other : (k g i : ℕ) (E : List RunEvent) (e : RunEvent) → ((h l : ℕ) → is_wait_at (place.Command k h l) e.step ≡ false) → Later k g i E
-    → Later k g i (E ++ e ∷ [])
-later_other k g i E e n w h l at = unwaited_more (place.Command k h l) E e (w h l at) (n h l)
+later_other : (k g i : ℕ) (E : List RunEvent) (added : RunEvent) → ((group member : ℕ)
+    → is_wait_at (place.Command k group member) added.step ≡ false) → Later k g i E
+    → Later k g i (E ++ added ∷ [])
+later_other k g i E added n w group member at = unwaited_more (place.Command k group member) E added (w group member at) (n group member)
 
 -- an event that is no wait for a child of the source keeps `Opens`
-opens_kept : (k : ℕ) (s : Stage) (E : List RunEvent) (e : RunEvent) → ((h l : ℕ) → is_wait_at (place.Command k h l) e.step ≡ false)
-    → Opens k s E → Opens k s (E ++ e ∷ [])
-opens_kept k (Claims i) E e n o = later_other k 0 0 E e n o
-opens_kept k (ClaimReport i x) E e n o = tt
-opens_kept k (Starts g was ids) E e n o = (later_other k g 0 E e n o.0, begun_kept k g ids 0 E e o.1)
-opens_kept k (StartReport g was ids why) E e n o = (later_other k g 0 E e n o.0, begun_kept k g ids 0 E e o.1)
-opens_kept k (Closing g was ids why told) E e n o = (later_other k g 0 E e n o.0, begun_kept k g ids 0 E e o.1)
-opens_kept k (Waits g was ids i fault) E e n o = (later_other k g i E e n o.0, begun_kept k g ids i E e o.1)
-opens_kept k (WaitReport g was ids i fault x) E e n o = (later_other k g (i + 1) E e n o.0, begun_kept k g ids (i + 1) E e o.1)
-opens_kept k (Removals i) E e n o = tt
-opens_kept k (RemovalReport i) E e n o = tt
-opens_kept k Ended E e n o = tt
+opens_kept : (k : ℕ) (stage : Stage) (E : List RunEvent) (added : RunEvent) → ((group member : ℕ)
+    → is_wait_at (place.Command k group member) added.step ≡ false)
+    → Opens k stage E → Opens k stage (E ++ added ∷ [])
+opens_kept k (Claims i) E added n o = later_other k 0 0 E added n o
+opens_kept k (ClaimReport i x) E added n o = tt
+opens_kept k (Starts g was ids) E added n o = (later_other k g 0 E added n o.0, begun_kept k g ids 0 E added o.1)
+opens_kept k (StartReport g was ids why) E added n o = (later_other k g 0 E added n o.0, begun_kept k g ids 0 E added o.1)
+opens_kept k (Closing g was ids why told) E added n o = (later_other k g 0 E added n o.0, begun_kept k g ids 0 E added o.1)
+opens_kept k (Waits g was ids i fault) E added n o = (later_other k g i E added n o.0, begun_kept k g ids i E added o.1)
+opens_kept k (WaitReport g was ids i fault x) E added n o = (later_other k g (i + 1) E added n o.0, begun_kept k g ids (i + 1) E added o.1)
+opens_kept k (Removals i) E added n o = tt
+opens_kept k (RemovalReport i) E added n o = tt
+opens_kept k Ended E added n o = tt
 
 -- an answer to a step of another source keeps `Opens`
-pub opens_other : (j k : ℕ) (job : Job) (t s : Stage) (a : Answer) (E : List RunEvent) → nat_eq k j ≡ false → Opens k s E
-    → Opens k s (E ++ event (asked (asks j job t)) a ∷ [])
-opens_other j k job t s a E e o = opens_kept k s E (event (asked (asks j job t)) a) (other_wait j k job t e) o
+pub opens_other : (j k : ℕ) (job : Job) (theirs stage : Stage) (reply : Answer) (E : List RunEvent) → nat_eq k j ≡ false → Opens k stage E
+    → Opens k stage (E ++ event (asked (asks j job theirs)) reply ∷ [])
+opens_other j k job theirs stage reply E e o =
+    opens_kept k stage E (event (asked (asks j job theirs)) reply) (other_wait j k job theirs e) o
 
 -- a group has at most as many children as commands
 

@@ -328,19 +328,19 @@ pub put_here : (st : ℕ → Stage) (k : ℕ) (m : Stage) → put st k m k ≡ m
 put_here st k m = ap (λ (t : Bool). if t then m else st k) (nat_eq_equiv.refl k)
 
 -- one more event of the open block: the run of the sources goes on in it
-abbrev pub goes_inside : (jobs : List Job) (N : ℕ) (st : ℕ → Stage) (k : ℕ) (E : List RunEvent) (m : Stage) (ev : RunEvent)
-    → (r : Running jobs N st k E) → MayGo jobs N (bases st) r.blocks k → Valid (get_or jobs k no_job) m
-    → base m ≡ base (st k) → open_of k (get_or jobs k no_job) m ≡ open_of k (get_or jobs k no_job) (st k) ++ ev ∷ []
-    → Running jobs N (put st k m) k (E ++ ev ∷ [])
-goes_inside jobs N st k E m ev r may valid same_base more = record {
-  blocks = r.blocks;
-  keep = subst (λ f. Keeps jobs N f r.blocks) same_bases r.keep;
-  events = ap (λ l. l ++ ev ∷ []) r.events ∙ append_assoc (events_of (blocks_of r.blocks)) (open_of k (get_or jobs k no_job) (st k))
-      (ev ∷ []) ∙ ap (λ l. events_of (blocks_of r.blocks) ++ l) (sym more)
-      ∙ ap (λ s. events_of (blocks_of r.blocks) ++ open_of k (get_or jobs k no_job) s) (sym (put_here st k m));
-  others = λ j e. subst (λ (t : Bool). inside (if t then m else st j) ≡ false) (sym e) (r.others j e);
+abbrev pub goes_inside : (jobs : List Job) (N : ℕ) (st : ℕ → Stage) (k : ℕ) (E : List RunEvent) (next : Stage) (ev : RunEvent)
+    → (run : Running jobs N st k E) → MayGo jobs N (bases st) run.blocks k → Valid (get_or jobs k no_job) next
+    → base next ≡ base (st k) → open_of k (get_or jobs k no_job) next ≡ open_of k (get_or jobs k no_job) (st k) ++ ev ∷ []
+    → Running jobs N (put st k next) k (E ++ ev ∷ [])
+goes_inside jobs N st k E next ev run may valid same_base more = record {
+  blocks = run.blocks;
+  keep = subst (λ f. Keeps jobs N f run.blocks) same_bases run.keep;
+  events = ap (λ l. l ++ ev ∷ []) run.events ∙ append_assoc (events_of (blocks_of run.blocks)) (open_of k (get_or jobs k no_job) (st k))
+      (ev ∷ []) ∙ ap (λ l. events_of (blocks_of run.blocks) ++ l) (sym more)
+      ∙ ap (λ s. events_of (blocks_of run.blocks) ++ open_of k (get_or jobs k no_job) s) (sym (put_here st k next));
+  others = λ j e. subst (λ (t : Bool). inside (if t then next else st j) ≡ false) (sym e) (run.others j e);
   valid = λ j. is_valid j (nat_eq k j) refl;
-  may = λ e. subst (λ f. MayGo jobs N f r.blocks k) same_bases may;
+  may = λ e. subst (λ f. MayGo jobs N f run.blocks k) same_bases may;
 }
   where
     -- Plan: only source k has another stage, and its open block began at the same stage as before, so what holds between blocks stays true.
@@ -356,26 +356,27 @@ goes_inside jobs N st k E m ev r may valid same_base more = record {
     is_valid j false e = r.valid j
 
 -- one more event ends the open block: the run of the sources is between blocks
-abbrev pub goes_out : (jobs : List Job) (N : ℕ) (st : ℕ → Stage) (k : ℕ) (E : List RunEvent) (m : Stage) (ev : RunEvent)
-    → (r : Running jobs N st k E) → MayGo jobs N (bases st) r.blocks k → Valid (get_or jobs k no_job) m → left (st k) ≡ true
-    → inside m ≡ false → OneBlock k (get_or jobs k no_job) (base (st k)) (open_of k (get_or jobs k no_job) (st k) ++ ev ∷ []) m
-    → Running jobs N (put st k m) k (E ++ ev ∷ [])
-goes_out jobs N st k E m ev r may valid more out one = record {
-  blocks = r.blocks ++ new ∷ [];
-  keep = subst (λ f. Keeps jobs N f (r.blocks ++ new ∷ [])) (fun_ext (λ j. same_at j (nat_eq k j)))
-      (keeps_more jobs N (bases st) r.blocks k (open_of k (get_or jobs k no_job) (st k) ++ ev ∷ []) m r.keep (left_base (st k) ∙ more) one
-      (subst (λ t. MayCome (length jobs) N (λ j. has j r.blocks) (λ j. left (base (st j))) (λ j. in_flight (of j r.blocks)) k t)
-      (sym (waits_next k (get_or jobs k no_job) (of k r.blocks) (base (st k)) (open_of k (get_or jobs k no_job) (st k) ++ ev ∷ []) m
-      (r.keep.stand.paths k (is_less k (length jobs) may.is_source)) one)) may));
-  events = ap (λ l. l ++ ev ∷ []) r.events ∙ append_assoc (events_of (blocks_of r.blocks))
+abbrev pub goes_out : (jobs : List Job) (N : ℕ) (st : ℕ → Stage) (k : ℕ) (E : List RunEvent) (next : Stage) (ev : RunEvent)
+    → (run : Running jobs N st k E) → MayGo jobs N (bases st) run.blocks k → Valid (get_or jobs k no_job) next → left (st k) ≡ true
+    → inside next ≡ false → OneBlock k (get_or jobs k no_job) (base (st k)) (open_of k (get_or jobs k no_job) (st k) ++ ev ∷ []) next
+    → Running jobs N (put st k next) k (E ++ ev ∷ [])
+goes_out jobs N st k E next ev run may valid more out one = record {
+  blocks = run.blocks ++ new ∷ [];
+  keep = subst (λ f. Keeps jobs N f (run.blocks ++ new ∷ [])) (fun_ext (λ j. same_at j (nat_eq k j)))
+      (keeps_more jobs N (bases st) run.blocks k (open_of k (get_or jobs k no_job) (st k) ++ ev ∷ []) next run.keep (left_base (st k)
+      ∙ more) one
+      (subst (λ t. MayCome (length jobs) N (λ j. has j run.blocks) (λ j. left (base (st j))) (λ j. in_flight (of j run.blocks)) k t)
+      (sym (waits_next k (get_or jobs k no_job) (of k run.blocks) (base (st k)) (open_of k (get_or jobs k no_job) (st k) ++ ev ∷ []) next
+      (run.keep.stand.paths k (is_less k (length jobs) may.is_source)) one)) may));
+  events = ap (λ l. l ++ ev ∷ []) run.events ∙ append_assoc (events_of (blocks_of run.blocks))
       (open_of k (get_or jobs k no_job) (st k)) (ev ∷ [])
-      ∙ ap (λ l. events_of (blocks_of r.blocks) ++ l) (sym (append-nil (open_of k (get_or jobs k no_job) (st k) ++ ev ∷ [])))
-      ∙ sym (events_append r.blocks (new ∷ [])) ∙ sym (append-nil (events_of (blocks_of (r.blocks ++ new ∷ []))))
-      ∙ ap (λ l. events_of (blocks_of (r.blocks ++ new ∷ [])) ++ l) (sym (open_out k (get_or jobs k no_job) m out))
-      ∙ ap (λ s. events_of (blocks_of (r.blocks ++ new ∷ [])) ++ open_of k (get_or jobs k no_job) s) (sym (put_here st k m));
-  others = λ j e. subst (λ (t : Bool). inside (if t then m else st j) ≡ false) (sym e) (r.others j e);
+      ∙ ap (λ l. events_of (blocks_of run.blocks) ++ l) (sym (append-nil (open_of k (get_or jobs k no_job) (st k) ++ ev ∷ [])))
+      ∙ sym (events_append run.blocks (new ∷ [])) ∙ sym (append-nil (events_of (blocks_of (run.blocks ++ new ∷ []))))
+      ∙ ap (λ l. events_of (blocks_of (run.blocks ++ new ∷ [])) ++ l) (sym (open_out k (get_or jobs k no_job) next out))
+      ∙ ap (λ s. events_of (blocks_of (run.blocks ++ new ∷ [])) ++ open_of k (get_or jobs k no_job) s) (sym (put_here st k next));
+  others = λ j e. subst (λ (t : Bool). inside (if t then next else st j) ≡ false) (sym e) (run.others j e);
   valid = λ j. is_valid j (nat_eq k j) refl;
-  may = λ e. absurd (let clash : true ≡ false = sym e ∙ ap (λ s. inside s) (put_here st k m) ∙ out in cc);
+  may = λ e. absurd (let clash : true ≡ false = sym e ∙ ap (λ s. inside s) (put_here st k next) ∙ out in cc);
 }
   where
     -- Plan: the open block with the new event becomes the last whole block; only source k has another stage.
@@ -391,30 +392,34 @@ goes_out jobs N st k E m ev r may valid more out one = record {
     is_valid j false e = r.valid j
 
 -- one more event of a source that may go on, or has the open block, keeps `Running`
-pub goes_on : (jobs : List Job) (N : ℕ) (st : ℕ → Stage) (k : ℕ) (E : List RunEvent) (a : Answer)
-    → ((j : ℕ) → Filled (get_or jobs j no_job)) → (r : Running jobs N st k E) → MayGo jobs N (bases st) r.blocks k → left (st k) ≡ true
-    → is_kind (asked (asks k (get_or jobs k no_job) (st k))) a ≡ true → Running jobs N (put st k (after (get_or jobs k no_job) (st k) a)) k
-    (E ++ event (asked (asks k (get_or jobs k no_job) (st k))) a ∷ [])
-goes_on jobs N st k E a filled r may more fit = by (inside (after job (st k) a)) refl (one_step k job (st k) a (r.valid k) more fit)
+pub goes_on : (jobs : List Job) (N : ℕ) (st : ℕ → Stage) (k : ℕ) (E : List RunEvent) (reply : Answer)
+    → ((j : ℕ) → Filled (get_or jobs j no_job)) → (run : Running jobs N st k E) → MayGo jobs N (bases st) run.blocks k → left (st k) ≡ true
+    → is_kind (asked (asks k (get_or jobs k no_job) (st k))) reply ≡ true
+    → Running jobs N (put st k (after (get_or jobs k no_job) (st k) reply)) k
+    (E ++ event (asked (asks k (get_or jobs k no_job) (st k))) reply ∷ [])
+goes_on jobs N st k E reply filled run may more fit =
+    by (inside (after job (st k) reply)) refl (one_step k job (st k) reply (run.valid k) more fit)
   where
     -- Plan: by whether a block is open after the answer: `goes_inside` if one is, else `goes_out`.
     job : Job
     job = get_or jobs k no_job
 
     ev : RunEvent
-    ev = event (asked (asks k job (st k))) a
+    ev = event (asked (asks k job (st k))) reply
 
-    valid : Valid (get_or jobs k no_job) (after (get_or jobs k no_job) (st k) a)
-    valid = valid_after k (get_or jobs k no_job) (st k) a (filled k) (r.valid k) fit
+    valid : Valid (get_or jobs k no_job) (after (get_or jobs k no_job) (st k) reply)
+    valid = valid_after k (get_or jobs k no_job) (st k) reply (filled k) (run.valid k) fit
 
-    by : (t : Bool) → inside (after (get_or jobs k no_job) (st k) a) ≡ t
-        → Stepped t k (get_or jobs k no_job) (st k) (after (get_or jobs k no_job) (st k) a) (open_of k (get_or jobs k no_job) (st k)
-        ++ event (asked (asks k (get_or jobs k no_job) (st k))) a ∷ [])
-        → Running jobs N (put st k (after (get_or jobs k no_job) (st k) a)) k
-        (E ++ event (asked (asks k (get_or jobs k no_job) (st k))) a ∷ [])
-    by true e s = goes_inside jobs N st k E (after (get_or jobs k no_job) (st k) a) (event (asked (asks k (get_or jobs k no_job) (st k))) a)
-        r may valid s.0 s.1
-    by false e s = goes_out jobs N st k E (after (get_or jobs k no_job) (st k) a) (event (asked (asks k (get_or jobs k no_job) (st k))) a) r
+    by : (t : Bool) → inside (after (get_or jobs k no_job) (st k) reply) ≡ t
+        → Stepped t k (get_or jobs k no_job) (st k) (after (get_or jobs k no_job) (st k) reply) (open_of k (get_or jobs k no_job) (st k)
+        ++ event (asked (asks k (get_or jobs k no_job) (st k))) reply ∷ [])
+        → Running jobs N (put st k (after (get_or jobs k no_job) (st k) reply)) k
+        (E ++ event (asked (asks k (get_or jobs k no_job) (st k))) reply ∷ [])
+    by true e s = goes_inside jobs N st k E (after (get_or jobs k no_job) (st k) reply) (event (asked (asks k (get_or jobs k no_job) (st
+        k))) reply)
+        run may valid s.0 s.1
+    by false e s = goes_out jobs N st k E (after (get_or jobs k no_job) (st k) reply) (event (asked (asks k (get_or jobs k no_job) (st k)))
+        reply) run
         may valid more e s
 
 -- if the source in progress is between blocks, all sources are

@@ -148,12 +148,12 @@ current_settled : (jobs : List Job) (g : Fleet) → inside (stage_in g g.current
 current_settled jobs g e = ap (λ (t : Bool). (if t then g else turned jobs g).current) e
 
 -- after an answer that fits, the sources go on so, or all have ended
-pub sure_takes : (jobs : List Job) (N most : ℕ) (f : Fleet) (E : List RunEvent) (a : Answer) → 1 ≤ N
+pub sure_takes : (jobs : List Job) (N most : ℕ) (f : Fleet) (E : List RunEvent) (reply : Answer) → 1 ≤ N
     → ((j : ℕ) → Filled (get_or jobs j no_job)) → Sure jobs N most f E
-    → is_kind (asked (asks f.current (get_or jobs f.current no_job) (stage_in f f.current))) a ≡ true
-    → Sure jobs N most (taken jobs f a) (E ++ made jobs f (stage_in f) a ∷ []) ⊎ Over jobs N most (taken jobs f a)
-    (E ++ made jobs f (stage_in f) a ∷ [])
-sure_takes jobs N most f E a some filled s kind = by (takes jobs N f E a some filled s.going kind)
+    → is_kind (asked (asks f.current (get_or jobs f.current no_job) (stage_in f f.current))) reply ≡ true
+    → Sure jobs N most (taken jobs f reply) (E ++ made jobs f (stage_in f) reply ∷ []) ⊎ Over jobs N most (taken jobs f reply)
+    (E ++ made jobs f (stage_in f) reply ∷ [])
+sure_takes jobs N most f E reply some filled s kind = by (takes jobs N f E reply some filled s.going kind)
   where
     -- Plan: `by` takes what `Going` says of the answer, and adds the other fields of `Sure`: the open children (`opens_by`), the lengths of
     -- groups (`sized_by`), the room (`bound`) and the pipe (`pipe_by`).
@@ -169,71 +169,74 @@ sure_takes jobs N most f E a some filled s kind = by (takes jobs N f E a some fi
     more : left (stage_in f f.current) ≡ true
     more = left_in jobs N f E s.going
 
-    z : Stages jobs N f a (stage_in f)
-    z = stages_of jobs N f a (stage_in f) (subst (λ n. f.current < n) (sym s.going.counts.sizes) in_range) (λ j. refl)
+    z : Stages jobs N f reply (stage_in f)
+    z = stages_of jobs N f reply (stage_in f) (subst (λ n. f.current < n) (sym s.going.counts.sizes) in_range) (λ j. refl)
 
-    at : (j : ℕ) → stage_in (taken jobs f a) j ≡ put (stage_in f) f.current (next_stage jobs f (stage_in f) a) j
-    at j = stage_settled jobs (gone_on jobs f a) j ∙ z.at j
+    at : (j : ℕ) → stage_in (taken jobs f reply) j ≡ put (stage_in f) f.current (next_stage jobs f (stage_in f) reply) j
+    at j = stage_settled jobs (gone_on jobs f reply) j ∙ z.at j
 
-    opens_by : (j : ℕ) (t : Bool) → nat_eq f.current j ≡ t → Opens j (if t then next_stage jobs f (stage_in f) a else stage_in f j)
-        (E ++ made jobs f (stage_in f) a ∷ [])
-    opens_by j true e = subst (λ i. Opens i (next_stage jobs f (stage_in f) a) (E ++ made jobs f (stage_in f) a ∷ [])) (same f.current j e)
-        (opens_after f.current (get_or jobs f.current no_job) (stage_in f f.current) a E more kind (s.opens f.current))
-    opens_by j false e = opens_other f.current j (get_or jobs f.current no_job) (stage_in f f.current) (stage_in f j) a E
+    opens_by : (j : ℕ) (t : Bool) → nat_eq f.current j ≡ t → Opens j (if t then next_stage jobs f (stage_in f) reply else stage_in f j)
+        (E ++ made jobs f (stage_in f) reply ∷ [])
+    opens_by j true e = subst (λ i. Opens i (next_stage jobs f (stage_in f) reply) (E
+        ++ made jobs f (stage_in f) reply ∷ [])) (same f.current j e)
+        (opens_after f.current (get_or jobs f.current no_job) (stage_in f f.current) reply E more kind (s.opens f.current))
+    opens_by j false e = opens_other f.current j (get_or jobs f.current no_job) (stage_in f f.current) (stage_in f j) reply E
         (turn_about f.current j false e) (s.opens j)
 
     sized_by : (j : ℕ) (t : Bool) → nat_eq f.current j ≡ t
-        → Sized (get_or jobs j no_job) (if t then next_stage jobs f (stage_in f) a else stage_in f j)
-    sized_by j true e = subst (λ i. Sized (get_or jobs i no_job) (next_stage jobs f (stage_in f) a)) (same f.current j e)
-        (sized_after f.current (get_or jobs f.current no_job) (stage_in f f.current) a valid more kind (s.sized f.current))
+        → Sized (get_or jobs j no_job) (if t then next_stage jobs f (stage_in f) reply else stage_in f j)
+    sized_by j true e = subst (λ i. Sized (get_or jobs i no_job) (next_stage jobs f (stage_in f) reply)) (same f.current j e)
+        (sized_after f.current (get_or jobs f.current no_job) (stage_in f f.current) reply valid more kind (s.sized f.current))
     sized_by j false e = s.sized j
 
-    bound : length (E ++ made jobs f (stage_in f) a ∷ []) + to_come jobs (stage_in (taken jobs f a)) ≤ most
+    bound : length (E ++ made jobs f (stage_in f) reply ∷ []) + to_come jobs (stage_in (taken jobs f reply)) ≤ most
     bound =
-        let less : to_come jobs (put (stage_in f) f.current (next_stage jobs f (stage_in f) a)) < to_come jobs (stage_in f) =
-        less_to_come jobs (stage_in f) f.current a in_range valid more kind in
-        let is : to_come jobs (stage_in (taken jobs f a)) ≡ to_come jobs (put (stage_in f) f.current (next_stage jobs f (stage_in f) a)) =
+        let less : to_come jobs (put (stage_in f) f.current (next_stage jobs f (stage_in f) reply)) < to_come jobs (stage_in f) =
+        less_to_come jobs (stage_in f) f.current reply in_range valid more kind in
+        let is : to_come jobs (stage_in (taken jobs f reply))
+            ≡ to_come jobs (put (stage_in f) f.current (next_stage jobs f (stage_in f) reply)) =
         ap (λ st. to_come jobs st) (fun_ext at) in
-        let len : length (E ++ made jobs f (stage_in f) a ∷ []) ≡ length E + 1 =
-        length-append {A = RunEvent} E (made jobs f (stage_in f) a ∷ []) in
+        let len : length (E ++ made jobs f (stage_in f) reply ∷ []) ≡ length E + 1 =
+        length-append {A = RunEvent} E (made jobs f (stage_in f) reply ∷ []) in
         let le = s.bound in
         omega (arith, less, is, len, le)
 
-    later : Later (length jobs) 0 0 (E ++ made jobs f (stage_in f) a ∷ [])
-    later = opens_other f.current (length jobs) (get_or jobs f.current no_job) (stage_in f f.current) (Claims 0) a E
+    later : Later (length jobs) 0 0 (E ++ made jobs f (stage_in f) reply ∷ [])
+    later = opens_other f.current (length jobs) (get_or jobs f.current no_job) (stage_in f f.current) (Claims 0) reply E
         (apart_above (length jobs) f.current in_range) s.later
 
-    pipe_is : pipe_pending (E ++ made jobs f (stage_in f) a ∷ []) ≡ piped (next_stage jobs f (stage_in f) a)
-    pipe_is = pipe_kept f.current (get_or jobs f.current no_job) (stage_in f f.current) a E more kind s.pipe
+    pipe_is : pipe_pending (E ++ made jobs f (stage_in f) reply ∷ []) ≡ piped (next_stage jobs f (stage_in f) reply)
+    pipe_is = pipe_kept f.current (get_or jobs f.current no_job) (stage_in f f.current) reply E more kind s.pipe
 
-    out_by : inside (next_stage jobs f (stage_in f) a) ≡ false → (j : ℕ) (t : Bool) → nat_eq f.current j ≡ t
-        → inside (if t then next_stage jobs f (stage_in f) a else stage_in f j) ≡ false
+    out_by : inside (next_stage jobs f (stage_in f) reply) ≡ false → (j : ℕ) (t : Bool) → nat_eq f.current j ≡ t
+        → inside (if t then next_stage jobs f (stage_in f) reply else stage_in f j) ≡ false
     out_by e j true is = e
     out_by e j false is = ap inside (s.going.at j) ∙ s.going.run.others j is
 
-    pipe_by : (t : Bool) → inside (next_stage jobs f (stage_in f) a) ≡ t → piped (next_stage jobs f (stage_in f) a)
-        ≡ piped (stage_in (taken jobs f a) (taken jobs f a).current)
-    pipe_by true e = sym (ap (λ k. piped (stage_in (taken jobs f a) k)) (current_settled jobs (gone_on jobs f a)
-        (ap inside (z.at f.current ∙ put_here (stage_in f) f.current (next_stage jobs f (stage_in f) a)) ∙ e))
-        ∙ ap piped (at f.current ∙ put_here (stage_in f) f.current (next_stage jobs f (stage_in f) a)))
-    pipe_by false e = piped_out (next_stage jobs f (stage_in f) a) e ∙ sym (ap piped (at (taken jobs f a).current)
-        ∙ piped_out (put (stage_in f) f.current (next_stage jobs f (stage_in f) a) (taken jobs f a).current)
-        (out_by e (taken jobs f a).current (nat_eq f.current (taken jobs f a).current) refl))
+    pipe_by : (t : Bool) → inside (next_stage jobs f (stage_in f) reply) ≡ t → piped (next_stage jobs f (stage_in f) reply)
+        ≡ piped (stage_in (taken jobs f reply) (taken jobs f reply).current)
+    pipe_by true e = sym (ap (λ k. piped (stage_in (taken jobs f reply) k)) (current_settled jobs (gone_on jobs f reply)
+        (ap inside (z.at f.current ∙ put_here (stage_in f) f.current (next_stage jobs f (stage_in f) reply)) ∙ e))
+        ∙ ap piped (at f.current ∙ put_here (stage_in f) f.current (next_stage jobs f (stage_in f) reply)))
+    pipe_by false e = piped_out (next_stage jobs f (stage_in f) reply) e ∙ sym (ap piped (at (taken jobs f reply).current)
+        ∙ piped_out (put (stage_in f) f.current (next_stage jobs f (stage_in f) reply) (taken jobs f reply).current)
+        (out_by e (taken jobs f reply).current (nat_eq f.current (taken jobs f reply).current) refl))
 
-    by : Going jobs N (taken jobs f a) (E ++ made jobs f (stage_in f) a ∷ []) ⊎ Landed jobs N (taken jobs f a)
-        (E ++ made jobs f (stage_in f) a ∷ []) → Sure jobs N most (taken jobs f a) (E ++ made jobs f (stage_in f) a ∷ []) ⊎ Over jobs N most
-        (taken jobs f a) (E ++ made jobs f (stage_in f) a ∷ [])
+    by : Going jobs N (taken jobs f reply) (E ++ made jobs f (stage_in f) reply ∷ []) ⊎ Landed jobs N (taken jobs f reply)
+        (E ++ made jobs f (stage_in f) reply ∷ []) → Sure jobs N most (taken jobs f reply) (E
+        ++ made jobs f (stage_in f) reply ∷ []) ⊎ Over jobs N most
+        (taken jobs f reply) (E ++ made jobs f (stage_in f) reply ∷ [])
     by (inl on) = inl (record {
       going = on;
-      opens = λ j. subst (λ t. Opens j t (E ++ made jobs f (stage_in f) a ∷ [])) (sym (at j)) (opens_by j (nat_eq f.current j) refl);
+      opens = λ j. subst (λ t. Opens j t (E ++ made jobs f (stage_in f) reply ∷ [])) (sym (at j)) (opens_by j (nat_eq f.current j) refl);
       sized = λ j. subst (λ t. Sized (get_or jobs j no_job) t) (sym (at j)) (sized_by j (nat_eq f.current j) refl);
-      pipe = pipe_is ∙ pipe_by (inside (next_stage jobs f (stage_in f) a)) refl;
+      pipe = pipe_is ∙ pipe_by (inside (next_stage jobs f (stage_in f) reply)) refl;
       bound = bound;
       later = later;
     })
     by (inr over) = inr (record {
       landed = over;
-      pipe = pipe_is ∙ ap piped (sym (put_here (stage_in f) f.current (next_stage jobs f (stage_in f) a)) ∙ sym (at f.current)
+      pipe = pipe_is ∙ ap piped (sym (put_here (stage_in f) f.current (next_stage jobs f (stage_in f) reply)) ∙ sym (at f.current)
           ∙ over.at f.current ∙ over.all f.current);
       bound = (let le = bound in omega (arith, le));
       later = later;

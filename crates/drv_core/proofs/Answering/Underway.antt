@@ -62,13 +62,13 @@ pub record Landed (jobs : List Job) (N : ℕ) (f : Fleet) (E : List RunEvent) : 
 -- one source's stage is replaced in the list
 
 -- in the list with source k replaced, only k has another stage
-stage_set : (ws : List SourceState) (k j : ℕ) (w : SourceState) (st : ℕ → Stage) → k < length ws
-    → ((i : ℕ) → (get_or ws i idle).stage ≡ st i) → (t : Bool) → nat_eq k j ≡ t → (get_or (slice_set ws k w) j idle).stage
-    ≡ (if t then w.stage else st j)
-stage_set ws k j w st lt at true e = ap (λ x. x.stage) (subst (λ i. get_or (slice_set ws k w) i idle ≡ w) (same k j e)
-    (get_or-set_same ws k w idle lt))
-stage_set ws k j w st lt at false e = ap (λ x. x.stage)
-    (get_or-set_other ws k j w idle (λ is. clash (nat_eq k j) (ap (λ i. nat_eq k i) is ∙ nat_eq_equiv.refl k) e)) ∙ at j
+stage_set : (ws : List SourceState) (k j : ℕ) (new : SourceState) (st : ℕ → Stage) → k < length ws
+    → ((i : ℕ) → (get_or ws i idle).stage ≡ st i) → (is_it : Bool) → nat_eq k j ≡ is_it → (get_or (slice_set ws k new) j idle).stage
+    ≡ (if is_it then new.stage else st j)
+stage_set ws k j new st lt at true e = ap (λ x. x.stage) (subst (λ i. get_or (slice_set ws k new) i idle ≡ new) (same k j e)
+    (get_or-set_same ws k new idle lt))
+stage_set ws k j new st lt at false e = ap (λ x. x.stage)
+    (get_or-set_other ws k j new idle (λ is. clash (nat_eq k j) (ap (λ i. nat_eq k i) is ∙ nat_eq_equiv.refl k) e)) ∙ at j
 
 -- in the list with source k replaced, each has the same room
 room_set : (ws : List SourceState) (k j : ℕ) (w : SourceState) → k < length ws → w.room ≡ (get_or ws k idle).room → (t : Bool)
@@ -135,20 +135,21 @@ pub bases_at : (jobs : List Job) (N : ℕ) (h : Fleet) (cur : ℕ) (st : ℕ →
 bases_at jobs N h cur st E r out at = fun_ext (λ j. base_out (st j) (all_out jobs N st cur E r out j) ∙ sym (at j))
 
 -- between blocks, what is known of the sources is known by the code's stages
-pub keeps_at : (jobs : List Job) (N : ℕ) (h : Fleet) (cur : ℕ) (st : ℕ → Stage) (E : List RunEvent) → (r : Running jobs N st cur E)
-    → inside (st cur) ≡ false → ((j : ℕ) → stage_in h j ≡ st j) → Keeps jobs N (stage_in h) r.blocks
-keeps_at jobs N h cur st E r out at = subst (λ s. Keeps jobs N s r.blocks) (bases_at jobs N h cur st E r out at) r.keep
+pub keeps_at : (jobs : List Job) (N : ℕ) (h : Fleet) (cur : ℕ) (st : ℕ → Stage) (E : List RunEvent) → (run : Running jobs N st cur E)
+    → inside (st cur) ≡ false → ((j : ℕ) → stage_in h j ≡ st j) → Keeps jobs N (stage_in h) run.blocks
+keeps_at jobs N h cur st E run out at = subst (λ s. Keeps jobs N s run.blocks) (bases_at jobs N h cur st E run out at) run.keep
 
 -- between blocks any source that may go on can be the next one
-pub goes_to : (jobs : List Job) (N : ℕ) (h : Fleet) (cur : ℕ) (st : ℕ → Stage) (E : List RunEvent) → (r : Running jobs N st cur E)
-    → inside (st cur) ≡ false → ((j : ℕ) → stage_in h j ≡ st j) → Counts jobs N h r.blocks → (k : ℕ) → Picks jobs N (stage_in h) r.blocks k
-    → Going jobs N (record h { current = k }) E
-goes_to jobs N h cur st E r out at c k p = record {
+pub goes_to : (jobs : List Job) (N : ℕ) (h : Fleet) (cur : ℕ) (st : ℕ → Stage) (E : List RunEvent) → (run : Running jobs N st cur E)
+    → inside (st cur) ≡ false → ((j : ℕ) → stage_in h j ≡ st j) → Counts jobs N h run.blocks → (next : ℕ)
+    → Picks jobs N (stage_in h) run.blocks next
+    → Going jobs N (record h { current = next }) E
+goes_to jobs N h cur st E run out at c next p = record {
   st = st;
   at = at;
-  run = turns jobs N st cur k E r out;
-  may = subst (λ s. MayGo jobs N s r.blocks k) (sym (bases_at jobs N h cur st E r out at)) p.may;
-  more = ap left (sym (at k)) ∙ p.more;
+  run = turns jobs N st cur next E run out;
+  may = subst (λ s. MayGo jobs N s run.blocks next) (sym (bases_at jobs N h cur st E run out at)) p.may;
+  more = ap left (sym (at next)) ∙ p.more;
   counts = record {
     sizes = c.sizes;
     next_within = c.next_within;
@@ -164,25 +165,26 @@ goes_to jobs N h cur st E r out at c k p = record {
 }
 
 -- after a block the source that is picked goes on, or all have ended
-settles : (jobs : List Job) (N : ℕ) (h : Fleet) (cur : ℕ) (st : ℕ → Stage) (E : List RunEvent) → 1 ≤ N → (r : Running jobs N st cur E)
-    → inside (st cur) ≡ false → ((j : ℕ) → stage_in h j ≡ st j) → Counts jobs N h r.blocks
+settles : (jobs : List Job) (N : ℕ) (h : Fleet) (cur : ℕ) (st : ℕ → Stage) (E : List RunEvent) → 1 ≤ N → (run : Running jobs N st cur E)
+    → inside (st cur) ≡ false → ((j : ℕ) → stage_in h j ≡ st j) → Counts jobs N h run.blocks
     → Going jobs N (chosen h) E ⊎ Landed jobs N (chosen h) E
-settles jobs N h cur st E some r out at c = by (find (length jobs) (λ j. left (stage_in h j)))
+settles jobs N h cur st E some run out at c = by (find (length jobs) (λ j. left (stage_in h j)))
   where
     -- Plan: by the first source that has more to do: if there is one, the code picks one that may go on (`picks`); else all have ended.
     ended_at : ((j : ℕ) → j < length jobs → left (stage_in h j) ≡ false) → (j : ℕ) (t : Bool) → nat_lt j (length jobs) ≡ t → st j ≡ Ended
     ended_at none j true lt = is_ended (st j) (ap left (sym (at j)) ∙ none j (is_less j (length jobs) lt))
-    ended_at none j false past = sym (base_out (st j) (all_out jobs N st cur E r out j))
-        ∙ r.keep.beyond j (is_not_less j (length jobs) past)
+    ended_at none j false past = sym (base_out (st j) (all_out jobs N st cur E run out j))
+        ∙ run.keep.beyond j (is_not_less j (length jobs) past)
 
     by : First (length jobs) (λ j. left (stage_in h j)) ⊎ ((j : ℕ) → j < length jobs → left (stage_in h j) ≡ false)
         → Going jobs N (chosen h) E ⊎ Landed jobs N (chosen h) E
-    by (inl k) = inl (goes_to jobs N h cur st E r out at c (picked h) (picks jobs N h r.blocks some (keeps_at jobs N h cur st E r out at) c
+    by (inl k) = inl (goes_to jobs N h cur st E run out at c (picked h) (picks jobs N h run.blocks some (keeps_at jobs N h cur st E run out
+        at) c
         k.at k.below k.passes))
     by (inr none) = inr (record {
       st = st;
       at = at;
-      run = turns jobs N st cur (picked h) E r out;
+      run = turns jobs N st cur (picked h) E run out;
       all = λ j. ended_at none j (nat_lt j (length jobs)) refl;
       unended_is = c.unended_is ∙ count_none (length jobs) (λ j. left (stage_in h j)) none;
     })
@@ -263,52 +265,53 @@ has_new j k b = by (nat_eq k j) refl
     by false e = sym (turn_about k j false e)
 
 -- after an answer that fits, a source goes on, or all have ended
-pub takes : (jobs : List Job) (N : ℕ) (f : Fleet) (E : List RunEvent) (a : Answer) → 1 ≤ N → ((j : ℕ) → Filled (get_or jobs j no_job))
-    → (g : Going jobs N f E) → is_kind (asked (asks f.current (get_or jobs f.current no_job) (stage_in f f.current))) a ≡ true
-    → Going jobs N (taken jobs f a) (E ++ made jobs f (stage_in f) a ∷ []) ⊎ Landed jobs N (taken jobs f a)
-    (E ++ made jobs f (stage_in f) a ∷ [])
-takes jobs N f E a some filled g kind = subst (λ s. Going jobs N (taken jobs f a)
-    (E ++ event (asked (asks f.current (get_or jobs f.current no_job) s)) a ∷ []) ⊎ Landed jobs N (taken jobs f a)
-    (E ++ event (asked (asks f.current (get_or jobs f.current no_job) s)) a ∷ [])) (sym (g.at f.current))
-    (by (inside (next_stage jobs f g.st a)) refl (one_step f.current (get_or jobs f.current no_job) (g.st f.current) a
-    (g.run.valid f.current) g.more fit))
+pub takes : (jobs : List Job) (N : ℕ) (f : Fleet) (E : List RunEvent) (reply : Answer) → 1 ≤ N → ((j : ℕ) → Filled (get_or jobs j no_job))
+    → (going : Going jobs N f E) → is_kind (asked (asks f.current (get_or jobs f.current no_job) (stage_in f f.current))) reply ≡ true
+    → Going jobs N (taken jobs f reply) (E ++ made jobs f (stage_in f) reply ∷ []) ⊎ Landed jobs N (taken jobs f reply)
+    (E ++ made jobs f (stage_in f) reply ∷ [])
+takes jobs N f E reply some filled going kind = subst (λ s. Going jobs N (taken jobs f reply)
+    (E ++ event (asked (asks f.current (get_or jobs f.current no_job) s)) reply ∷ []) ⊎ Landed jobs N (taken jobs f reply)
+    (E ++ event (asked (asks f.current (get_or jobs f.current no_job) s)) reply ∷ [])) (sym (going.at f.current))
+    (by (inside (next_stage jobs f going.st reply)) refl (one_step f.current (get_or jobs f.current no_job) (going.st f.current) reply
+    (going.run.valid f.current) going.more fit))
   where
     -- Plan: by whether a block is open after the answer. If one is, the same source goes on (`into`). Else its block has ended, the code's
     -- counts follow (`opened_is`, `counts_closed`), and it picks a source (`settles`).
-    fit : is_kind (asked (asks f.current (get_or jobs f.current no_job) (g.st f.current))) a ≡ true
-    fit = subst (λ s. is_kind (asked (asks f.current (get_or jobs f.current no_job) s)) a ≡ true) (g.at f.current) kind
+    fit : is_kind (asked (asks f.current (get_or jobs f.current no_job) (going.st f.current))) reply ≡ true
+    fit = subst (λ s. is_kind (asked (asks f.current (get_or jobs f.current no_job) s)) reply ≡ true) (going.at f.current) kind
 
-    valid : Valid (get_or jobs f.current no_job) (next_stage jobs f g.st a)
-    valid = valid_after f.current (get_or jobs f.current no_job) (g.st f.current) a (filled f.current) (g.run.valid f.current) fit
+    valid : Valid (get_or jobs f.current no_job) (next_stage jobs f going.st reply)
+    valid = valid_after f.current (get_or jobs f.current no_job) (going.st f.current) reply (filled f.current) (going.run.valid f.current)
+        fit
 
     in_range : f.current < length jobs
-    in_range = is_less f.current (length jobs) g.may.is_source
+    in_range = is_less f.current (length jobs) going.may.is_source
 
-    z : Stages jobs N f a g.st
-    z = stages_of jobs N f a g.st (subst (λ n. f.current < n) (sym g.counts.sizes) in_range) g.at
+    z : Stages jobs N f reply going.st
+    z = stages_of jobs N f reply going.st (subst (λ n. f.current < n) (sym going.counts.sizes) in_range) going.at
 
-    here : stage_in (gone_on jobs f a) f.current ≡ next_stage jobs f g.st a
-    here = z.at f.current ∙ put_here g.st f.current (next_stage jobs f g.st a)
+    here : stage_in (gone_on jobs f reply) f.current ≡ next_stage jobs f going.st reply
+    here = z.at f.current ∙ put_here going.st f.current (next_stage jobs f going.st reply)
 
     was : left (stage_in f f.current) ≡ true
-    was = ap left (g.at f.current) ∙ g.more
+    was = ap left (going.at f.current) ∙ going.more
 
-    into : inside (next_stage jobs f g.st a) ≡ true
-        → (r : Running jobs N (put g.st f.current (next_stage jobs f g.st a)) f.current (E ++ made jobs f g.st a ∷ []))
-        → Counts jobs N (gone_on jobs f a) r.blocks → Going jobs N (gone_on jobs f a) (E ++ made jobs f g.st a ∷ [])
+    into : inside (next_stage jobs f going.st reply) ≡ true
+        → (r : Running jobs N (put going.st f.current (next_stage jobs f going.st reply)) f.current (E ++ made jobs f going.st reply ∷ []))
+        → Counts jobs N (gone_on jobs f reply) r.blocks → Going jobs N (gone_on jobs f reply) (E ++ made jobs f going.st reply ∷ [])
     into e r c = record {
-      st = put g.st f.current (next_stage jobs f g.st a);
+      st = put going.st f.current (next_stage jobs f going.st reply);
       at = z.at;
       run = r;
-      may = r.may (ap inside (put_here g.st f.current (next_stage jobs f g.st a)) ∙ e);
-      more = ap left (put_here g.st f.current (next_stage jobs f g.st a)) ∙ inside_left (next_stage jobs f g.st a) e;
+      may = r.may (ap inside (put_here going.st f.current (next_stage jobs f going.st reply)) ∙ e);
+      more = ap left (put_here going.st f.current (next_stage jobs f going.st reply)) ∙ inside_left (next_stage jobs f going.st reply) e;
       counts = c;
     }
 
     following : (blocks : List SourceBlock) (b : Block)
-        → Worked jobs N f (gone_on jobs f a) g.run.blocks (g.run.blocks ++ record { source = f.current; block = b } ∷ [])
+        → Worked jobs N f (gone_on jobs f reply) going.run.blocks (going.run.blocks ++ record { source = f.current; block = b } ∷ [])
     following blocks b = record {
-      counts = g.counts;
+      counts = going.counts;
       same_next = refl;
       same_begun = refl;
       same_unended = refl;
@@ -319,39 +322,49 @@ takes jobs N f E a some filled g kind = subst (λ s. Going jobs N (taken jobs f 
       others = λ j e. z.other j (turn_about j f.current false e);
       was_left = was;
       current_in = in_range;
-      current_before = current_before jobs N f E g;
-      has_more = λ j. has_append j g.run.blocks (record { source = f.current; block = b } ∷ []) ∙ ap (λ (t : Bool). has j g.run.blocks || t)
+      current_before = current_before jobs N f E going;
+      has_more = λ j. has_append j going.run.blocks (record { source = f.current; block = b } ∷ [])
+          ∙ ap (λ (t : Bool). has j going.run.blocks || t)
           (has_new j f.current b);
     }
 
-    out : inside (next_stage jobs f g.st a) ≡ false
-        → (r : Running jobs N (put g.st f.current (next_stage jobs f g.st a)) f.current (E ++ made jobs f g.st a ∷ []))
-        → Worked jobs N f (gone_on jobs f a) g.run.blocks r.blocks
-        → Going jobs N (turned jobs (gone_on jobs f a)) (E ++ made jobs f g.st a ∷ []) ⊎ Landed jobs N (turned jobs (gone_on jobs f a))
-        (E ++ made jobs f g.st a ∷ [])
-    out e r w = settles jobs N (closed (opened jobs (gone_on jobs f a))) f.current (put g.st f.current (next_stage jobs f g.st a))
-        (E ++ made jobs f g.st a ∷ []) some r (ap inside (put_here g.st f.current (next_stage jobs f g.st a)) ∙ e)
-        (λ j. stage_closed (opened jobs (gone_on jobs f a)) j ∙ stage_opened jobs (gone_on jobs f a) j ∙ z.at j)
-        (counts_closed jobs N (opened jobs (gone_on jobs f a)) r.blocks (opened_is jobs N f (gone_on jobs f a) g.run.blocks r.blocks w))
+    out : inside (next_stage jobs f going.st reply) ≡ false
+        → (r : Running jobs N (put going.st f.current (next_stage jobs f going.st reply)) f.current (E ++ made jobs f going.st reply ∷ []))
+        → Worked jobs N f (gone_on jobs f reply) going.run.blocks r.blocks
+        → Going jobs N (turned jobs (gone_on jobs f reply)) (E
+        ++ made jobs f going.st reply ∷ []) ⊎ Landed jobs N (turned jobs (gone_on jobs f reply))
+        (E ++ made jobs f going.st reply ∷ [])
+    out e r w = settles jobs N (closed (opened jobs (gone_on jobs f reply))) f.current (put going.st f.current (next_stage jobs f going.st
+        reply))
+        (E ++ made jobs f going.st reply ∷ []) some r (ap inside (put_here going.st f.current (next_stage jobs f going.st reply)) ∙ e)
+        (λ j. stage_closed (opened jobs (gone_on jobs f reply)) j ∙ stage_opened jobs (gone_on jobs f reply) j ∙ z.at j)
+        (counts_closed jobs N (opened jobs (gone_on jobs f reply)) r.blocks (opened_is jobs N f (gone_on jobs f reply) going.run.blocks
+        r.blocks w))
 
-    settled_by : (t : Bool) → inside (next_stage jobs f g.st a) ≡ t
-        → Going jobs N (if t then gone_on jobs f a else turned jobs (gone_on jobs f a)) (E ++ made jobs f g.st a ∷ [])
-        ⊎ Landed jobs N (if t then gone_on jobs f a else turned jobs (gone_on jobs f a)) (E ++ made jobs f g.st a ∷ [])
-        → Going jobs N (taken jobs f a) (E ++ made jobs f g.st a ∷ []) ⊎ Landed jobs N (taken jobs f a) (E ++ made jobs f g.st a ∷ [])
-    settled_by t e = subst (λ (u : Bool). Going jobs N (if u then gone_on jobs f a else turned jobs (gone_on jobs f a))
-        (E ++ made jobs f g.st a ∷ []) ⊎ Landed jobs N (if u then gone_on jobs f a else turned jobs (gone_on jobs f a))
-        (E ++ made jobs f g.st a ∷ [])) (sym (ap inside here ∙ e))
+    settled_by : (t : Bool) → inside (next_stage jobs f going.st reply) ≡ t
+        → Going jobs N (if t then gone_on jobs f reply else turned jobs (gone_on jobs f reply)) (E ++ made jobs f going.st reply ∷ [])
+        ⊎ Landed jobs N (if t then gone_on jobs f reply else turned jobs (gone_on jobs f reply)) (E ++ made jobs f going.st reply ∷ [])
+        → Going jobs N (taken jobs f reply) (E ++ made jobs f going.st reply ∷ []) ⊎ Landed jobs N (taken jobs f reply) (E
+        ++ made jobs f going.st reply ∷ [])
+    settled_by t e = subst (λ (u : Bool). Going jobs N (if u then gone_on jobs f reply else turned jobs (gone_on jobs f reply))
+        (E ++ made jobs f going.st reply ∷ []) ⊎ Landed jobs N (if u then gone_on jobs f reply else turned jobs (gone_on jobs f reply))
+        (E ++ made jobs f going.st reply ∷ [])) (sym (ap inside here ∙ e))
 
-    by : (t : Bool) → inside (next_stage jobs f g.st a) ≡ t → Stepped t f.current (get_or jobs f.current no_job) (g.st f.current)
-        (next_stage jobs f g.st a) (open_of f.current (get_or jobs f.current no_job) (g.st f.current) ++ made jobs f g.st a ∷ [])
-        → Going jobs N (taken jobs f a) (E ++ made jobs f g.st a ∷ []) ⊎ Landed jobs N (taken jobs f a) (E ++ made jobs f g.st a ∷ [])
+    by : (t : Bool) → inside (next_stage jobs f going.st reply) ≡ t
+        → Stepped t f.current (get_or jobs f.current no_job) (going.st f.current)
+        (next_stage jobs f going.st reply) (open_of f.current (get_or jobs f.current no_job) (going.st f.current)
+        ++ made jobs f going.st reply ∷ [])
+        → Going jobs N (taken jobs f reply) (E ++ made jobs f going.st reply ∷ []) ⊎ Landed jobs N (taken jobs f reply) (E
+        ++ made jobs f going.st reply ∷ [])
     by true e s = settled_by true e
-        (inl (into e (goes_inside jobs N g.st f.current E (next_stage jobs f g.st a) (made jobs f g.st a) g.run g.may valid s.0 s.1)
-        (counts_inside jobs N f a g.st g.run.blocks z (current_before jobs N f E g) was
-        (inside_left (next_stage jobs f g.st a) e) g.counts)))
-    by false e s = settled_by false e (out e (goes_out jobs N g.st f.current E (next_stage jobs f g.st a) (made jobs f g.st a) g.run g.may
-        valid g.more e s) (following g.run.blocks (open_of f.current (get_or jobs f.current no_job) (g.st f.current)
-        ++ made jobs f g.st a ∷ [])))
+        (inl (into e (goes_inside jobs N going.st f.current E (next_stage jobs f going.st reply) (made jobs f going.st reply) going.run
+        going.may valid s.0 s.1)
+        (counts_inside jobs N f reply going.st going.run.blocks z (current_before jobs N f E going) was
+        (inside_left (next_stage jobs f going.st reply) e) going.counts)))
+    by false e s = settled_by false e (out e (goes_out jobs N going.st f.current E (next_stage jobs f going.st reply) (made jobs f going.st
+        reply) going.run going.may
+        valid going.more e s) (following going.run.blocks (open_of f.current (get_or jobs f.current no_job) (going.st f.current)
+        ++ made jobs f going.st reply ∷ [])))
 
 -- at the beginning
 

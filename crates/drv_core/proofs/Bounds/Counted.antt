@@ -43,11 +43,11 @@ tally_more k E s a =
     omega (arith, both, one)
 
 -- an event that claims nothing leaves the counts right
-quiet : (n : ℕ) (x : Leftovers) (E : List RunEvent) (s : Step) (a : Answer) → Counted n x E → ((k : ℕ) → claims_of k s a ≡ 0)
-    → Counted n x (E ++ event s a ∷ [])
-quiet n x E s a c none = record {
+quiet : (n : ℕ) (left : Leftovers) (E : List RunEvent) (s : Step) (reply : Answer) → Counted n left E → ((k : ℕ) → claims_of k s reply ≡ 0)
+    → Counted n left (E ++ event s reply ∷ [])
+quiet n left E s reply c none = record {
   sizes = c.sizes;
-  counts = λ k le. let is = c.counts k le in let more = tally_more k E s a in let no = none k in omega (arith, is, more, no);
+  counts = λ k le. let is = c.counts k le in let more = tally_more k E s reply in let no = none k in omega (arith, is, more, no);
 }
 
 -- 1 if the test passes, else 0
@@ -60,11 +60,11 @@ if_none true = refl
 if_none false = refl
 
 -- one more claim is counted for its job
-claimed_one : (n j i : ℕ) (x : Leftovers) (E : List RunEvent) → Counted n x E
-    → Counted n (record x { claimed = slice_set x.claimed j (get_or x.claimed j 0 + 1) })
+claimed_one : (n j i : ℕ) (left : Leftovers) (E : List RunEvent) → Counted n left E
+    → Counted n (record left { claimed = slice_set left.claimed j (get_or left.claimed j 0 + 1) })
     (E ++ event (step.Claim (place.Temp j i)) (answer.Claim claim.Claimed) ∷ [])
-claimed_one n j i x E c = record {
-  sizes = length-set x.claimed j (get_or x.claimed j 0 + 1) ∙ c.sizes;
+claimed_one n j i left E c = record {
+  sizes = length-set left.claimed j (get_or left.claimed j 0 + 1) ∙ c.sizes;
   counts = λ k le. by k le (nat_eq j k) refl;
 }
   where
@@ -92,27 +92,27 @@ claimed_one n j i x E c = record {
         omega (arith, more, none, is, set)
 
 -- the answer to a claim is counted
-claim_counted : (n : ℕ) (x : Leftovers) (E : List RunEvent) (p : Place) (c : ClaimAnswer) → Counted n x E
-    → Counted n (noting_claim x p (answer.Claim c)) (E ++ event (step.Claim p) (answer.Claim c) ∷ [])
-claim_counted n x E (place.Command k g i) c h = quiet n x E (step.Claim (place.Command k g i)) (answer.Claim c) h (λ j. refl)
-claim_counted n x E (place.Temp k i) claim.Claimed h = claimed_one n k i x E h
-claim_counted n x E (place.Temp k i) claim.Taken h = quiet n x E (step.Claim (place.Temp k i)) (answer.Claim claim.Taken) h
+claim_counted : (n : ℕ) (left : Leftovers) (E : List RunEvent) (p : Place) (reply : ClaimAnswer) → Counted n left E
+    → Counted n (noting_claim left p (answer.Claim reply)) (E ++ event (step.Claim p) (answer.Claim reply) ∷ [])
+claim_counted n left E (place.Command k g i) reply h = quiet n left E (step.Claim (place.Command k g i)) (answer.Claim reply) h (λ j. refl)
+claim_counted n left E (place.Temp k i) claim.Claimed h = claimed_one n k i left E h
+claim_counted n left E (place.Temp k i) claim.Taken h = quiet n left E (step.Claim (place.Temp k i)) (answer.Claim claim.Taken) h
     (λ j. if_none (nat_eq k j))
-claim_counted n x E (place.Temp k i) claim.Failed h = quiet n x E (step.Claim (place.Temp k i)) (answer.Claim claim.Failed) h
+claim_counted n left E (place.Temp k i) claim.Failed h = quiet n left E (step.Claim (place.Temp k i)) (answer.Claim claim.Failed) h
     (λ j. if_none (nat_eq k j))
-claim_counted n x E (place.Marked k i) c h = quiet n x E (step.Claim (place.Marked k i)) (answer.Claim c) h (λ j. refl)
-claim_counted n x E (place.OnFailure k i) c h = quiet n x E (step.Claim (place.OnFailure k i)) (answer.Claim c) h (λ j. refl)
+claim_counted n left E (place.Marked k i) reply h = quiet n left E (step.Claim (place.Marked k i)) (answer.Claim reply) h (λ j. refl)
+claim_counted n left E (place.OnFailure k i) reply h = quiet n left E (step.Claim (place.OnFailure k i)) (answer.Claim reply) h (λ j. refl)
 
 -- the code's counts are right after it notes an answer of the step's kind
-pub noted_counted : (n : ℕ) (x : Leftovers) (E : List RunEvent) (s : Step) (a : Answer) → is_kind s a ≡ true → Counted n x E
-    → Counted n (noting x s a) (E ++ event s a ∷ [])
-noted_counted n x E (step.Claim p) (answer.Claim c) kind h = claim_counted n x E p c h
-noted_counted n x E (step.Claim p) a kind h = absurd cc
-noted_counted n x E (step.Start p from_pipe to_pipe) a kind h = quiet n x E (step.Start p from_pipe to_pipe) a h (λ j. refl)
-noted_counted n x E step.ClosePipe a kind h = quiet n x E step.ClosePipe a h (λ j. refl)
-noted_counted n x E (step.Wait p id) a kind h = quiet n x E (step.Wait p id) a h (λ j. refl)
-noted_counted n x E (step.Remove p) a kind h = quiet n x E (step.Remove p) a h (λ j. refl)
-noted_counted n x E (step.Report m) a kind h = quiet n x E (step.Report m) a h (λ j. refl)
+pub noted_counted : (n : ℕ) (left : Leftovers) (E : List RunEvent) (s : Step) (reply : Answer) → is_kind s reply ≡ true → Counted n left E
+    → Counted n (noting left s reply) (E ++ event s reply ∷ [])
+noted_counted n left E (step.Claim p) (answer.Claim c) kind h = claim_counted n left E p c h
+noted_counted n left E (step.Claim p) reply kind h = absurd cc
+noted_counted n left E (step.Start p from_pipe to_pipe) reply kind h = quiet n left E (step.Start p from_pipe to_pipe) reply h (λ j. refl)
+noted_counted n left E step.ClosePipe reply kind h = quiet n left E step.ClosePipe reply h (λ j. refl)
+noted_counted n left E (step.Wait p id) reply kind h = quiet n left E (step.Wait p id) reply h (λ j. refl)
+noted_counted n left E (step.Remove p) reply kind h = quiet n left E (step.Remove p) reply h (λ j. refl)
+noted_counted n left E (step.Report m) reply kind h = quiet n left E (step.Report m) reply h (λ j. refl)
 
 -- a job's next step claims no temporary of another job
 
@@ -139,9 +139,9 @@ asked_of_other k n job (RemovalReport i) a e = refl
 asked_of_other k n job Ended a e = refl
 
 -- the next step of another job claims nothing of this one
-pub claims_of_other : (k n : ℕ) (job : Job) (t : Stage) (s : Step) (a : Answer) → nat_eq k n ≡ false → asks k job t ≡ Some s
-    → claims_of n s a ≡ 0
-claims_of_other k n job t s a e is = subst (λ u. claims_of n u a ≡ 0) (ap asked is) (asked_of_other k n job t a e)
+pub claims_of_other : (k n : ℕ) (job : Job) (stage : Stage) (s : Step) (reply : Answer) → nat_eq k n ≡ false → asks k job stage ≡ Some s
+    → claims_of n s reply ≡ 0
+claims_of_other k n job stage s reply e is = subst (λ u. claims_of n u reply ≡ 0) (ap asked is) (asked_of_other k n job stage reply e)
 
 -- an event claims at most one temporary
 

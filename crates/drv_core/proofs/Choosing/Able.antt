@@ -280,12 +280,14 @@ widen : (n : ℕ) (p : ℕ → Bool) (x : ℕ) → Member n p x → Member (suc 
 widen n p x m = record { below = (let b = m.below in omega (arith, b)); passes = m.passes }
 
 -- a list with n at its end has such numbers, if n passes
-last_member : (n : ℕ) (p : ℕ → Bool) (d : ℕ) (l : List ℕ) (j : ℕ) → p n ≡ true → ((m : ℕ) → m < length l → Member n p (get_or l m d))
-    → j < length (l ++ n ∷ []) → Member (suc n) p (get_or (l ++ n ∷ []) j d)
-last_member n p d [] zero e h below = record { below = omega arith; passes = e }
-last_member n p d [] (suc j) e h below = absurd (omega arith)
-last_member n p d (x ∷ l) zero e h below = widen n p x (h 0 (omega arith))
-last_member n p d (x ∷ l) (suc j) e h below = last_member n p d l j e (λ m less. h (suc m) (omega (arith, less))) (omega (arith, below))
+last_member : (n : ℕ) (passes : ℕ → Bool) (d : ℕ) (found : List ℕ) (j : ℕ) → passes n ≡ true → ((m : ℕ) → m < length found
+    → Member n passes (get_or found m d))
+    → j < length (found ++ n ∷ []) → Member (suc n) passes (get_or (found ++ n ∷ []) j d)
+last_member n passes d [] zero e h below = record { below = omega arith; passes = e }
+last_member n passes d [] (suc j) e h below = absurd (omega arith)
+last_member n passes d (x ∷ found) zero e h below = widen n passes x (h 0 (omega arith))
+last_member n passes d (x ∷ found) (suc j) e h below = last_member n passes d found j e (λ m less. h (suc m) (omega (arith, less))) (omega
+    (arith, below))
 
 -- each item of `listed` is a number below n that passes
 member : (n : ℕ) (p : ℕ → Bool) (d i : ℕ) → i < length (listed n p) → Member n p (get_or (listed n p) i d)

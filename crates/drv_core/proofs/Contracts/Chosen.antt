@@ -118,16 +118,16 @@ wider : (n : ℕ) (p : ℕ → Bool) (k x : ℕ) → Kth n p k x → Kth (suc n)
 wider n p k x m = record { below = (let b = m.below in omega (arith, b)); passes = m.passes; number = m.number }
 
 -- a list of numbers that pass, with n at its end, has each at its index
-kth_last : (n : ℕ) (p : ℕ → Bool) (d : ℕ) (l : List ℕ) (i j : ℕ) → p n ≡ true → count n p ≡ i + length l
-    → ((m : ℕ) → m < length l → Kth n p (i + m) (get_or l m d)) → j < length (l ++ n ∷ [])
-    → Kth (suc n) p (i + j) (get_or (l ++ n ∷ []) j d)
-kth_last n p d [] i zero e many h lt = record { below = omega arith; passes = e; number = many }
-kth_last n p d [] i (suc j) e many h lt = absurd (omega (arith, lt))
-kth_last n p d (x ∷ l) i zero e many h lt = wider n p (i + 0) x (h 0 (omega arith))
-kth_last n p d (x ∷ l) i (suc j) e many h lt = subst (λ m. Kth (suc n) p m (get_or (l ++ n ∷ []) j d))
+kth_last : (n : ℕ) (passes : ℕ → Bool) (fallback : ℕ) (found : List ℕ) (i j : ℕ) → passes n ≡ true → count n passes ≡ i + length found
+    → ((m : ℕ) → m < length found → Kth n passes (i + m) (get_or found m fallback)) → j < length (found ++ n ∷ [])
+    → Kth (suc n) passes (i + j) (get_or (found ++ n ∷ []) j fallback)
+kth_last n passes fallback [] i zero e many h lt = record { below = omega arith; passes = e; number = many }
+kth_last n passes fallback [] i (suc j) e many h lt = absurd (omega (arith, lt))
+kth_last n passes fallback (x ∷ found) i zero e many h lt = wider n passes (i + 0) x (h 0 (omega arith))
+kth_last n passes fallback (x ∷ found) i (suc j) e many h lt = subst (λ m. Kth (suc n) passes m (get_or (found ++ n ∷ []) j fallback))
     (let z : suc i + j ≡ i + suc j = omega arith in z)
-    (kth_last n p d l (suc i) j e (omega (arith, many))
-    (λ m below. subst (λ q. Kth n p q (get_or l m d)) (let z : i + suc m ≡ suc i + m = omega arith in z)
+    (kth_last n passes fallback found (suc i) j e (omega (arith, many))
+    (λ m below. subst (λ q. Kth n passes q (get_or found m fallback)) (let z : i + suc m ≡ suc i + m = omega arith in z)
     (h (suc m) (omega (arith, below)))) (omega (arith, lt)))
 
 -- the k-th item of `listed` is the k-th number that passes
@@ -253,9 +253,9 @@ choice_below plan N p i k h = by (where_is plan N p k)
     by (inr c) = subst (λ n. i < n) (sym ((choices_are plan N p k).elsewhere c.none)) (h.elsewhere c.none)
 
 -- a source that may go on has more to do
-test_left : (plan : Plan) (N : ℕ) (f : Fleet) (E : List RunEvent) (g : Going plan.jobs N f E) (x : ℕ)
-    → test plan.jobs N f g.run.blocks x ≡ true → left (stage_in f x) ≡ true
-test_left plan N f E g x e = by (left (stage_in f x)) refl
+test_left : (plan : Plan) (N : ℕ) (f : Fleet) (E : List RunEvent) (going : Going plan.jobs N f E) (x : ℕ)
+    → test plan.jobs N f going.run.blocks x ≡ true → left (stage_in f x) ≡ true
+test_left plan N f E going x e = by (left (stage_in f x)) refl
   where
     -- Plan: by whether the source has more to do, which the test demands first.
     none : (t u : Bool) → t ≡ false → (t && u) ≡ true → ⊥
@@ -264,9 +264,9 @@ test_left plan N f E g x e = by (left (stage_in f x)) refl
 
     by : (t : Bool) → left (stage_in f x) ≡ t → t ≡ true
     by true h = refl
-    by false h = absurd (none (left (stage_in f x)) (nat_eq (count x (λ j. not (has j g.run.blocks) && left (stage_in f j))) 0
-        && (nat_lt (count (length plan.jobs) (λ j. (has j g.run.blocks || nat_eq j x) && left (stage_in f j))) (N + 1)
-        && (not (nat_lt 0 (pending (stage_in f x))) || nat_eq (count (length plan.jobs) (λ j. in_flight (of j g.run.blocks)))
+    by false h = absurd (none (left (stage_in f x)) (nat_eq (count x (λ j. not (has j going.run.blocks) && left (stage_in f j))) 0
+        && (nat_lt (count (length plan.jobs) (λ j. (has j going.run.blocks || nat_eq j x) && left (stage_in f j))) (N + 1)
+        && (not (nat_lt 0 (pending (stage_in f x))) || nat_eq (count (length plan.jobs) (λ j. in_flight (of j going.run.blocks)))
         (min N (count (length plan.jobs) (λ j. left (stage_in f j))))))) h e)
 
 -- and the next step belongs to the chosen source

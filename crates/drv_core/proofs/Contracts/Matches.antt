@@ -445,35 +445,37 @@ room_after None w a = refl
 room_after (Some job) w a = refl
 
 -- after an answer that fits, both are at the same place again
-pub step_matches : (plan : Plan) (N room : ℕ) (p : RunState) (c : Course) (s : Step) (a : Answer) → Holds plan N c → Matches plan room p c
-    → asked_by plan c ≡ Some s → is_kind s a ≡ true → Matches plan room (moved plan p s a) (stepped plan c s a)
-step_matches plan N room p c s a h m is kind = subst (λ q. Matches plan room (moved_in q plan (kept p s a) a) (stepped plan c s a))
+pub step_matches : (plan : Plan) (N room : ℕ) (p : RunState) (c : Course) (s : Step) (reply : Answer) → Holds plan N c
+    → Matches plan room p c
+    → asked_by plan c ≡ Some s → is_kind s reply ≡ true → Matches plan room (moved plan p s reply) (stepped plan c s reply)
+step_matches plan N room p c s reply h m is kind =
+    subst (λ q. Matches plan room (moved_in q plan (kept p s reply) reply) (stepped plan c s reply))
     (sym m.phase) (by c.phase m.phase h m.here is)
   where
     -- Plan: by the phase: the answer changes the sources, the link, or the file to be removed, on both sides alike; `unclaimed` and
     -- `in_sources` say that before the link no claim of it is counted.
-    l : Alike plan room (kept p s a) (record c { events = c.events ++ event s a ∷ [] })
-    l = kept_alike plan room p c s a kind m.alike
+    l : Alike plan room (kept p s reply) (record c { events = c.events ++ event s reply ∷ [] })
+    l = kept_alike plan room p c s reply kind m.alike
 
-    z : Noted p.leftovers (noting p.leftovers s a)
-    z = noted p.leftovers s a
+    z : Noted p.leftovers (noting p.leftovers s reply)
+    z = noted p.leftovers s reply
 
     unclaimed : (k : ℕ) (job : Job) (t : Stage) → k < length plan.jobs → asks k job t ≡ Some s → tally (length plan.jobs) c.events ≡ 0
-        → tally (length plan.jobs) (c.events ++ event s a ∷ []) ≡ 0
+        → tally (length plan.jobs) (c.events ++ event s reply ∷ []) ≡ 0
     unclaimed k job t lt e none =
-        let more = tally_more (length plan.jobs) c.events s a in
-        let no = claims_of_other k (length plan.jobs) job t s a (apart k (length plan.jobs) lt) e in
+        let more = tally_more (length plan.jobs) c.events s reply in
+        let no = claims_of_other k (length plan.jobs) job t s reply (apart k (length plan.jobs) lt) e in
         omega (arith, more, no, none)
 
-    in_sources : InSources plan p c → tally (length plan.jobs) (c.events ++ event s a ∷ []) ≡ 0
-        → InSources plan (record (kept p s a) { fleet = taken plan.jobs p.fleet a })
-        (record c { events = c.events ++ event s a ∷ []; fleet = taken plan.jobs c.fleet a })
+    in_sources : InSources plan p c → tally (length plan.jobs) (c.events ++ event s reply ∷ []) ≡ 0
+        → InSources plan (record (kept p s reply) { fleet = taken plan.jobs p.fleet reply })
+        (record c { events = c.events ++ event s reply ∷ []; fleet = taken plan.jobs c.fleet reply })
     in_sources here none = record { link = here.link; linked = z.linked ∙ here.linked; gone = z.gone ∙ here.gone; unclaimed = none }
 
-    removal_by : (t : Bool) → InEnd (noting p.leftovers s a) c.due
-        → Matches plan room (if t then record (kept p s a) { phase = Report } else removing_next (kept p s a))
-        (if t then record c { events = c.events ++ event s a ∷ []; phase = Report }
-        else removing (record c { events = c.events ++ event s a ∷ [] }) (drop 1 c.due))
+    removal_by : (t : Bool) → InEnd (noting p.leftovers s reply) c.due
+        → Matches plan room (if t then record (kept p s reply) { phase = Report } else removing_next (kept p s reply))
+        (if t then record c { events = c.events ++ event s reply ∷ []; phase = Report }
+        else removing (record c { events = c.events ++ event s reply ∷ [] }) (drop 1 c.due))
     removal_by true here = record {
       phase = refl;
       alike = record {
@@ -487,10 +489,10 @@ step_matches plan N room p c s a h m is kind = subst (λ q. Matches plan room (m
       };
       here = here;
     }
-    removal_by false here = next_matches plan room (kept p s a) (record c { events = c.events ++ event s a ∷ [] }) l here
+    removal_by false here = next_matches plan room (kept p s reply) (record c { events = c.events ++ event s reply ∷ [] }) l here
 
-    link_alike : Alike plan room (record (kept p s a) { link = link_after plan.link p.link a })
-        (record c { events = c.events ++ event s a ∷ []; link = after (link_of plan.link) c.link a })
+    link_alike : Alike plan room (record (kept p s reply) { link = link_after plan.link p.link reply })
+        (record c { events = c.events ++ event s reply ∷ []; link = after (link_of plan.link) c.link reply })
     link_alike = record {
       fleet = l.fleet;
       events = l.events;
@@ -502,11 +504,12 @@ step_matches plan N room p c s a h m is kind = subst (λ q. Matches plan room (m
     }
 
     by : (q : Phase) → p.phase ≡ q → HoldsAt plan N q c → InPhase q plan p c → asked_at plan q c ≡ Some s
-        → Matches plan room (moved_in q plan (kept p s a) a) (stepped_at plan q (record c { events = c.events ++ event s a ∷ [] }) a)
-    by Sources phase held here e = flown_matches plan room (record (kept p s a) { fleet = taken plan.jobs p.fleet a })
-        (record c { events = c.events ++ event s a ∷ []; fleet = taken plan.jobs c.fleet a }) phase
+        → Matches plan room (moved_in q plan (kept p s reply) reply) (stepped_at plan q (record c { events = c.events
+        ++ event s reply ∷ [] }) reply)
+    by Sources phase held here e = flown_matches plan room (record (kept p s reply) { fleet = taken plan.jobs p.fleet reply })
+        (record c { events = c.events ++ event s reply ∷ []; fleet = taken plan.jobs c.fleet reply }) phase
         (record {
-          fleet = ap (λ f. taken plan.jobs f a) m.alike.fleet;
+          fleet = ap (λ f. taken plan.jobs f reply) m.alike.fleet;
           events = l.events;
           code = l.code;
           room_is = l.room_is;
@@ -516,13 +519,13 @@ step_matches plan N room p c s a h m is kind = subst (λ q. Matches plan room (m
         })
         (in_sources here (unclaimed c.fleet.current (get_or plan.jobs c.fleet.current no_job) (stage_in c.fleet c.fleet.current)
         (is_less c.fleet.current (length plan.jobs) held.going.may.is_source) e here.unclaimed))
-    by Link phase held here e = linked_matches plan room (record (kept p s a) { link = link_after plan.link p.link a })
-        (record c { events = c.events ++ event s a ∷ []; link = after (link_of plan.link) c.link a }) link_alike
-        (ap (λ o. (link_after o p.link a).stage) held.is ∙ ap (λ t. after held.job t a) here.stage
-        ∙ sym (ap (λ o. after (link_of o) c.link a) held.is))
-        (room_after plan.link p.link a ∙ here.room) (z.linked ∙ here.linked) (z.gone ∙ here.gone)
-    by Removals phase held here e = removal_by (removal_failed (remove_of a))
-        (subst (λ x. InEnd x c.due) (sym (removes_quiet c.due s a p.leftovers e)) here)
-    by Report phase held here e = next_matches plan room (kept p s a) (record c { events = c.events ++ event s a ∷ [] }) l
-        (subst (λ x. InEnd x c.due) (sym (reports_quiet c.due s a p.leftovers e)) here)
+    by Link phase held here e = linked_matches plan room (record (kept p s reply) { link = link_after plan.link p.link reply })
+        (record c { events = c.events ++ event s reply ∷ []; link = after (link_of plan.link) c.link reply }) link_alike
+        (ap (λ o. (link_after o p.link reply).stage) held.is ∙ ap (λ t. after held.job t reply) here.stage
+        ∙ sym (ap (λ o. after (link_of o) c.link reply) held.is))
+        (room_after plan.link p.link reply ∙ here.room) (z.linked ∙ here.linked) (z.gone ∙ here.gone)
+    by Removals phase held here e = removal_by (removal_failed (remove_of reply))
+        (subst (λ x. InEnd x c.due) (sym (removes_quiet c.due s reply p.leftovers e)) here)
+    by Report phase held here e = next_matches plan room (kept p s reply) (record c { events = c.events ++ event s reply ∷ [] }) l
+        (subst (λ x. InEnd x c.due) (sym (reports_quiet c.due s reply p.leftovers e)) here)
     by Done phase held here e = absurd cc

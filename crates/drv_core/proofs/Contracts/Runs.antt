@@ -67,10 +67,10 @@ step_of None s = s
 step_of (Some t) s = t
 
 -- a run has one next step
-pub one_step : (plan : Plan) (w v : CodeRun) (s : Step) (a : Answer) → next_of plan (run_state_of w) ≡ Some s
-    → run_state_of v ≡ moved plan (run_state_of w) s a → (t : Step) → next_of plan (run_state_of w) ≡ Some t
-    → run_state_of v ≡ moved plan (run_state_of w) t a
-one_step plan w v s a is e t at = e ∙ ap (λ x. moved plan (run_state_of w) x a) (ap (λ o. step_of o s) (sym is ∙ at))
+pub one_step : (plan : Plan) (old new : CodeRun) (s : Step) (reply : Answer) → next_of plan (run_state_of old) ≡ Some s
+    → run_state_of new ≡ moved plan (run_state_of old) s reply → (t : Step) → next_of plan (run_state_of old) ≡ Some t
+    → run_state_of new ≡ moved plan (run_state_of old) t reply
+one_step plan old new s reply is e t at = e ∙ ap (λ x. moved plan (run_state_of old) x reply) (ap (λ o. step_of o s) (sym is ∙ at))
 
 -- without a next step nothing is claimed of an answer
 pub no_step : (plan : Plan) (w v : CodeRun) (a : Answer) → next_of plan (run_state_of w) ≡ None → (t : Step)
@@ -155,20 +155,23 @@ kind_of plan pass_codes w r a e f s is = fits_kind w.events.items s a
     (subst (λ x. IfMake x.action (λ step. fits x.events step a ≡ true)) (sym e) f))
 
 -- the clause of `answer`: the run has the event of the answer at its end
-pub answered : (plan : Plan) (pass_codes : FailureStatus) (w v : CodeRun) (r : Run) (a : Answer) → run_of plan pass_codes w ≡ r
-    → ((s : Step) → next_of plan (run_state_of w) ≡ Some s → run_state_of v ≡ moved plan (run_state_of w) s a)
-    → IfMake r.action (λ step. v.events.items ≡ r.events ++ event step a ∷ [])
-answered plan pass_codes w v r a e moves = subst (λ x. IfMake x.action (λ step. v.events.items ≡ x.events ++ event step a ∷ [])) e
-    (by (next_of plan (run_state_of w)) refl)
+pub answered : (plan : Plan) (pass_codes : FailureStatus) (old new : CodeRun) (run : Run) (reply : Answer) → run_of plan pass_codes old
+    ≡ run
+    → ((s : Step) → next_of plan (run_state_of old) ≡ Some s → run_state_of new ≡ moved plan (run_state_of old) s reply)
+    → IfMake run.action (λ step. new.events.items ≡ run.events ++ event step reply ∷ [])
+answered plan pass_codes old new run reply e moves =
+    subst (λ x. IfMake x.action (λ step. new.events.items ≡ x.events ++ event step reply ∷ [])) e
+    (by (next_of plan (run_state_of old)) refl)
   where
     -- Plan: by whether there is a next step; without one there is no answer.
-    by : (o : Option Step) → next_of plan (run_state_of w) ≡ o
-        → IfMake (action_of (next_of plan (run_state_of w)) (status_from pass_codes w.code)) (λ step. v.events.items ≡ w.events.items
-        ++ event step a ∷ [])
-    by None is = subst (λ o. IfMake (action_of o (status_from pass_codes w.code)) (λ step. v.events.items ≡ w.events.items
-        ++ event step a ∷ [])) (sym is) tt
-    by (Some s) is = subst (λ o. IfMake (action_of o (status_from pass_codes w.code)) (λ step. v.events.items ≡ w.events.items
-        ++ event step a ∷ [])) (sym is) (ap (λ p. p.events) (moves s is) ∙ moved_events plan (run_state_of w) s a)
+    by : (o : Option Step) → next_of plan (run_state_of old) ≡ o
+        → IfMake (action_of (next_of plan (run_state_of old)) (status_from pass_codes old.code)) (λ step. new.events.items
+        ≡ old.events.items
+        ++ event step reply ∷ [])
+    by None is = subst (λ o. IfMake (action_of o (status_from pass_codes old.code)) (λ step. new.events.items ≡ old.events.items
+        ++ event step reply ∷ [])) (sym is) tt
+    by (Some s) is = subst (λ o. IfMake (action_of o (status_from pass_codes old.code)) (λ step. new.events.items ≡ old.events.items
+        ++ event step reply ∷ [])) (sym is) (ap (λ p. p.events) (moves s is) ∙ moved_events plan (run_state_of old) s reply)
 
 -- without a choice
 
@@ -192,18 +195,20 @@ begun_first plan pass_codes w N k e = works_first plan pass_codes w k
     (subst (λ p. WorksFirst plan p) (sym e) (fresh_first plan N (vec_capacity w.events)))
 
 -- after an answer, without a choice, the next step is of the first source that may go on
-pub answered_first : (plan : Plan) (pass_codes : FailureStatus) (w v : CodeRun) (r : Run) (a : Answer) → run_of plan pass_codes w ≡ r
-    → IfDone r.action (λ status. ⊥) → ((s : Step) → next_of plan (run_state_of w) ≡ Some s
-    → run_state_of v ≡ moved plan (run_state_of w) s a)
-    → Stands plan v → IsOfFirst plan v.fleet.window v.events.items (step_in (run_of plan pass_codes v).action)
-answered_first plan pass_codes w v r a e more moves k = works_first plan pass_codes v k (by (next_of plan (run_state_of w)) refl)
+pub answered_first : (plan : Plan) (pass_codes : FailureStatus) (old new : CodeRun) (run : Run) (reply : Answer)
+    → run_of plan pass_codes old ≡ run
+    → IfDone run.action (λ status. ⊥) → ((s : Step) → next_of plan (run_state_of old) ≡ Some s
+    → run_state_of new ≡ moved plan (run_state_of old) s reply)
+    → Stands plan new → IsOfFirst plan new.fleet.window new.events.items (step_in (run_of plan pass_codes new).action)
+answered_first plan pass_codes old new run reply e more moves k =
+    works_first plan pass_codes new k (by (next_of plan (run_state_of old)) refl)
   where
-    over : IfDone (run_of plan pass_codes w).action (λ status. ⊥)
+    over : IfDone (run_of plan pass_codes old).action (λ status. ⊥)
     over = subst (λ x. IfDone x.action (λ status. ⊥)) (sym e) more
 
-    by : (o : Option Step) → next_of plan (run_state_of w) ≡ o → WorksFirst plan (run_state_of v)
-    by None is = absurd (subst (λ o. IfDone (action_of o (status_from pass_codes w.code)) (λ status. ⊥)) is over)
-    by (Some s) is = subst (λ p. WorksFirst plan p) (sym (moves s is)) (moved_first plan (run_state_of w) s a)
+    by : (o : Option Step) → next_of plan (run_state_of old) ≡ o → WorksFirst plan (run_state_of new)
+    by None is = absurd (subst (λ o. IfDone (action_of o (status_from pass_codes old.code)) (λ status. ⊥)) is over)
+    by (Some s) is = subst (λ p. WorksFirst plan p) (sym (moves s is)) (moved_first plan (run_state_of old) s reply)
 
 -- the result of `status`
 
@@ -253,15 +258,16 @@ turned_window plan w v i k h e = (choice_stands plan (run_state_of w) (run_state
     (choice_below plan w.fleet.window (run_state_of w) i k h) e).1
 
 -- between blocks the next step is of the chosen source
-pub turned_next : (plan : Plan) (pass_codes : FailureStatus) (w v : CodeRun) (r : Run) (i : ℕ) → Stands plan w
-    → run_of plan pass_codes w ≡ r → IsChoice r.plan r.window r.events i → run_state_of v ≡ choosing plan (run_state_of w) i
-    → (b : BetweenBlocks r.plan r.window r.events) → IsNextOf r.plan r.window r.events b i (step_in (run_of plan pass_codes v).action)
-turned_next plan pass_codes w v r i k e h is = subst (λ x. (b : BetweenBlocks x.plan x.window x.events)
-    → IsNextOf x.plan x.window x.events b i (step_in (run_of plan pass_codes v).action)) e
-    (λ b. subst (λ o. IsNextOf plan w.fleet.window w.events.items b i o)
-    (sym (step_back (next_of plan (run_state_of v)) (status_from pass_codes v.code) ∙ ap (λ p. next_of plan p) is))
-    (chosen_next plan w.fleet.window (run_state_of w) i k (choice_below plan w.fleet.window (run_state_of w) i k
-    (choice_of plan pass_codes w r i e h)) b))
+pub turned_next : (plan : Plan) (pass_codes : FailureStatus) (old new : CodeRun) (run : Run) (i : ℕ) → Stands plan old
+    → run_of plan pass_codes old ≡ run → IsChoice run.plan run.window run.events i → run_state_of new ≡ choosing plan (run_state_of old) i
+    → (between : BetweenBlocks run.plan run.window run.events)
+    → IsNextOf run.plan run.window run.events between i (step_in (run_of plan pass_codes new).action)
+turned_next plan pass_codes old new run i k e h is = subst (λ x. (between : BetweenBlocks x.plan x.window x.events)
+    → IsNextOf x.plan x.window x.events between i (step_in (run_of plan pass_codes new).action)) e
+    (λ between. subst (λ o. IsNextOf plan old.fleet.window old.events.items between i o)
+    (sym (step_back (next_of plan (run_state_of new)) (status_from pass_codes new.code) ∙ ap (λ p. next_of plan p) is))
+    (chosen_next plan old.fleet.window (run_state_of old) i k (choice_below plan old.fleet.window (run_state_of old) i k
+    (choice_of plan pass_codes old run i e h)) between))
 
 -- the clause of `choose`: elsewhere than between blocks a choice changes nothing
 pub turned_elsewhere : (plan : Plan) (pass_codes : FailureStatus) (w v : CodeRun) (r : Run) (i : ℕ) → Stands plan w

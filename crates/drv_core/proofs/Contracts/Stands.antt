@@ -150,19 +150,20 @@ fresh_kept plan N room p some jobs link fits is = subst (λ q. Kept plan N q) (s
 })
 
 -- an answer that fits keeps the run kept
-pub answer_kept : (plan : Plan) (N : ℕ) (p q : RunState) (s : Step) (a : Answer) → Kept plan N p → next_of plan p ≡ Some s
-    → is_kind s a ≡ true → q ≡ moved plan p s a → Kept plan N q
-answer_kept plan N p q s a k is kind to = subst (λ r. Kept plan N r) (sym to)
-    (by (answered plan N p.room p s a k.some (filled_of plan N p k) (stands_at plan N p k) is kind))
+pub answer_kept : (plan : Plan) (N : ℕ) (old new : RunState) (s : Step) (reply : Answer) → Kept plan N old → next_of plan old ≡ Some s
+    → is_kind s reply ≡ true → new ≡ moved plan old s reply → Kept plan N new
+answer_kept plan N old new s reply k is kind to = subst (λ r. Kept plan N r) (sym to)
+    (by (answered plan N old.room old s reply k.some (filled_of plan N old k) (stands_at plan N old k) is kind))
   where
     -- Plan: the position after the answer has a course that matches it, so it is kept.
-    by : Stands plan N p.room (moved plan p s a) → Kept plan N (moved plan p s a)
+    by : Stands plan N old.room (moved plan old s reply) → Kept plan N (moved plan old s reply)
     by t = record {
       some = k.some;
       jobs = k.jobs;
       link = k.link;
       fits = subst (λ n. needed plan ≤ n) (sym t.match.alike.room_is) k.fits;
-      reached = subst (λ n. Reached plan N n (moved plan p s a)) (sym t.match.alike.room_is) (after_answer p s a k.reached is kind);
+      reached = subst (λ n. Reached plan N n (moved plan old s reply)) (sym t.match.alike.room_is) (after_answer old s reply k.reached is
+          kind);
     }
 
 -- a choice of the next source keeps the run kept

@@ -199,14 +199,15 @@ rest_due : (files due : List File) (i : ℕ) → due ≡ drop i files → i < le
 rest_due files due i is lt = ap (λ l. drop 1 l) (next_due files due i is lt)
 
 -- one more event of the removals at the end
-abbrev pub with_last : (plan : Plan) (N i j : ℕ) (failed now : Bool) (E : List RunEvent) (e : RunEvent) → (old : Ending plan N i failed E)
-    → Removing (end_files plan N i failed E old) j now (old.last ++ e ∷ []) → Ending plan N j now (E ++ e ∷ [])
-with_last plan N i j failed now E e old r = record {
+abbrev pub with_last : (plan : Plan) (N i j : ℕ) (failed now : Bool) (E : List RunEvent) (added : RunEvent)
+    → (old : Ending plan N i failed E)
+    → Removing (end_files plan N i failed E old) j now (old.last ++ added ∷ []) → Ending plan N j now (E ++ added ∷ [])
+with_last plan N i j failed now E added old r = record {
   sources = old.sources;
   own = old.own;
-  last = old.last ++ e ∷ [];
-  split = ap (λ l. l ++ e ∷ []) old.split ∙ append_assoc old.sources (old.own ++ old.last) (e ∷ [])
-      ∙ ap (λ l. old.sources ++ l) (append_assoc old.own old.last (e ∷ []));
+  last = old.last ++ added ∷ [];
+  split = ap (λ l. l ++ added ∷ []) old.split ∙ append_assoc old.sources (old.own ++ old.last) (added ∷ [])
+      ∙ ap (λ l. old.sources ++ l) (append_assoc old.own old.last (added ∷ []));
   ran = old.ran;
   link = old.link;
   removing = r;

@@ -81,12 +81,12 @@ no_claim_close k true = refl
 no_claim_close k false = refl
 
 -- the starts of a group claim no temporary of any job
-no_claim_starts : (k j g n i : ℕ) (refused : Bool) (xs : List StartAnswer) → tally k (starts_block j g n i refused xs) ≡ 0
-no_claim_starts k j g n i refused [] = refl
-no_claim_starts k j g n i refused (Started id ∷ xs) =
-    let e : tally k (starts_block j g n (i + 1) refused xs) ≡ 0 = no_claim_starts k j g n (i + 1) refused xs in
+no_claim_starts : (k j g size i : ℕ) (refused : Bool) (xs : List StartAnswer) → tally k (starts_block j g size i refused xs) ≡ 0
+no_claim_starts k j g size i refused [] = refl
+no_claim_starts k j g size i refused (Started id ∷ xs) =
+    let e : tally k (starts_block j g size (i + 1) refused xs) ≡ 0 = no_claim_starts k j g size (i + 1) refused xs in
     omega (arith, e)
-no_claim_starts k j g n i refused (NotStarted why ∷ xs) =
+no_claim_starts k j g size i refused (NotStarted why ∷ xs) =
     let e : tally k (if nat_lt 0 i then event step.ClosePipe answer.Closed ∷ [] else []) ≡ 0 = no_claim_close k (nat_lt 0 i) in
     omega (arith, e)
 
@@ -154,20 +154,21 @@ story_tally k j job a =
 -- in the events of all sources
 
 -- a sum of which one part grows by c
-summed_with : (n k c : ℕ) (f g : ℕ → ℕ) → k < n → g k ≡ c + f k → ((j : ℕ) → nat_eq k j ≡ false → g j ≡ f j) → summed n g ≡ c + summed n f
-summed_with zero k c f g lt at others = absurd (omega arith)
-summed_with (suc n) k c f g lt at others = by (nat_eq k n) refl (λ below. summed_with n k c f g below at others)
+summed_with : (n k more : ℕ) (old new : ℕ → ℕ) → k < n → new k ≡ more + old k → ((j : ℕ) → nat_eq k j ≡ false → new j ≡ old j)
+    → summed n new ≡ more + summed n old
+summed_with zero k more old new lt at others = absurd (omega arith)
+summed_with (suc n) k more old new lt at others = by (nat_eq k n) refl (λ below. summed_with n k more old new below at others)
   where
     -- Plan: by whether the part is the last one of the sum.
-    by : (t : Bool) → nat_eq k n ≡ t → (k < n → summed n g ≡ c + summed n f) → g n + summed n g ≡ c + (f n + summed n f)
+    by : (t : Bool) → nat_eq k n ≡ t → (k < n → summed n new ≡ more + summed n old) → new n + summed n new ≡ more + (old n + summed n old)
     by true e ih =
         let is : k ≡ n = same k n e in
-        let here : g n ≡ c + f n = subst (λ i. g i ≡ c + f i) is at in
-        let rest : summed n g ≡ summed n f = summed_same n g f (λ j below. others j (grind (arith, nat_tests))) in
+        let here : new n ≡ more + old n = subst (λ i. new i ≡ more + old i) is at in
+        let rest : summed n new ≡ summed n old = summed_same n new old (λ j below. others j (grind (arith, nat_tests))) in
         omega (arith, here, rest)
     by false e ih =
-        let rest : summed n g ≡ c + summed n f = ih (grind (arith, nat_tests)) in
-        let here : g n ≡ f n = others n e in
+        let rest : summed n new ≡ more + summed n old = ih (grind (arith, nat_tests)) in
+        let here : new n ≡ old n = others n e in
         omega (arith, rest, here)
 
 -- a sum of nothing is 0

@@ -88,10 +88,10 @@ of_starts j g n i refused (Started id ∷ xs) = (inl (nat_eq_equiv.refl j), of_s
 of_starts j g n i refused (NotStarted why ∷ xs) = (inl (nat_eq_equiv.refl j), (inr (λ k. refl, refl), of_close j (nat_lt 0 i)))
 
 -- a wait and its report are events of their job, of which the wait has a code
-of_wait : (j g i id : ℕ) (x : WaitAnswer) (t : Bool) → AreAt j (wait_block j g i id (record { answer = x; told = t }))
-of_wait j g i id (Exit n) t = (inl (nat_eq_equiv.refl j), tt)
-of_wait j g i id Signal t = (inl (nat_eq_equiv.refl j), (inr (λ k. refl, refl), tt))
-of_wait j g i id Lost t = (inl (nat_eq_equiv.refl j), (inr (λ k. refl, refl), tt))
+of_wait : (j g i id : ℕ) (reply : WaitAnswer) (told : Bool) → AreAt j (wait_block j g i id (record { answer = reply; told = told }))
+of_wait j g i id (Exit n) told = (inl (nat_eq_equiv.refl j), tt)
+of_wait j g i id Signal told = (inl (nat_eq_equiv.refl j), (inr (λ k. refl, refl), tt))
+of_wait j g i id Lost told = (inl (nat_eq_equiv.refl j), (inr (λ k. refl, refl), tt))
 
 -- the waits of a group with their reports are events of the job, of which the waits have codes
 of_waits : (j g i : ℕ) (xs : List StartAnswer) (ws : List (Told WaitAnswer)) → AreAt j (events_of (wait_blocks j g i xs ws))

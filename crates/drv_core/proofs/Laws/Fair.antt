@@ -191,20 +191,22 @@ wait_waits p id Signal told = refl
 wait_waits p id Lost told = refl
 
 -- the waits of a group, one for each child, leave none
-fair_waits : (s w k g i : ℕ) (cs : List Command) (starts : List StartAnswer) (waits : List (Told WaitAnswer)) (rest : List Block)
-    → whole_group cs starts waits ≡ true → s ≡ w + children starts → Fair s s rest → Fair s w (wait_blocks k g i starts waits ++ rest)
-fair_waits s w k g i [] [] [] rest e is f = let at : s ≡ w = omega arith in subst (λ n. Fair s n rest) at f
-fair_waits s w k g i [] [] (x ∷ waits) rest e is f = absurd cc
-fair_waits s w k g i [] (x ∷ starts) waits rest e is f = absurd cc
-fair_waits s w k g i (c ∷ cs) [] waits rest e is f = absurd cc
-fair_waits s w k g i (c ∷ cs) (Started id ∷ starts) [] rest e is f = absurd cc
-fair_waits s w k g i (c ∷ cs) (Started id ∷ starts) (x ∷ waits) rest e is f =
-    fair_wait s w (wait_block k g i id x) (wait_blocks k g (i + 1) starts waits ++ rest) (omega arith)
+fair_waits : (started waited k g i : ℕ) (cs : List Command) (starts : List StartAnswer) (waits : List (Told WaitAnswer)) (rest : List Block)
+    → whole_group cs starts waits ≡ true → started ≡ waited + children starts → Fair started started rest
+    → Fair started waited (wait_blocks k g i starts waits ++ rest)
+fair_waits started waited k g i [] [] [] rest e is f = let at : started ≡ waited = omega arith in subst (λ n. Fair started n rest) at f
+fair_waits started waited k g i [] [] (x ∷ waits) rest e is f = absurd cc
+fair_waits started waited k g i [] (x ∷ starts) waits rest e is f = absurd cc
+fair_waits started waited k g i (c ∷ cs) [] waits rest e is f = absurd cc
+fair_waits started waited k g i (c ∷ cs) (Started id ∷ starts) [] rest e is f = absurd cc
+fair_waits started waited k g i (c ∷ cs) (Started id ∷ starts) (x ∷ waits) rest e is f =
+    fair_wait started waited (wait_block k g i id x) (wait_blocks k g (i + 1) starts waits ++ rest) (omega arith)
     (wait_starts (place.Command k g i) id x.answer x.told) (wait_waits (place.Command k g i) id x.answer x.told)
-    (fair_waits s (w + 1) k g (i + 1) cs starts waits rest e (omega arith) f)
-fair_waits s w k g i (c ∷ cs) (NotStarted why ∷ []) [] rest e is f = let at : s ≡ w = omega arith in subst (λ n. Fair s n rest) at f
-fair_waits s w k g i (c ∷ cs) (NotStarted why ∷ []) (x ∷ waits) rest e is f = absurd cc
-fair_waits s w k g i (c ∷ cs) (NotStarted why ∷ x ∷ starts) waits rest e is f = absurd cc
+    (fair_waits started (waited + 1) k g (i + 1) cs starts waits rest e (omega arith) f)
+fair_waits started waited k g i (c ∷ cs) (NotStarted why ∷ []) [] rest e is f = let at : started
+    ≡ waited = omega arith in subst (λ n. Fair started n rest) at f
+fair_waits started waited k g i (c ∷ cs) (NotStarted why ∷ []) (x ∷ waits) rest e is f = absurd cc
+fair_waits started waited k g i (c ∷ cs) (NotStarted why ∷ x ∷ starts) waits rest e is f = absurd cc
 
 -- without answers groups have no blocks
 no_group : (k g : ℕ) (cs : List (List Command)) → group_blocks k g cs [] ≡ []

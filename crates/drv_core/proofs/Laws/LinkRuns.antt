@@ -49,10 +49,11 @@ two k E F = flat_map-append (calls k) E F
 -- waits are neither
 
 -- a wait is neither a claim nor a start
-no_wait : (k j g i id : ℕ) (x : WaitAnswer) (t : Bool) → calls_of k (wait_block j g i id (record { answer = x; told = t })) ≡ []
-no_wait k j g i id (Exit n) t = refl
-no_wait k j g i id Signal t = refl
-no_wait k j g i id Lost t = refl
+no_wait : (k j g i id : ℕ) (reply : WaitAnswer) (told : Bool)
+    → calls_of k (wait_block j g i id (record { answer = reply; told = told })) ≡ []
+no_wait k j g i id (Exit n) told = refl
+no_wait k j g i id Signal told = refl
+no_wait k j g i id Lost told = refl
 
 -- other jobs make no call of this job
 
@@ -67,13 +68,14 @@ no_close k true = refl
 no_close k false = refl
 
 -- the starts of another job are none of this one
-no_starts : (k j g n i : ℕ) (refused : Bool) (xs : List StartAnswer) → nat_eq j k ≡ false
-    → calls_of k (starts_block j g n i refused xs) ≡ []
-no_starts k j g n i refused [] other = refl
-no_starts k j g n i refused (NotStarted why ∷ xs) other = nothing
-    (off (nat_eq j k) (step.Start (place.Command j g i) (nat_lt 0 i) (nat_lt (i + 1) n)) other) (no_close k (nat_lt 0 i))
-no_starts k j g n i refused (Started id ∷ xs) other = nothing
-    (off (nat_eq j k) (step.Start (place.Command j g i) (nat_lt 0 i) (nat_lt (i + 1) n)) other) (no_starts k j g n (i + 1) refused xs other)
+no_starts : (k j g size i : ℕ) (refused : Bool) (xs : List StartAnswer) → nat_eq j k ≡ false
+    → calls_of k (starts_block j g size i refused xs) ≡ []
+no_starts k j g size i refused [] other = refl
+no_starts k j g size i refused (NotStarted why ∷ xs) other = nothing
+    (off (nat_eq j k) (step.Start (place.Command j g i) (nat_lt 0 i) (nat_lt (i + 1) size)) other) (no_close k (nat_lt 0 i))
+no_starts k j g size i refused (Started id ∷ xs) other = nothing
+    (off (nat_eq j k) (step.Start (place.Command j g i) (nat_lt 0 i) (nat_lt (i + 1) size)) other) (no_starts k j g size (i + 1) refused xs
+    other)
 
 -- the groups of another job start nothing of this one
 no_groups : (k j g : ℕ) (cs : List (List Command)) (xs : List GroupAnswers) → nat_eq j k ≡ false

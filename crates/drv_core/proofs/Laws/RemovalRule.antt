@@ -62,16 +62,17 @@ quiet_close k true = refl
 quiet_close k false = refl
 
 -- starts are no removal of the job's own
-quiet_starts : (k j g n i : ℕ) (refused : Bool) (xs : List StartAnswer) → flat_map (own k) (starts_block j g n i refused xs) ≡ []
-quiet_starts k j g n i refused [] = refl
-quiet_starts k j g n i refused (Started id ∷ xs) = quiet_starts k j g n (i + 1) refused xs
-quiet_starts k j g n i refused (NotStarted why ∷ xs) = quiet_close k (nat_lt 0 i)
+quiet_starts : (k j g size i : ℕ) (refused : Bool) (xs : List StartAnswer) → flat_map (own k) (starts_block j g size i refused xs) ≡ []
+quiet_starts k j g size i refused [] = refl
+quiet_starts k j g size i refused (Started id ∷ xs) = quiet_starts k j g size (i + 1) refused xs
+quiet_starts k j g size i refused (NotStarted why ∷ xs) = quiet_close k (nat_lt 0 i)
 
 -- a wait is no removal of the job's own
-quiet_wait : (k j g i id : ℕ) (x : WaitAnswer) (t : Bool) → flat_map (own k) (wait_block j g i id (record { answer = x; told = t })) ≡ []
-quiet_wait k j g i id (Exit n) t = refl
-quiet_wait k j g i id Signal t = refl
-quiet_wait k j g i id Lost t = refl
+quiet_wait : (k j g i id : ℕ) (reply : WaitAnswer) (told : Bool)
+    → flat_map (own k) (wait_block j g i id (record { answer = reply; told = told })) ≡ []
+quiet_wait k j g i id (Exit n) told = refl
+quiet_wait k j g i id Signal told = refl
+quiet_wait k j g i id Lost told = refl
 
 -- groups have no removal of the job's own
 quiet_groups : (k j g : ℕ) (cs : List (List Command)) (xs : List GroupAnswers) → sift (own k) (group_blocks j g cs xs) ≡ []
@@ -94,13 +95,14 @@ removals_alone k j job a = two_lists (own k) (claim_blocks j 0 a.claims) (group_
     ∙ ap (λ l. l ++ sift (own k) (own_removals j 0 a.removals)) (quiet_groups k j 0 job.groups a.groups)
 
 -- a removal of a failure file is one of its job's own
-one_removal : (k j i : ℕ) (x : RemoveAnswer) (t : Bool)
-    → flat_map (own k) (removal_block (place.OnFailure j i) (record { answer = x; told = t }))
+one_removal : (k j i : ℕ) (reply : RemoveAnswer) (told : Bool)
+    → flat_map (own k) (removal_block (place.OnFailure j i) (record { answer = reply; told = told }))
     ≡ (if nat_eq j k then place.OnFailure j i ∷ [] else [])
-one_removal k j i x t = by (removal_failed x)
+one_removal k j i reply told = by (removal_failed reply)
   where
-    by : (u : Bool) → flat_map (own k) (event (step.Remove (place.OnFailure j i)) (answer.Remove x) ∷
-        (if u then report (note.NotRemoved (place.OnFailure j i)) t ∷ [] else [])) ≡ (if nat_eq j k then place.OnFailure j i ∷ [] else [])
+    by : (u : Bool) → flat_map (own k) (event (step.Remove (place.OnFailure j i)) (answer.Remove reply) ∷
+        (if u then report (note.NotRemoved (place.OnFailure j i)) told ∷ [] else []))
+        ≡ (if nat_eq j k then place.OnFailure j i ∷ [] else [])
     by true = append-nil (if nat_eq j k then place.OnFailure j i ∷ [] else [])
     by false = append-nil (if nat_eq j k then place.OnFailure j i ∷ [] else [])
 
@@ -218,15 +220,16 @@ at_end plan o = at_once [] (files_of_jobs 0 (plan.jobs ++ link_run plan.link o.j
     (at_jobs 0 (plan.jobs ++ link_run plan.link o.jobs ∷ []) (o.jobs ++ o.link ∷ []))
 
 -- what a removal says, whose report says nothing
-with_report : {X : Type 0} (f : RunEvent → List X) (p : Place) (x : RemoveAnswer) (t : Bool) → f (report (note.NotRemoved p) t) ≡ []
-    → flat_map f (removal_block p (record { answer = x; told = t })) ≡ f (event (step.Remove p) (answer.Remove x))
-with_report f p x t quiet = by (removal_failed x)
+with_report : {X : Type 0} (f : RunEvent → List X) (p : Place) (reply : RemoveAnswer) (told : Bool)
+    → f (report (note.NotRemoved p) told) ≡ []
+    → flat_map f (removal_block p (record { answer = reply; told = told })) ≡ f (event (step.Remove p) (answer.Remove reply))
+with_report f p reply told quiet = by (removal_failed reply)
   where
-    by : (u : Bool) → flat_map f (event (step.Remove p) (answer.Remove x) ∷ (if u then report (note.NotRemoved p) t ∷ [] else []))
-        ≡ f (event (step.Remove p) (answer.Remove x))
-    by true = ap (λ l. f (event (step.Remove p) (answer.Remove x)) ++ (l ++ [])) quiet
-        ∙ append-nil (f (event (step.Remove p) (answer.Remove x)))
-    by false = append-nil (f (event (step.Remove p) (answer.Remove x)))
+    by : (u : Bool) → flat_map f (event (step.Remove p) (answer.Remove reply) ∷ (if u then report (note.NotRemoved p) told ∷ [] else []))
+        ≡ f (event (step.Remove p) (answer.Remove reply))
+    by true = ap (λ l. f (event (step.Remove p) (answer.Remove reply)) ++ (l ++ [])) quiet
+        ∙ append-nil (f (event (step.Remove p) (answer.Remove reply)))
+    by false = append-nil (f (event (step.Remove p) (answer.Remove reply)))
 
 -- no removal at the end is a job's own
 no_own_at_end : (k : ℕ) (files : List File) (rs : List (Told RemoveAnswer)) → AllAtEnd files → sift (own k) (end_removals files rs) ≡ []
@@ -284,10 +287,10 @@ quiet_last_starts k g n i refused (Started id ∷ xs) = quiet_last_starts k g n 
 quiet_last_starts k g n i refused (NotStarted why ∷ xs) = quiet_last_close (nat_lt 0 i)
 
 -- a wait is no removal at the end
-quiet_last_wait : (k g i id : ℕ) (x : WaitAnswer) (t : Bool) → Quiet (wait_block k g i id (record { answer = x; told = t }))
-quiet_last_wait k g i id (Exit n) t = refl
-quiet_last_wait k g i id Signal t = refl
-quiet_last_wait k g i id Lost t = refl
+quiet_last_wait : (k g i id : ℕ) (reply : WaitAnswer) (told : Bool) → Quiet (wait_block k g i id (record { answer = reply; told = told }))
+quiet_last_wait k g i id (Exit n) told = refl
+quiet_last_wait k g i id Signal told = refl
+quiet_last_wait k g i id Lost told = refl
 
 -- no kind of block in a story is one
 quiet_kinds : Kinds Quiet

@@ -54,7 +54,7 @@ lead_starts k g n i refused (NotStarted why ∷ xs) F f =
     ((if nat_lt 0 i then event step.ClosePipe answer.Closed ∷ [] else []) ++ F) refl (lead_close (nat_lt 0 i) F f)
 
 -- a wait for a child that was ended by a signal, or lost, is followed by its report
-lead_wait : (k g i id : ℕ) (x : WaitAnswer) (t : Bool) → Leads (wait_block k g i id (record { answer = x; told = t }))
+lead_wait : (k g i id : ℕ) (reply : WaitAnswer) (t : Bool) → Leads (wait_block k g i id (record { answer = reply; told = t }))
 lead_wait k g i id (Exit n) t F f = silent (event (step.Wait (place.Command k g i) id) (answer.Wait (Exit n))) F refl refl f
 lead_wait k g i id Signal t F f = told (event (step.Wait (place.Command k g i) id) (answer.Wait Signal))
     (note.Signalled (place.Command k g i)) t F refl f

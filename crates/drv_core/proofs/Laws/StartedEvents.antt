@@ -57,11 +57,11 @@ both plan k xs ys = two_lists (λ e. started_by plan k e.step e.answer) xs ys
 -- waits start nothing
 
 -- the block of a wait starts no command
-no_wait : (plan : Plan) (k j g i id : ℕ) (x : WaitAnswer) (t : Bool)
-    → started_in plan k (wait_block j g i id (record { answer = x; told = t })) ≡ []
-no_wait plan k j g i id (Exit n) t = refl
-no_wait plan k j g i id Signal t = refl
-no_wait plan k j g i id Lost t = refl
+no_wait : (plan : Plan) (k j g i id : ℕ) (reply : WaitAnswer) (told : Bool)
+    → started_in plan k (wait_block j g i id (record { answer = reply; told = told })) ≡ []
+no_wait plan k j g i id (Exit n) told = refl
+no_wait plan k j g i id Signal told = refl
+no_wait plan k j g i id Lost told = refl
 
 -- the starts of a group
 
@@ -71,15 +71,15 @@ no_close plan k true = refl
 no_close plan k false = refl
 
 -- the starts of a group start the commands of its first started members
-starts : (plan : Plan) (k g n i : ℕ) (refused : Bool) (cs : List Command) (xs : List StartAnswer)
-    → ((h : ℕ) → slice_get (group_at (job_at plan k) g) (i + h) ≡ slice_get cs h) → started_in plan k (starts_block k g n i refused xs)
+starts : (plan : Plan) (k g size i : ℕ) (refused : Bool) (cs : List Command) (xs : List StartAnswer)
+    → ((h : ℕ) → slice_get (group_at (job_at plan k) g) (i + h) ≡ slice_get cs h) → started_in plan k (starts_block k g size i refused xs)
     ≡ started_in_group cs xs
-starts plan k g n i refused [] [] at = refl
-starts plan k g n i refused (c ∷ cs) [] at = refl
-starts plan k g n i refused [] (NotStarted why ∷ xs) at = no_close plan k (nat_lt 0 i)
-starts plan k g n i refused (c ∷ cs) (NotStarted why ∷ xs) at = no_close plan k (nat_lt 0 i)
-starts plan k g n i refused cs (Started id ∷ xs) at = ap (λ l. l ++ started_in plan k (starts_block k g n (i + 1) refused xs)) this
-    ∙ by cs (at 0) (λ ds later. starts plan k g n (i + 1) refused ds xs later)
+starts plan k g size i refused [] [] at = refl
+starts plan k g size i refused (c ∷ cs) [] at = refl
+starts plan k g size i refused [] (NotStarted why ∷ xs) at = no_close plan k (nat_lt 0 i)
+starts plan k g size i refused (c ∷ cs) (NotStarted why ∷ xs) at = no_close plan k (nat_lt 0 i)
+starts plan k g size i refused cs (Started id ∷ xs) at = ap (λ l. l ++ started_in plan k (starts_block k g size (i + 1) refused xs)) this
+    ∙ by cs (at 0) (λ ds later. starts plan k g size (i + 1) refused ds xs later)
     (λ h. ap (λ m. slice_get (group_at (job_at plan k) g) m) (let is : i + 1 + h ≡ i + suc h = omega arith in is) ∙ at (suc h))
   where
     -- Plan: by the commands from member i on: the event starts the one at its place (`this`), and the later members follow.
@@ -89,26 +89,26 @@ starts plan k g n i refused cs (Started id ∷ xs) at = ap (λ l. l ++ started_i
 
     by : (ds : List Command) → slice_get (group_at (job_at plan k) g) (i + 0) ≡ slice_get ds 0
         → ((es : List Command) → ((h : ℕ) → slice_get (group_at (job_at plan k) g) (i + 1 + h) ≡ slice_get es h)
-        → started_in plan k (starts_block k g n (i + 1) refused xs) ≡ started_in_group es xs)
+        → started_in plan k (starts_block k g size (i + 1) refused xs) ≡ started_in_group es xs)
         → ((h : ℕ) → slice_get (group_at (job_at plan k) g) (i + 1 + h) ≡ slice_get ds (suc h))
-        → option_to_list (slice_get (group_at (job_at plan k) g) (i + 0)) ++ started_in plan k (starts_block k g n (i + 1) refused xs)
+        → option_to_list (slice_get (group_at (job_at plan k) g) (i + 0)) ++ started_in plan k (starts_block k g size (i + 1) refused xs)
         ≡ started_in_group ds (Started id ∷ xs)
     by [] first later following = nothing (ap option_to_list first) (later [] following ∙ none_left xs)
       where
         none_left : (ys : List StartAnswer) → started_in_group [] ys ≡ []
         none_left [] = refl
         none_left (y ∷ ys) = refl
-    by (d ∷ ds) first later following = ap (λ l. option_to_list l ++ started_in plan k (starts_block k g n (i + 1) refused xs)) first
+    by (d ∷ ds) first later following = ap (λ l. option_to_list l ++ started_in plan k (starts_block k g size (i + 1) refused xs)) first
         ∙ ap (λ l. d ∷ l) (later ds following)
 
 -- the starts of another job start nothing of this one
-no_starts : (plan : Plan) (k j g n i : ℕ) (refused : Bool) (xs : List StartAnswer) → nat_eq j k ≡ false
-    → started_in plan k (starts_block j g n i refused xs) ≡ []
-no_starts plan k j g n i refused [] other = refl
-no_starts plan k j g n i refused (NotStarted why ∷ xs) other = no_close plan k (nat_lt 0 i)
-no_starts plan k j g n i refused (Started id ∷ xs) other = nothing
+no_starts : (plan : Plan) (k j g size i : ℕ) (refused : Bool) (xs : List StartAnswer) → nat_eq j k ≡ false
+    → started_in plan k (starts_block j g size i refused xs) ≡ []
+no_starts plan k j g size i refused [] other = refl
+no_starts plan k j g size i refused (NotStarted why ∷ xs) other = no_close plan k (nat_lt 0 i)
+no_starts plan k j g size i refused (Started id ∷ xs) other = nothing
     (ap (λ (t : Bool). if t then option_to_list (slice_get (group_at (job_at plan j) g) i) else []) other)
-    (no_starts plan k j g n (i + 1) refused xs other)
+    (no_starts plan k j g size (i + 1) refused xs other)
 
 -- groups
 
@@ -225,9 +225,9 @@ link_there jobs (Some job) xs busy = by (all_succeeded xs) busy
 -- a whole run
 
 -- the commands of job k: those that its own blocks start, and those after the sources
-in_halves : (plan : Plan) (N : ℕ) (o : Answers) (E : List RunEvent) → (w : Windowed plan N o E) → (k : ℕ)
-    → started_in plan k E ≡ seen plan k (of k w.blocks) ++ seen plan k (after_sources plan o)
-in_halves plan N o E w k = halves (λ e. started_by plan k e.step e.answer) plan N o E w k
+in_halves : (plan : Plan) (N : ℕ) (o : Answers) (E : List RunEvent) → (run : Windowed plan N o E) → (k : ℕ)
+    → started_in plan k E ≡ seen plan k (of k run.blocks) ++ seen plan k (after_sources plan o)
+in_halves plan N o E run k = halves (λ e. started_by plan k e.step e.answer) plan N o E run k
     (λ j job a other. other_story plan k j job a other)
 
 -- each job starts the same commands in a run and in that run rearranged source by source

@@ -99,10 +99,11 @@ code_starts k g n i refused (c ∷ cs) (start.NotStarted why ∷ []) (w ∷ ws) 
 code_starts k g n i refused (c ∷ cs) (start.NotStarted why ∷ x ∷ xs) ws e = absurd cc
 
 -- the greatest code of a wait is that of its child
-code_wait : (k g i id : ℕ) (x : WaitAnswer) (t : Bool) → run_code (wait_block k g i id (record { answer = x; told = t })) ≡ code_of x
-code_wait k g i id (Exit n) t = max_nothing n
-code_wait k g i id Signal t = refl
-code_wait k g i id Lost t = refl
+code_wait : (k g i id : ℕ) (reply : WaitAnswer) (told : Bool) → run_code (wait_block k g i id (record { answer = reply; told = told }))
+    ≡ code_of reply
+code_wait k g i id (Exit n) told = max_nothing n
+code_wait k g i id Signal told = refl
+code_wait k g i id Lost told = refl
 
 -- the greatest code of a group's waits is that of the answers
 code_waits : (k g i : ℕ) (cs : List Command) (xs : List StartAnswer) (ws : List (Told WaitAnswer)) → whole_group cs xs ws ≡ true
@@ -223,19 +224,21 @@ top_same zero f g e = refl
 top_same (suc n) f g e = rw (e n (omega arith), top_same n f g (λ j lt. e j (omega arith))) refl
 
 -- a function that is raised to at least c at one number has the greater of c and the value before
-top_with : (n k c : ℕ) (f g : ℕ → ℕ) → k < n → g k ≡ max c (f k) → ((j : ℕ) → nat_eq k j ≡ false → g j ≡ f j) → top n g ≡ max c (top n f)
-top_with zero k c f g lt at others = absurd (omega arith)
-top_with (suc n) k c f g lt at others = by (nat_eq k n) refl (λ below. top_with n k c f g below at others)
+top_with : (n k more : ℕ) (old new : ℕ → ℕ) → k < n → new k ≡ max more (old k) → ((j : ℕ) → nat_eq k j ≡ false → new j ≡ old j)
+    → top n new ≡ max more (top n old)
+top_with zero k more old new lt at others = absurd (omega arith)
+top_with (suc n) k more old new lt at others = by (nat_eq k n) refl (λ below. top_with n k more old new below at others)
   where
     -- Plan: by whether the number is the last one.
-    by : (t : Bool) → nat_eq k n ≡ t → (k < n → top n g ≡ max c (top n f)) → max (g n) (top n g) ≡ max c (max (f n) (top n f))
+    by : (t : Bool) → nat_eq k n ≡ t → (k < n → top n new ≡ max more (top n old)) → max (new n) (top n new)
+        ≡ max more (max (old n) (top n old))
     by true e ih =
         let is : k ≡ n = same k n e in
-        let here : g n ≡ max c (f n) = subst (λ i. g i ≡ max c (f i)) is at in
-        let rest : top n g ≡ top n f = top_same n g f (λ j below. others j (grind (arith, nat_tests))) in
-        rw (here, rest) (max_assoc c (f n) (top n f))
+        let here : new n ≡ max more (old n) = subst (λ i. new i ≡ max more (old i)) is at in
+        let rest : top n new ≡ top n old = top_same n new old (λ j below. others j (grind (arith, nat_tests))) in
+        rw (here, rest) (max_assoc more (old n) (top n old))
     by false e ih =
-        let rest : top n g ≡ max c (top n f) = ih (grind (arith, nat_tests)) in
+        let rest : top n new ≡ max more (top n old) = ih (grind (arith, nat_tests)) in
         rw (others n e, rest) (omega arith)
 
 -- all blocks are of sources below n

@@ -70,19 +70,21 @@ starts k g n i refused (Started id ∷ xs) = ap (λ (t : Bool). (if t then Begin
     ∙ ap (λ l. Begins (record { group = g; member = i; id = id }) ∷ l) (starts k g n (i + 1) refused xs)
 
 -- the starts of another job begin no child of this one
-no_starts : (k j g n i : ℕ) (refused : Bool) (xs : List StartAnswer) → nat_eq j k ≡ false → acts_in k (starts_block j g n i refused xs) ≡ []
-no_starts k j g n i refused [] other = refl
-no_starts k j g n i refused (NotStarted why ∷ xs) other = no_close k (nat_lt 0 i)
-no_starts k j g n i refused (Started id ∷ xs) other = nothing
+no_starts : (k j g size i : ℕ) (refused : Bool) (xs : List StartAnswer) → nat_eq j k ≡ false
+    → acts_in k (starts_block j g size i refused xs) ≡ []
+no_starts k j g size i refused [] other = refl
+no_starts k j g size i refused (NotStarted why ∷ xs) other = no_close k (nat_lt 0 i)
+no_starts k j g size i refused (Started id ∷ xs) other = nothing
     (ap (λ (t : Bool). if t then Begins (record { group = g; member = i; id = id }) ∷ [] else []) other)
-    (no_starts k j g n (i + 1) refused xs other)
+    (no_starts k j g size (i + 1) refused xs other)
 
 -- a wait is for the child at its place
-a_wait : (k j g i id : ℕ) (x : WaitAnswer) (t : Bool) → acts_in k (wait_block j g i id (record { answer = x; told = t })) ≡ child_at k
+a_wait : (k j g i id : ℕ) (reply : WaitAnswer) (told : Bool) → acts_in k (wait_block j g i id (record { answer = reply; told = told }))
+    ≡ child_at k
     (place.Command j g i) Awaits id
-a_wait k j g i id (Exit n) t = append-nil (child_at k (place.Command j g i) Awaits id)
-a_wait k j g i id Signal t = append-nil (child_at k (place.Command j g i) Awaits id)
-a_wait k j g i id Lost t = append-nil (child_at k (place.Command j g i) Awaits id)
+a_wait k j g i id (Exit n) told = append-nil (child_at k (place.Command j g i) Awaits id)
+a_wait k j g i id Signal told = append-nil (child_at k (place.Command j g i) Awaits id)
+a_wait k j g i id Lost told = append-nil (child_at k (place.Command j g i) Awaits id)
 
 -- the waits of a group are for its children, in the order of their starts
 waits : (k g i : ℕ) (cs : List Command) (xs : List StartAnswer) (ws : List (Told WaitAnswer)) → whole_group cs xs ws ≡ true
@@ -99,9 +101,10 @@ waits k g i (c ∷ cs) (Started id ∷ xs) (w ∷ ws) e = two k (wait_block k g 
     ∙ ap (λ l. Awaits (record { group = g; member = i; id = id }) ∷ l) (waits k g (i + 1) cs xs ws e)
 
 -- a wait of another job is for no child of this one
-no_wait : (k j g i id : ℕ) (x : WaitAnswer) (t : Bool) → nat_eq j k ≡ false
-    → acts_in k (wait_block j g i id (record { answer = x; told = t })) ≡ []
-no_wait k j g i id x t other = a_wait k j g i id x t ∙ ap (λ (u : Bool). if u then Awaits (record { group = g; member = i; id = id }) ∷
+no_wait : (k j g i id : ℕ) (reply : WaitAnswer) (told : Bool) → nat_eq j k ≡ false
+    → acts_in k (wait_block j g i id (record { answer = reply; told = told })) ≡ []
+no_wait k j g i id reply told other =
+    a_wait k j g i id reply told ∙ ap (λ (u : Bool). if u then Awaits (record { group = g; member = i; id = id }) ∷
     [] else []) other
 
 -- all children of a group are started, and then waited for in that order

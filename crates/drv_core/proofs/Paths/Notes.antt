@@ -206,5 +206,6 @@ drop_lefts (suc n) [] = refl
 drop_lefts (suc n) (f ∷ files) = drop_lefts n files
 
 -- a choice by two equal numbers is its first value
-pub by_same : {X : Type 0} (a b : ℕ) (x y z : X) → a ≡ b → x ≡ y → x ≡ (if nat_eq a b then y else z)
-by_same a b x y z e is = is ∙ ap (λ (t : Bool). if t then y else z) (sym (ap (λ n. nat_eq a n) (sym e) ∙ nat_eq_equiv.refl a))
+pub by_same : {X : Type 0} (a b : ℕ) (value same apart : X) → a ≡ b → value ≡ same → value ≡ (if nat_eq a b then same else apart)
+by_same a b value same apart e is =
+    is ∙ ap (λ (t : Bool). if t then same else apart) (sym (ap (λ n. nat_eq a n) (sym e) ∙ nat_eq_equiv.refl a))

@@ -103,15 +103,17 @@ Stepped true k job s m b = (base m ≡ base s) × (open_of k job m ≡ b)
 Stepped false k job s m b = OneBlock k job (base s) b m
 
 -- a step after which no block is open ends its block
-pub ends : (t : Bool) (k : ℕ) (job : Job) (s m : Stage) (b : Block) → t ≡ false → OneBlock k job (base s) b m → Stepped t k job s m b
-ends true k job s m b e o = absurd cc
-ends false k job s m b e o = o
+pub ends : (t : Bool) (k : ℕ) (job : Job) (stage next : Stage) (block : Block) → t ≡ false → OneBlock k job (base stage) block next
+    → Stepped t k job stage next block
+ends true k job stage next block e o = absurd cc
+ends false k job stage next block e o = o
 
 -- a step after which a block is open continues it
-pub goes : (t : Bool) (k : ℕ) (job : Job) (s m : Stage) (b : Block) → t ≡ true → base m ≡ base s → open_of k job m ≡ b
-    → Stepped t k job s m b
-goes true k job s m b e same events = (same, events)
-goes false k job s m b e same events = absurd cc
+pub goes : (t : Bool) (k : ℕ) (job : Job) (stage next : Stage) (block : Block) → t ≡ true → base next ≡ base stage → open_of k job next
+    ≡ block
+    → Stepped t k job stage next block
+goes true k job stage next block e same events = (same, events)
+goes false k job stage next block e same events = absurd cc
 
 -- a group is entered between blocks
 
@@ -161,11 +163,12 @@ all_started [] = []
 all_started (id ∷ ids) = start.Started id ∷ all_started ids
 
 -- the starts so far, with one more
-so_far_more : (k g n i j : ℕ) (ids : List ℕ) (id : ℕ) → j ≡ i + length ids → starts_so_far k g n i (ids ++ id ∷ []) ≡ starts_so_far k g n i
-    ids ++ start_event k g n j (start.Started id) ∷ []
-so_far_more k g n i j [] id e = let at : j ≡ i = omega arith in rw at refl
-so_far_more k g n i j (x ∷ ids) id e = ap (λ l. start_event k g n i (start.Started x) ∷ l)
-    (so_far_more k g n (i + 1) j ids id (omega arith))
+so_far_more : (k g size i j : ℕ) (ids : List ℕ) (id : ℕ) → j ≡ i + length ids → starts_so_far k g size i (ids ++ id ∷ [])
+    ≡ starts_so_far k g size i
+    ids ++ start_event k g size j (start.Started id) ∷ []
+so_far_more k g size i j [] id e = let at : j ≡ i = omega arith in rw at refl
+so_far_more k g size i j (x ∷ ids) id e = ap (λ l. start_event k g size i (start.Started x) ∷ l)
+    (so_far_more k g size (i + 1) j ids id (omega arith))
 
 -- the starts so far, with no refused one, are the block of these answers
 started_block : (k g n i : ℕ) (refused : Bool) (ids : List ℕ) → starts_so_far k g n i ids ≡ starts_block k g n i refused (all_started ids)
@@ -173,13 +176,13 @@ started_block k g n i refused [] = refl
 started_block k g n i refused (id ∷ ids) = ap (λ l. start_event k g n i (start.Started id) ∷ l) (started_block k g n (i + 1) refused ids)
 
 -- starts of which the last was refused are the block so far, with its report and the closing of the pipe
-refused_block : (k g n i j : ℕ) (told : Bool) (ids : List ℕ) (why : NotStarted) → j ≡ i + length ids
-    → starts_block k g n i told (all_started ids ++ start.NotStarted why ∷ [])
-    ≡ starts_so_far k g n i ids ++ start_event k g n j (start.NotStarted why) ∷ report (note.NotStarted (place.Command k g j)) told ∷
+refused_block : (k g size i j : ℕ) (told : Bool) (ids : List ℕ) (why : NotStarted) → j ≡ i + length ids
+    → starts_block k g size i told (all_started ids ++ start.NotStarted why ∷ [])
+    ≡ starts_so_far k g size i ids ++ start_event k g size j (start.NotStarted why) ∷ report (note.NotStarted (place.Command k g j)) told ∷
     (if nat_lt 0 j then event step.ClosePipe answer.Closed ∷ [] else [])
-refused_block k g n i j told [] why e = let at : j ≡ i = omega arith in rw at refl
-refused_block k g n i j told (id ∷ ids) why e = ap (λ l. start_event k g n i (start.Started id) ∷ l)
-    (refused_block k g n (i + 1) j told ids why (omega arith))
+refused_block k g size i j told [] why e = let at : j ≡ i = omega arith in rw at refl
+refused_block k g size i j told (id ∷ ids) why e = ap (λ l. start_event k g size i (start.Started id) ∷ l)
+    (refused_block k g size (i + 1) j told ids why (omega arith))
 
 -- as many starts as commands fit a group
 fit_started : (cs : List Command) (ids : List ℕ) → length cs ≡ length ids → starts_fit cs (all_started ids) ≡ true
@@ -362,13 +365,13 @@ or_true true = refl
 or_true false = refl
 
 -- the report of a child that a signal ended, or that was lost, ends the block of its wait
-pub step_wait_report : (k : ℕ) (job : Job) (g : ℕ) (was : Bool) (ids : List ℕ) (i : ℕ) (fault : Bool) (x : WaitAnswer) (t : Bool)
-    → by_itself x ≡ false
-    → OneBlock k job (Waits g was ids i fault) (event (step.Wait (place.Command k g i) (get_or ids i 0)) (answer.Wait x) ∷ report
-    (wait_note k g i x) t ∷ []) (enter_waits job g was ids (i + 1) true)
-step_wait_report k job g was ids i fault (Exit n) t e = absurd cc
-step_wait_report k job g was ids i fault Signal t e = record {
-  a = record { answer = Signal; told = t };
+pub step_wait_report : (k : ℕ) (job : Job) (g : ℕ) (was : Bool) (ids : List ℕ) (i : ℕ) (fault : Bool) (reply : WaitAnswer) (told : Bool)
+    → by_itself reply ≡ false
+    → OneBlock k job (Waits g was ids i fault) (event (step.Wait (place.Command k g i) (get_or ids i 0)) (answer.Wait reply) ∷ report
+    (wait_note k g i reply) told ∷ []) (enter_waits job g was ids (i + 1) true)
+step_wait_report k job g was ids i fault (Exit n) told e = absurd cc
+step_wait_report k job g was ids i fault Signal told e = record {
+  a = record { answer = Signal; told = told };
   is = refl;
   leads = ap (λ u. enter_waits job g was ids (i + 1) u) (or_true fault);
 }

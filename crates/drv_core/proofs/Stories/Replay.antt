@@ -38,8 +38,9 @@ Replays k job s [] m = s ≡ m
 Replays k job s (e ∷ E) m = (asked (asks k job s) ≡ e.step) × Replays k job (after job s e.answer) E m
 
 -- a replay that ends at a stage ends at an equal one
-to_stage : (k : ℕ) (job : Job) (s : Stage) (E : List RunEvent) (m n : Stage) → m ≡ n → Replays k job s E m → Replays k job s E n
-to_stage k job s E m n e r = subst (λ t. Replays k job s E t) e r
+to_stage : (k : ℕ) (job : Job) (stage : Stage) (E : List RunEvent) (one other : Stage) → one ≡ other → Replays k job stage E one
+    → Replays k job stage E other
+to_stage k job stage E one other e r = subst (λ t. Replays k job stage E t) e r
 
 -- a claim with its report is replayed
 replay_claim : (k : ℕ) (job : Job) (i : ℕ) (x : ClaimAnswer) (t : Bool)
@@ -63,12 +64,12 @@ or_true true = refl
 or_true false = refl
 
 -- a wait with its report is replayed
-replay_wait : (k : ℕ) (job : Job) (g : ℕ) (was : Bool) (ids : List ℕ) (i : ℕ) (fault : Bool) (x : WaitAnswer) (t : Bool)
-    → Replays k job (Waits g was ids i fault) (wait_block k g i (get_or ids i 0) (record { answer = x; told = t }))
-    (enter_waits job g was ids (i + 1) (fault || wait_failed (record { answer = x; told = t })))
-replay_wait k job g was ids i fault (Exit n) t = (refl, refl)
-replay_wait k job g was ids i fault Signal t = (refl, (refl, ap (λ u. enter_waits job g was ids (i + 1) u) (or_true fault)))
-replay_wait k job g was ids i fault Lost t = (refl, (refl, ap (λ u. enter_waits job g was ids (i + 1) u) (or_true fault)))
+replay_wait : (k : ℕ) (job : Job) (g : ℕ) (was : Bool) (ids : List ℕ) (i : ℕ) (fault : Bool) (reply : WaitAnswer) (told : Bool)
+    → Replays k job (Waits g was ids i fault) (wait_block k g i (get_or ids i 0) (record { answer = reply; told = told }))
+    (enter_waits job g was ids (i + 1) (fault || wait_failed (record { answer = reply; told = told })))
+replay_wait k job g was ids i fault (Exit n) told = (refl, refl)
+replay_wait k job g was ids i fault Signal told = (refl, (refl, ap (λ u. enter_waits job g was ids (i + 1) u) (or_true fault)))
+replay_wait k job g was ids i fault Lost told = (refl, (refl, ap (λ u. enter_waits job g was ids (i + 1) u) (or_true fault)))
 
 -- the report of a refused start, and the closing of the pipe, are replayed
 replay_refused : (k : ℕ) (job : Job) (g : ℕ) (was : Bool) (ids : List ℕ) (why : NotStarted) (t : Bool)
@@ -129,30 +130,31 @@ replay_starts k job g was ids refused (c ∷ d ∷ cs) (start.Started id ∷ xs)
     )
 
 -- a block that begins at a stage between blocks is replayed, if the group that it starts has a command
-pub replays : (k : ℕ) (job : Job) (s : Stage) (b : Block) (m : Stage) → ((g : ℕ) (was : Bool) (ids : List ℕ) → s ≡ Starts g was ids
-    → (ids ≡ []) × (0 < length (group_at job g))) → OneBlock k job s b m → Replays k job s b m
-replays k job (Claims i) b m filled o = subst (λ c. Replays k job (Claims i) c m) (sym o.is)
-    (to_stage k job (Claims i) (claim_block k i o.a) (if is_claimed o.a.answer then enter_claims job (i + 1) else Ended) m (sym o.leads)
+pub replays : (k : ℕ) (job : Job) (stage : Stage) (block : Block) (next : Stage) → ((g : ℕ) (was : Bool) (ids : List ℕ) → stage
+    ≡ Starts g was ids
+    → (ids ≡ []) × (0 < length (group_at job g))) → OneBlock k job stage block next → Replays k job stage block next
+replays k job (Claims i) block next filled o = subst (λ c. Replays k job (Claims i) c next) (sym o.is)
+    (to_stage k job (Claims i) (claim_block k i o.a) (if is_claimed o.a.answer then enter_claims job (i + 1) else Ended) next (sym o.leads)
     (replay_claim k job i o.a.answer o.a.told))
-replays k job (ClaimReport i x) b m filled o = absurd o
-replays k job (Starts g was ids) b m filled o = by (filled g was ids refl)
+replays k job (ClaimReport i x) block next filled o = absurd o
+replays k job (Starts g was ids) block next filled o = by (filled g was ids refl)
   where
-    by : (ids ≡ []) × (0 < length (group_at job g)) → Replays k job (Starts g was ids) b m
-    by f = subst (λ c. Replays k job (Starts g was ids) c m) (sym o.is)
+    by : (ids ≡ []) × (0 < length (group_at job g)) → Replays k job (Starts g was ids) block next
+    by f = subst (λ c. Replays k job (Starts g was ids) c next) (sym o.is)
         (to_stage k job (Starts g was ids) (starts_block k g (length (group_at job g)) 0 o.refused o.xs)
-        (enter_waits job g was (ids_of o.xs) 0 (any_refused o.xs)) m (sym o.leads)
+        (enter_waits job g was (ids_of o.xs) 0 (any_refused o.xs)) next (sym o.leads)
         (subst (λ l. Replays k job (Starts g was l) (starts_block k g (length (group_at job g)) 0 o.refused o.xs)
         (enter_waits job g was (ids_of o.xs) 0 (any_refused o.xs))) (sym f.0) (replay_starts k job g was [] o.refused (group_at job g)
         o.xs 0 refl (omega arith) f.1 o.fit)))
-replays k job (StartReport g was ids why) b m filled o = absurd o
-replays k job (Closing g was ids why told) b m filled o = absurd o
-replays k job (Waits g was ids i fault) b m filled o = subst (λ c. Replays k job (Waits g was ids i fault) c m) (sym o.is)
+replays k job (StartReport g was ids why) block next filled o = absurd o
+replays k job (Closing g was ids why told) block next filled o = absurd o
+replays k job (Waits g was ids i fault) block next filled o = subst (λ c. Replays k job (Waits g was ids i fault) c next) (sym o.is)
     (to_stage k job (Waits g was ids i fault) (wait_block k g i (get_or ids i 0) o.a)
-    (enter_waits job g was ids (i + 1) (fault || wait_failed o.a)) m (sym o.leads)
+    (enter_waits job g was ids (i + 1) (fault || wait_failed o.a)) next (sym o.leads)
     (replay_wait k job g was ids i fault o.a.answer o.a.told))
-replays k job (WaitReport g was ids i fault x) b m filled o = absurd o
-replays k job (Removals i) b m filled o = subst (λ c. Replays k job (Removals i) c m) (sym o.is)
-    (to_stage k job (Removals i) (removal_block (place.OnFailure k i) o.a) (enter_removals job (i + 1)) m (sym o.leads)
+replays k job (WaitReport g was ids i fault x) block next filled o = absurd o
+replays k job (Removals i) block next filled o = subst (λ c. Replays k job (Removals i) c next) (sym o.is)
+    (to_stage k job (Removals i) (removal_block (place.OnFailure k i) o.a) (enter_removals job (i + 1)) next (sym o.leads)
     (replay_removal k job i o.a.answer o.a.told))
-replays k job (RemovalReport i) b m filled o = absurd o
-replays k job Ended b m filled o = absurd o
+replays k job (RemovalReport i) block next filled o = absurd o
+replays k job Ended block next filled o = absurd o

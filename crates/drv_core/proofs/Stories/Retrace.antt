@@ -34,15 +34,17 @@ use Rattle.std.proofs.Common.{if◌then◌else◌, length, length-append, nat_lt
 -- began that is open at stage s. `Filled` says that no group of a job is empty. `after job s a` is the stage after the answer.
 
 -- the same events, from the same stage on, lead to only one stage
-pub same_end : (k : ℕ) (job : Job) (s : Stage) (E : List RunEvent) (m n : Stage) → Replays k job s E m → Replays k job s E n → m ≡ n
-same_end k job s [] m n p q = sym p ∙ q
-same_end k job s (e ∷ E) m n p q = same_end k job (after job s e.answer) E m n p.1 q.1
+pub same_end : (k : ℕ) (job : Job) (stage : Stage) (E : List RunEvent) (one other : Stage) → Replays k job stage E one
+    → Replays k job stage E other → one ≡ other
+same_end k job stage [] one other p q = sym p ∙ q
+same_end k job stage (e ∷ E) one other p q = same_end k job (after job stage e.answer) E one other p.1 q.1
 
 -- events that lead to a stage, and events that lead on from it
-pub replays_then : (k : ℕ) (job : Job) (s : Stage) (E : List RunEvent) (t : Stage) (F : List RunEvent) (m : Stage) → Replays k job s E t
-    → Replays k job t F m → Replays k job s (E ++ F) m
-replays_then k job s [] t F m p q = subst (λ u. Replays k job u F m) (sym p) q
-replays_then k job s (e ∷ E) t F m p q = (p.0, replays_then k job (after job s e.answer) E t F m p.1 q)
+pub replays_then : (k : ℕ) (job : Job) (stage : Stage) (E : List RunEvent) (middle : Stage) (more : List RunEvent) (next : Stage)
+    → Replays k job stage E middle
+    → Replays k job middle more next → Replays k job stage (E ++ more) next
+replays_then k job stage [] middle more next p q = subst (λ u. Replays k job u more next) (sym p) q
+replays_then k job stage (e ∷ E) middle more next p q = (p.0, replays_then k job (after job stage e.answer) E middle more next p.1 q)
 
 -- a valid stage stays valid after a block
 

@@ -223,21 +223,23 @@ waits_done k job g started false ids i bs past groups w =
     }
 
 -- one more wait before blocks that show the waits after it
-waits_more : (k : ℕ) (job : Job) (g : ℕ) (started fault : Bool) (ids : List ℕ) (i : ℕ) (b : Block) (bs : List Block) (a : Told WaitAnswer)
-    → i < length ids → b ≡ wait_block k g i (get_or ids i 0) a
-    → TellsWaits k job g started ids (i + 1) (fault || wait_failed a) bs → TellsWaits k job g started ids i fault (b ∷ bs)
-waits_more k job g started fault ids i b bs a lt is more = record {
-  ws = a ∷ more.ws;
+waits_more : (k : ℕ) (job : Job) (g : ℕ) (started fault : Bool) (ids : List ℕ) (i : ℕ) (block : Block) (bs : List Block) (reply : Told
+    WaitAnswer)
+    → i < length ids → block ≡ wait_block k g i (get_or ids i 0) reply
+    → TellsWaits k job g started ids (i + 1) (fault || wait_failed reply) bs → TellsWaits k job g started ids i fault (block ∷ bs)
+waits_more k job g started fault ids i block bs reply lt is more = record {
+  ws = reply ∷ more.ws;
   gs = more.gs;
   rs = more.rs;
-  is = ap (λ l. l ∷ bs) is ∙ ap (λ l. wait_block k g i (get_or ids i 0) a ∷ l) more.is
-      ∙ ap (λ l. waits_for k g i l (a ∷ more.ws) ++ (group_blocks k (g + 1) (drop (g + 1) job.groups) more.gs ++ own_removals k 0 more.rs))
+  is = ap (λ l. l ∷ bs) is ∙ ap (λ l. wait_block k g i (get_or ids i 0) reply ∷ l) more.is
+      ∙ ap (λ l. waits_for k g i l (reply ∷ more.ws) ++ (group_blocks k (g + 1) (drop (g + 1) job.groups) more.gs
+      ++ own_removals k 0 more.rs))
       (sym (drop_more ids i 0 lt));
   same = ap (λ (n : ℕ). suc n) more.same ∙ sym (ap (λ l. length l) (drop_more ids i 0 lt));
   all = ap (λ (t : Bool). if t then none more.gs else whole_groups (drop (g + 1) job.groups) more.gs)
-      (sym (or_assoc fault (wait_failed a) (list_any wait_failed more.ws))) ∙ more.all;
+      (sym (or_assoc fault (wait_failed reply) (list_any wait_failed more.ws))) ∙ more.all;
   many = more.many ∙ ap (λ (t : Bool). length (failed_removals ((t || list_any group_failed more.gs) && (started || any_child more.gs))
-      job)) (or_assoc fault (wait_failed a) (list_any wait_failed more.ws));
+      job)) (or_assoc fault (wait_failed reply) (list_any wait_failed more.ws));
 }
 
 -- the starts of a group, before blocks that show its waits and what follows them

@@ -37,36 +37,44 @@ use Rattle.std.proofs.Common.{if◌then◌else◌, length, min, nat_eq, nat_lt, 
 -- stage s.
 
 -- tests that agree on all sources permit the same sources to go on
-may_go_same : (n N : ℕ) (b c l m f g w x : ℕ → Bool) (k : ℕ) → k < n → ((j : ℕ) → j < n → b j ≡ c j) → ((j : ℕ) → j < n → l j ≡ m j)
-    → ((j : ℕ) → j < n → f j ≡ g j) → (m k ≡ true → w k ≡ x k) → may_go_on n N b l f w k ≡ may_go_on n N c m g x k
-may_go_same n N b c l m f g w x k lt bs ls fs ws = ap (λ (t : Bool). t && (nat_eq (count k (λ j. not (b j) && l j)) 0
-    && (nat_lt (count n (λ j. (b j || nat_eq j k) && l j)) (N + 1) && (not (w k) || nat_eq (count n f) (min N (count n l)))))) (ls k lt)
-    ∙ by (m k) refl
+may_go_same : (n N : ℕ) (begun begun' left left' flying flying' waits waits' : ℕ → Bool) (k : ℕ) → k < n → ((j : ℕ) → j < n → begun j
+    ≡ begun' j) → ((j : ℕ) → j < n → left j ≡ left' j)
+    → ((j : ℕ) → j < n → flying j ≡ flying' j) → (left' k ≡ true → waits k ≡ waits' k) → may_go_on n N begun left flying waits k
+    ≡ may_go_on n N begun' left' flying' waits' k
+may_go_same n N begun begun' left left' flying flying' waits waits' k lt bs ls fs ws =
+    ap (λ (t : Bool). t && (nat_eq (count k (λ j. not (begun j) && left j)) 0
+    && (nat_lt (count n (λ j. (begun j || nat_eq j k) && left j)) (N + 1) && (not (waits k) || nat_eq (count n flying) (min N (count n
+    left)))))) (ls k lt)
+    ∙ by (left' k) refl
   where
     -- Plan: each part of the rule is a count of sources that pass tests, and equal tests give equal counts.
-    order : count k (λ j. not (b j) && l j) ≡ count k (λ j. not (c j) && m j)
-    order = count_same k (λ j. not (b j) && l j) (λ j. not (c j) && m j) (λ j below. ap (λ (t : Bool). not t && l j)
-        (bs j (omega (arith, lt, below))) ∙ ap (λ (t : Bool). not (c j) && t) (ls j (omega (arith, lt, below))))
+    order : count k (λ j. not (begun j) && left j) ≡ count k (λ j. not (begun' j) && left' j)
+    order = count_same k (λ j. not (begun j) && left j) (λ j. not (begun' j) && left' j) (λ j below. ap (λ (t : Bool). not t && left j)
+        (bs j (omega (arith, lt, below))) ∙ ap (λ (t : Bool). not (begun' j) && t) (ls j (omega (arith, lt, below))))
 
-    window : count n (λ j. (b j || nat_eq j k) && l j) ≡ count n (λ j. (c j || nat_eq j k) && m j)
-    window = count_same n (λ j. (b j || nat_eq j k) && l j) (λ j. (c j || nat_eq j k) && m j)
-        (λ j below. ap (λ (t : Bool). (t || nat_eq j k) && l j) (bs j below) ∙ ap (λ (t : Bool). (c j || nat_eq j k) && t) (ls j below))
+    window : count n (λ j. (begun j || nat_eq j k) && left j) ≡ count n (λ j. (begun' j || nat_eq j k) && left' j)
+    window = count_same n (λ j. (begun j || nat_eq j k) && left j) (λ j. (begun' j || nat_eq j k) && left' j)
+        (λ j below. ap (λ (t : Bool). (t || nat_eq j k) && left j) (bs j below)
+        ∙ ap (λ (t : Bool). (begun' j || nat_eq j k) && t) (ls j below))
 
-    by : (t : Bool) → m k ≡ t
-        → (t && (nat_eq (count k (λ j. not (b j) && l j)) 0 && (nat_lt (count n (λ j. (b j || nat_eq j k) && l j)) (N + 1)
-        && (not (w k) || nat_eq (count n f) (min N (count n l))))))
-        ≡ (t && (nat_eq (count k (λ j. not (c j) && m j)) 0 && (nat_lt (count n (λ j. (c j || nat_eq j k) && m j)) (N + 1)
-        && (not (x k) || nat_eq (count n g) (min N (count n m))))))
-    by true e = ap (λ i. nat_eq i 0 && (nat_lt (count n (λ j. (b j || nat_eq j k) && l j)) (N + 1)
-        && (not (w k) || nat_eq (count n f) (min N (count n l))))) order
-        ∙ ap (λ i. nat_eq (count k (λ j. not (c j) && m j)) 0
-        && (nat_lt i (N + 1) && (not (w k) || nat_eq (count n f) (min N (count n l))))) window
-        ∙ ap (λ (t : Bool). nat_eq (count k (λ j. not (c j) && m j)) 0 && (nat_lt (count n (λ j. (c j || nat_eq j k) && m j)) (N + 1)
-        && (not t || nat_eq (count n f) (min N (count n l))))) (ws e)
-        ∙ ap (λ i. nat_eq (count k (λ j. not (c j) && m j)) 0 && (nat_lt (count n (λ j. (c j || nat_eq j k) && m j)) (N + 1)
-        && (not (x k) || nat_eq i (min N (count n l))))) (count_same n f g fs)
-        ∙ ap (λ i. nat_eq (count k (λ j. not (c j) && m j)) 0 && (nat_lt (count n (λ j. (c j || nat_eq j k) && m j)) (N + 1)
-        && (not (x k) || nat_eq (count n g) (min N i)))) (count_same n l m ls)
+    by : (t : Bool) → left' k ≡ t
+        → (t && (nat_eq (count k (λ j. not (begun j) && left j)) 0 && (nat_lt (count n (λ j. (begun j || nat_eq j k) && left j)) (N + 1)
+        && (not (waits k) || nat_eq (count n flying) (min N (count n left))))))
+        ≡ (t && (nat_eq (count k (λ j. not (begun' j) && left' j)) 0 && (nat_lt (count n (λ j. (begun' j || nat_eq j k) && left' j)) (N + 1)
+        && (not (waits' k) || nat_eq (count n flying') (min N (count n left'))))))
+    by true e = ap (λ i. nat_eq i 0 && (nat_lt (count n (λ j. (begun j || nat_eq j k) && left j)) (N + 1)
+        && (not (waits k) || nat_eq (count n flying) (min N (count n left))))) order
+        ∙ ap (λ i. nat_eq (count k (λ j. not (begun' j) && left' j)) 0
+        && (nat_lt i (N + 1) && (not (waits k) || nat_eq (count n flying) (min N (count n left))))) window
+        ∙ ap (λ (t : Bool). nat_eq (count k (λ j. not (begun' j) && left' j)) 0 && (nat_lt (count n (λ j. (begun' j || nat_eq j k) && left'
+        j)) (N + 1)
+        && (not t || nat_eq (count n flying) (min N (count n left))))) (ws e)
+        ∙ ap (λ i. nat_eq (count k (λ j. not (begun' j) && left' j)) 0 && (nat_lt (count n (λ j. (begun' j || nat_eq j k) && left' j)) (N +
+        1)
+        && (not (waits' k) || nat_eq i (min N (count n left))))) (count_same n flying flying' fs)
+        ∙ ap (λ i. nat_eq (count k (λ j. not (begun' j) && left' j)) 0 && (nat_lt (count n (λ j. (begun' j || nat_eq j k) && left' j)) (N +
+        1)
+        && (not (waits' k) || nat_eq (count n flying') (min N i)))) (count_same n left left' ls)
     by false e = refl
 
 -- the stage of each source after its blocks
@@ -131,29 +139,30 @@ pub record Seen (plan : Plan) (N : ℕ) (f : Fleet) (E : List RunEvent) (g : Goi
 
 -- any split of the events says of the sources what the code's own says
 pub seen : (plan : Plan) (N : ℕ) (f : Fleet) (E : List RunEvent) → FilledPlan plan
-    → (g : Going plan.jobs N f E) (b : BetweenBlocks plan N E) → Seen plan N f E g b
-seen plan N f E filled g b = record { out = out; tests = tests }
+    → (g : Going plan.jobs N f E) (between : BetweenBlocks plan N E) → Seen plan N f E g between
+seen plan N f E filled g between = record { out = out; tests = tests }
   where
     -- Plan: the events of each source are the same in both splits (`lane`, `events_same`), so its stage is (`stage_is`), and each test of
     -- the rule (`has_same` to `waits_same`).
     in_range : f.current < length plan.jobs
     in_range = is_less f.current (length plan.jobs) g.may.is_source
 
-    lane : (j : ℕ) → events_of (of j (with_open plan.jobs N g.st f.current E g.run)) ≡ events_of (of j b.blocks)
-    lane j = same_lane (length plan.jobs) j (with_open plan.jobs N g.st f.current E g.run) b.blocks
-        (running_owned (length plan.jobs) plan.jobs N g.st f.current E g.run) (between_owned plan N E b)
-        (sym (open_events plan.jobs N g.st f.current E g.run) ∙ b.events)
+    lane : (j : ℕ) → events_of (of j (with_open plan.jobs N g.st f.current E g.run)) ≡ events_of (of j between.blocks)
+    lane j = same_lane (length plan.jobs) j (with_open plan.jobs N g.st f.current E g.run) between.blocks
+        (running_owned (length plan.jobs) plan.jobs N g.st f.current E g.run) (between_owned plan N E between)
+        (sym (open_events plan.jobs N g.st f.current E g.run) ∙ between.events)
 
-    stage_is : (j : ℕ) → (lt : j < length plan.jobs) → g.st j ≡ (fate_at plan N E b j lt).t
-    stage_is j lt = same_end j (get_or plan.jobs j no_job) (begin (get_or plan.jobs j no_job)) (events_of (of j b.blocks)) (g.st j)
-        (fate_at plan N E b j lt).t
+    stage_is : (j : ℕ) → (lt : j < length plan.jobs) → g.st j ≡ (fate_at plan N E between j lt).t
+    stage_is j lt = same_end j (get_or plan.jobs j no_job) (begin (get_or plan.jobs j no_job)) (events_of (of j between.blocks)) (g.st j)
+        (fate_at plan N E between j lt).t
         (subst (λ F. Replays j (get_or plan.jobs j no_job) (begin (get_or plan.jobs j no_job)) F (g.st j)) (lane j)
         (lane_replays plan.jobs N g.st f.current E g.run filled.jobs j lt))
-        (fate_replays j (get_or plan.jobs j no_job) (of j b.blocks) (b.left j) (b.waits j) (filled.jobs j) (fate_at plan N E b j lt))
+        (fate_replays j (get_or plan.jobs j no_job) (of j between.blocks) (between.left j) (between.waits j) (filled.jobs j) (fate_at plan
+        N E between j lt))
 
     out_at : inside (g.st f.current) ≡ false
-    out_at = ap inside (stage_is f.current in_range) ∙ sound_out (fate_at plan N E b f.current in_range).t
-        (fate_at plan N E b f.current in_range).sound
+    out_at = ap inside (stage_is f.current in_range) ∙ sound_out (fate_at plan N E between f.current in_range).t
+        (fate_at plan N E between f.current in_range).sound
 
     out : inside (stage_in f f.current) ≡ false
     out = ap inside (g.at f.current) ∙ out_at
@@ -166,26 +175,30 @@ seen plan N f E filled g b = record { out = out; tests = tests }
         ∙ append-nil (events_of (of j g.run.blocks))
     nothing_open j false = ap (λ l. events_of l) (append-nil (of j g.run.blocks))
 
-    events_same : (j : ℕ) → events_of (of j b.blocks) ≡ events_of (of j g.run.blocks)
+    events_same : (j : ℕ) → events_of (of j between.blocks) ≡ events_of (of j g.run.blocks)
     events_same j = sym (lane j) ∙ ap (λ l. events_of l) (own_blocks plan.jobs N g.st f.current E g.run j)
         ∙ nothing_open j (nat_eq f.current j)
 
-    has_same : (j : ℕ) → j < length plan.jobs → has j b.blocks ≡ has j g.run.blocks
-    has_same j lt = ap not (sym (none_events j (get_or plan.jobs j no_job) (of j b.blocks) (fate_at plan N E b j lt).t (filled.jobs j)
-        (fate_at plan N E b j lt).path) ∙ ap (λ (l : List RunEvent). none l) (events_same j)
+    has_same : (j : ℕ) → j < length plan.jobs → has j between.blocks ≡ has j g.run.blocks
+    has_same j lt = ap not (sym (none_events j (get_or plan.jobs j no_job) (of j between.blocks) (fate_at plan N E between j lt).t
+        (filled.jobs j)
+        (fate_at plan N E between j lt).path) ∙ ap (λ (l : List RunEvent). none l) (events_same j)
         ∙ none_events j (get_or plan.jobs j no_job) (of j g.run.blocks) (bases g.st j) (filled.jobs j) (g.run.keep.stand.paths j lt))
 
-    left_same : (j : ℕ) → j < length plan.jobs → b.left j ≡ left (stage_in f j)
-    left_same j lt = sym (fate_at plan N E b j lt).left_is ∙ ap left (sym (stage_is j lt)) ∙ sym (ap left (g.at j))
+    left_same : (j : ℕ) → j < length plan.jobs → between.left j ≡ left (stage_in f j)
+    left_same j lt = sym (fate_at plan N E between j lt).left_is ∙ ap left (sym (stage_is j lt)) ∙ sym (ap left (g.at j))
 
-    flying_same : (j : ℕ) → j < length plan.jobs → in_flight (of j b.blocks) ≡ in_flight (of j g.run.blocks)
+    flying_same : (j : ℕ) → j < length plan.jobs → in_flight (of j between.blocks) ≡ in_flight (of j g.run.blocks)
     flying_same j lt = ap (λ F. nat_lt (total waits_child F) (total starts_child F)) (events_same j)
 
-    waits_same : (j : ℕ) → (lt : j < length plan.jobs) → left (stage_in f j) ≡ true → b.waits j ≡ nat_lt 0 (pending (stage_in f j))
-    waits_same j lt e = sym ((fate_at plan N E b j lt).waits_is (left_same j lt ∙ e)) ∙ ap (λ s. nat_lt 0 (pending s)) (sym (stage_is j lt)
+    waits_same : (j : ℕ) → (lt : j < length plan.jobs) → left (stage_in f j) ≡ true → between.waits j ≡ nat_lt 0 (pending (stage_in f j))
+    waits_same j lt e = sym ((fate_at plan N E between j lt).waits_is (left_same j lt ∙ e))
+        ∙ ap (λ s. nat_lt 0 (pending s)) (sym (stage_is j lt)
         ∙ sym (g.at j))
 
-    tests : (j : ℕ) → j < length plan.jobs → source_may plan N E b j ≡ test plan.jobs N f g.run.blocks j
-    tests j lt = may_go_same (length plan.jobs) N (λ i. has i b.blocks) (λ i. has i g.run.blocks) b.left (λ i. left (stage_in f i))
-        (λ i. in_flight (of i b.blocks)) (λ i. in_flight (of i g.run.blocks)) b.waits (λ i. nat_lt 0 (pending (stage_in f i))) j lt
+    tests : (j : ℕ) → j < length plan.jobs → source_may plan N E between j ≡ test plan.jobs N f g.run.blocks j
+    tests j lt = may_go_same (length plan.jobs) N (λ i. has i between.blocks) (λ i. has i g.run.blocks) between.left (λ i. left (stage_in f
+        i))
+        (λ i. in_flight (of i between.blocks)) (λ i. in_flight (of i g.run.blocks)) between.waits (λ i. nat_lt 0 (pending (stage_in f i)))
+        j lt
         has_same left_same flying_same (waits_same j lt)

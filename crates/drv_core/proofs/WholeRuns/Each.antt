@@ -91,8 +91,9 @@ by_source P n (b ∷ bs) under all = (first.0, by_source P n bs under.1 (λ j lt
     others false j e = e
 
 -- each block of the sources in a whole run has it
-pub of_sources : (P : Block → Type 0) (kinds : Kinds P) (plan : Plan) (N : ℕ) (o : Answers) (E : List RunEvent) (w : Windowed plan N o E)
-    → Each P (blocks_of w.blocks)
-of_sources P kinds plan N o E w = by_source P (length plan.jobs) w.blocks (all_below (length plan.jobs) N nowhere [] w.blocks w.may_come)
-    (λ j lt. subst (λ l. Each P l) (sym (story_is plan N o E w j lt)) (of_story P kinds j (get_or plan.jobs j no_job)
+pub of_sources : (P : Block → Type 0) (kinds : Kinds P) (plan : Plan) (N : ℕ) (o : Answers) (E : List RunEvent) (run : Windowed plan N o E)
+    → Each P (blocks_of run.blocks)
+of_sources P kinds plan N o E run =
+    by_source P (length plan.jobs) run.blocks (all_below (length plan.jobs) N nowhere [] run.blocks run.may_come)
+    (λ j lt. subst (λ l. Each P l) (sym (story_is plan N o E run j lt)) (of_story P kinds j (get_or plan.jobs j no_job)
     (get_or o.jobs j no_answers)))

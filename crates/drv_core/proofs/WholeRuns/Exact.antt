@@ -118,10 +118,10 @@ whole_link plan N o E w = and_second (whole_jobs plan.jobs o.jobs) (whole_job (l
     (nat_eq (length o.last) (length (removed_at_end plan o))) w.all_answers)
 
 -- a source's blocks in a whole run are its story
-pub story_is : (plan : Plan) (N : ℕ) (o : Answers) (E : List RunEvent) (w : Windowed plan N o E) (j : ℕ) → j < length plan.jobs
-    → of j w.blocks ≡ story j (get_or plan.jobs j no_job) (get_or o.jobs j no_answers)
-story_is plan N o E w j lt = subst (λ n. of n w.blocks ≡ story n (get_or plan.jobs j no_job) (get_or o.jobs j no_answers))
-    (let e : 0 + j ≡ j = omega arith in e) (told_at w.blocks 0 plan.jobs o.jobs (all_whole_jobs plan N o E w) w.stories j lt)
+pub story_is : (plan : Plan) (N : ℕ) (o : Answers) (E : List RunEvent) (run : Windowed plan N o E) (j : ℕ) → j < length plan.jobs
+    → of j run.blocks ≡ story j (get_or plan.jobs j no_job) (get_or o.jobs j no_answers)
+story_is plan N o E run j lt = subst (λ n. of n run.blocks ≡ story n (get_or plan.jobs j no_job) (get_or o.jobs j no_answers))
+    (let e : 0 + j ≡ j = omega arith in e) (told_at run.blocks 0 plan.jobs o.jobs (all_whole_jobs plan N o E run) run.stories j lt)
 
 -- each block of a whole run belongs to its owner
 pub whole_owned : (plan : Plan) (N : ℕ) (o : Answers) (E : List RunEvent) (w : Windowed plan N o E)
@@ -166,15 +166,15 @@ of_all plan o blocks j = of_append j blocks (tag (length plan.jobs) (story (leng
     (of_tag j (suc (length plan.jobs)) (end_removals (removed_at_end plan o) o.last)))
 
 -- among all blocks a source has those of its story
-pub source_of_all : (plan : Plan) (N : ℕ) (o : Answers) (E : List RunEvent) (w : Windowed plan N o E) (j : ℕ) → j < length plan.jobs
-    → of j (all_blocks plan o w.blocks) ≡ story j (get_or plan.jobs j no_job) (get_or o.jobs j no_answers)
-source_of_all plan N o E w j lt = of_all plan o w.blocks j
-    ∙ ap (λ (t : Bool). of j w.blocks ++ ((if t then story (length plan.jobs) (link_run plan.link o.jobs) o.link else [])
+pub source_of_all : (plan : Plan) (N : ℕ) (o : Answers) (E : List RunEvent) (run : Windowed plan N o E) (j : ℕ) → j < length plan.jobs
+    → of j (all_blocks plan o run.blocks) ≡ story j (get_or plan.jobs j no_job) (get_or o.jobs j no_answers)
+source_of_all plan N o E run j lt = of_all plan o run.blocks j
+    ∙ ap (λ (t : Bool). of j run.blocks ++ ((if t then story (length plan.jobs) (link_run plan.link o.jobs) o.link else [])
     ++ (if nat_eq (suc (length plan.jobs)) j then end_removals (removed_at_end plan o) o.last else [])))
     (apart_above (length plan.jobs) j lt)
-    ∙ ap (λ (t : Bool). of j w.blocks ++ (if t then end_removals (removed_at_end plan o) o.last else []))
+    ∙ ap (λ (t : Bool). of j run.blocks ++ (if t then end_removals (removed_at_end plan o) o.last else []))
     (apart_above (suc (length plan.jobs)) j (omega (arith, lt)))
-    ∙ append-nil (of j w.blocks) ∙ story_is plan N o E w j lt
+    ∙ append-nil (of j run.blocks) ∙ story_is plan N o E run j lt
 
 -- each owner has the same events, however the whole is split into blocks
 pub same_lane : (n j : ℕ) (xs ys : List SourceBlock) → AllOwned n xs → AllOwned n ys → events_of (blocks_of xs) ≡ events_of (blocks_of ys)

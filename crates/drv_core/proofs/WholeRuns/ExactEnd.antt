@@ -159,18 +159,19 @@ whole_is : (plan : Plan) (N : ℕ) (o : Answers) (E : List RunEvent) (w : Window
 whole_is plan N o E w = refl
 
 -- a whole run, and the sources with what follows them, have the same events of each source, of the link and of the removals
-taken_apart : (plan : Plan) (N : ℕ) (o : Answers) (E : List RunEvent) (w : Windowed plan N o E) (S : List RunEvent)
-    (ran : Ran plan.jobs N S) (own last : List Block) → AllOwned (length plan.jobs) (tag (length plan.jobs) own)
-    → AllOwned (length plan.jobs) (tag (suc (length plan.jobs)) last) → E ≡ S ++ (events_of own ++ events_of last)
-    → Apart plan N o S ran own last
-taken_apart plan N o E w S ran own last x y is = record {
-  sources = λ j lt. ap events_of (sym (source_of_all plan N o E w j lt)) ∙ lanes j ∙ ap events_of (source_after plan N S ran own last j lt);
+taken_apart : (plan : Plan) (N : ℕ) (o : Answers) (E : List RunEvent) (w : Windowed plan N o E) (sources : List RunEvent)
+    (ran : Ran plan.jobs N sources) (own last : List Block) → AllOwned (length plan.jobs) (tag (length plan.jobs) own)
+    → AllOwned (length plan.jobs) (tag (suc (length plan.jobs)) last) → E ≡ sources ++ (events_of own ++ events_of last)
+    → Apart plan N o sources ran own last
+taken_apart plan N o E w sources ran own last x y is = record {
+  sources = λ j lt. ap events_of (sym (source_of_all plan N o E w j lt)) ∙ lanes j
+      ∙ ap events_of (source_after plan N sources ran own last j lt);
   link = ap events_of (sym (link_following plan N (events_of (blocks_of w.blocks)) (sources_of plan N o E w)
       (story (length plan.jobs) (link_run plan.link o.jobs) o.link) (end_removals (removed_at_end plan o) o.last)))
-      ∙ lanes (length plan.jobs) ∙ ap events_of (link_following plan N S ran own last);
+      ∙ lanes (length plan.jobs) ∙ ap events_of (link_following plan N sources ran own last);
   removals = ap events_of (sym (last_after plan N (events_of (blocks_of w.blocks)) (sources_of plan N o E w)
       (story (length plan.jobs) (link_run plan.link o.jobs) o.link) (end_removals (removed_at_end plan o) o.last)))
-      ∙ lanes (suc (length plan.jobs)) ∙ ap events_of (last_after plan N S ran own last);
+      ∙ lanes (suc (length plan.jobs)) ∙ ap events_of (last_after plan N sources ran own last);
 }
   where
     lanes : (j : ℕ) → events_of (of j (all_blocks plan o w.blocks)) ≡ events_of (of j (following_sources plan N S ran own last))
@@ -179,17 +180,18 @@ taken_apart plan N o E w S ran own last x y is = record {
         ∙ after_is plan N S ran own last)
 
 -- a whole run, and the sources with what follows them, have the same greatest code, so the same link
-same_link : (plan : Plan) (N : ℕ) (o : Answers) (E : List RunEvent) (w : Windowed plan N o E) (S : List RunEvent) (ran : Ran plan.jobs N S)
+same_link : (plan : Plan) (N : ℕ) (o : Answers) (E : List RunEvent) (run : Windowed plan N o E) (sources : List RunEvent) (ran : Ran
+    plan.jobs N sources)
     → ((j : ℕ) → j < length plan.jobs → events_of (story j (get_or plan.jobs j no_job) (get_or o.jobs j no_answers)) ≡ events_of
     (of j ran.blocks)) → link_run plan.link o.jobs ≡ link_run plan.link ran.run.answers
-same_link plan N o E w S ran each = link_is plan N (events_of (blocks_of w.blocks)) (sources_of plan N o E w)
-    ∙ ap (λ c. link_by plan.link c) codes ∙ sym (link_is plan N S ran)
+same_link plan N o E run sources ran each = link_is plan N (events_of (blocks_of run.blocks)) (sources_of plan N o E run)
+    ∙ ap (λ c. link_by plan.link c) codes ∙ sym (link_is plan N sources ran)
   where
-    codes : run_code (events_of (blocks_of w.blocks)) ≡ run_code S
-    codes = code_blocks (length plan.jobs) w.blocks (all_below (length plan.jobs) N nowhere [] w.blocks w.may_come)
-        ∙ top_same (length plan.jobs) (λ j. run_code (events_of (of j w.blocks))) (λ j. run_code (events_of (of j ran.blocks)))
-        (λ j lt. ap (λ bs. run_code (events_of bs)) (story_is plan N o E w j lt) ∙ ap run_code (each j lt))
-        ∙ sym (code_blocks (length plan.jobs) ran.blocks (ran_below plan N S ran)) ∙ ap run_code (sym ran.events)
+    codes : run_code (events_of (blocks_of run.blocks)) ≡ run_code sources
+    codes = code_blocks (length plan.jobs) run.blocks (all_below (length plan.jobs) N nowhere [] run.blocks run.may_come)
+        ∙ top_same (length plan.jobs) (λ j. run_code (events_of (of j run.blocks))) (λ j. run_code (events_of (of j ran.blocks)))
+        (λ j lt. ap (λ bs. run_code (events_of bs)) (story_is plan N o E run j lt) ∙ ap run_code (each j lt))
+        ∙ sym (code_blocks (length plan.jobs) ran.blocks (ran_below plan N sources ran)) ∙ ap run_code (sym ran.events)
 
 -- one more block of an owner
 pub tagged : (n : ℕ) (bs : List Block) (b : Block) → AllOwned n (tag n bs) → AllOwned n (tag n (b ∷ [])) → AllOwned n (tag n (bs ++ b ∷ []))
@@ -279,17 +281,20 @@ abbrev counts_of : Plan → Answers → ℕ → ℕ
 counts_of plan o j = if nat_lt j (length plan.jobs) then claimed_count (get_or o.jobs j no_answers).claims else claimed_count o.link.claims
 
 -- a whole run, and a run at its end with the same events, remove the same files
-same_files : (plan : Plan) (N : ℕ) (o : Answers) (E : List RunEvent) (w : Windowed plan N o E) (i : ℕ) (failed : Bool) (F : List RunEvent)
-    (e : Ending plan N i failed F) (last : List Block)
-    → Apart plan N o e.sources e.ran (story (length plan.jobs) (link_run plan.link e.ran.run.answers) e.link.a) last
-    → removed_at_end plan o ≡ end_files plan N i failed F e
-same_files plan N o E w i failed F e last a =
-    due_at_end plan o (counts_of plan o) (all_whole_jobs plan N o E w) (whole_link plan N o E w) (λ j lt. of_source j lt) of_link
-    ∙ ap (λ job. due_files plan job (counts_of plan o)) (same_link plan N o E w e.sources e.ran a.sources)
-    ∙ sym (due_at_end plan (answers e.ran.run.answers e.link.a []) (counts_of plan o) e.ran.run.all e.link.all (λ j lt. of_source j lt
+same_files : (plan : Plan) (N : ℕ) (o : Answers) (E : List RunEvent) (run : Windowed plan N o E) (i : ℕ) (failed : Bool) (done : List
+    RunEvent)
+    (ending : Ending plan N i failed done) (last : List Block)
+    → Apart plan N o ending.sources ending.ran (story (length plan.jobs) (link_run plan.link ending.ran.run.answers) ending.link.a) last
+    → removed_at_end plan o ≡ end_files plan N i failed done ending
+same_files plan N o E run i failed done ending last a =
+    due_at_end plan o (counts_of plan o) (all_whole_jobs plan N o E run) (whole_link plan N o E run) (λ j lt. of_source j lt) of_link
+    ∙ ap (λ job. due_files plan job (counts_of plan o)) (same_link plan N o E run ending.sources ending.ran a.sources)
+    ∙ sym (due_at_end plan (answers ending.ran.run.answers ending.link.a []) (counts_of plan o) ending.ran.run.all ending.link.all (λ j lt.
+    of_source j lt
     ∙ tally_count j (get_or plan.jobs j no_job) (get_or plan.jobs j no_job) (get_or o.jobs j no_answers)
-    (get_or e.ran.run.answers j no_answers) (a.sources j lt ∙ ap events_of (ran_story plan N e.sources e.ran j lt)))
-    (of_link ∙ tally_count (length plan.jobs) (link_run plan.link o.jobs) (link_run plan.link e.ran.run.answers) o.link e.link.a a.link))
+    (get_or ending.ran.run.answers j no_answers) (a.sources j lt ∙ ap events_of (ran_story plan N ending.sources ending.ran j lt)))
+    (of_link ∙ tally_count (length plan.jobs) (link_run plan.link o.jobs) (link_run plan.link ending.ran.run.answers) o.link ending.link.a
+    a.link))
   where
     -- Plan: the claims are as many by both answers: of each source (`of_source`) and of the link (`of_link`).
     of_source : (j : ℕ) → j < length plan.jobs → counts_of plan o j ≡ claimed_count (get_or o.jobs j no_answers).claims
@@ -326,28 +331,29 @@ tries_owned n files rs i failed e lt = subst (λ l. AllOwned n l) (sym (tag_both
     by false = tt
 
 -- while a removal is left, the events are no whole run
-pub end_not_whole : (plan : Plan) (N i : ℕ) (failed : Bool) (E : List RunEvent) (o : Answers) (e : Ending plan N i failed E)
-    → i < length (end_files plan N i failed E e) → Windowed plan N o E → ⊥
-end_not_whole plan N i failed E o e lt w = ends_differ (end_files plan N i failed E e) o.last e.removing.rs failed i
-    (same (length o.last) (length (removed_at_end plan o)) all_last ∙ ap (λ (l : List File). length l) files) e.removing.many lt
+pub end_not_whole : (plan : Plan) (N i : ℕ) (failed : Bool) (E : List RunEvent) (o : Answers) (ending : Ending plan N i failed E)
+    → i < length (end_files plan N i failed E ending) → Windowed plan N o E → ⊥
+end_not_whole plan N i failed E o ending lt w = ends_differ (end_files plan N i failed E ending) o.last ending.removing.rs failed i
+    (same (length o.last) (length (removed_at_end plan o)) all_last ∙ ap (λ (l : List File). length l) files) ending.removing.many lt
     (ap (λ fs. events_of (end_removals fs o.last)) (sym files) ∙ apart_is.removals
-    ∙ sym (tries_are (end_files plan N i failed E e) e.removing.rs i failed))
+    ∙ sym (tries_are (end_files plan N i failed E ending) ending.removing.rs i failed))
   where
     -- Plan: the whole run would have the same files to remove (`files`) and an answer for each (`all_last`), but one is left.
-    apart_is : Apart plan N o e.sources e.ran (story (length plan.jobs) (link_run plan.link e.ran.run.answers) e.link.a)
-        (end_removals (end_files plan N i failed E e) e.removing.rs ++ tries (end_files plan N i failed E e) i failed)
-    apart_is = taken_apart plan N o E w e.sources e.ran (story (length plan.jobs) (link_run plan.link e.ran.run.answers) e.link.a)
-        (end_removals (end_files plan N i failed E e) e.removing.rs ++ tries (end_files plan N i failed E e) i failed)
-        (story_owned (length plan.jobs) (length plan.jobs) (link_run plan.link e.ran.run.answers) e.link.a)
-        (tries_owned (length plan.jobs) (end_files plan N i failed E e) e.removing.rs i failed
-        (end_only plan (answers e.ran.run.answers e.link.a [])) lt)
-        (e.split ∙ ap (λ l. e.sources ++ (l ++ e.last)) e.link.events
-        ∙ ap (λ l. e.sources ++ (events_of (story (length plan.jobs) (link_run plan.link e.ran.run.answers) e.link.a) ++ l))
-        (e.removing.events ∙ tries_are (end_files plan N i failed E e) e.removing.rs i failed))
+    apart_is : Apart plan N o ending.sources ending.ran (story (length plan.jobs) (link_run plan.link ending.ran.run.answers) ending.link.a)
+        (end_removals (end_files plan N i failed E ending) ending.removing.rs ++ tries (end_files plan N i failed E ending) i failed)
+    apart_is = taken_apart plan N o E w ending.sources ending.ran (story (length plan.jobs) (link_run plan.link ending.ran.run.answers)
+        ending.link.a)
+        (end_removals (end_files plan N i failed E ending) ending.removing.rs ++ tries (end_files plan N i failed E ending) i failed)
+        (story_owned (length plan.jobs) (length plan.jobs) (link_run plan.link ending.ran.run.answers) ending.link.a)
+        (tries_owned (length plan.jobs) (end_files plan N i failed E ending) ending.removing.rs i failed
+        (end_only plan (answers ending.ran.run.answers ending.link.a [])) lt)
+        (ending.split ∙ ap (λ l. ending.sources ++ (l ++ ending.last)) ending.link.events
+        ∙ ap (λ l. ending.sources ++ (events_of (story (length plan.jobs) (link_run plan.link ending.ran.run.answers) ending.link.a) ++ l))
+        (ending.removing.events ∙ tries_are (end_files plan N i failed E ending) ending.removing.rs i failed))
 
-    files : removed_at_end plan o ≡ end_files plan N i failed E e
-    files = same_files plan N o E w i failed E e (end_removals (end_files plan N i failed E e) e.removing.rs
-        ++ tries (end_files plan N i failed E e) i failed) apart_is
+    files : removed_at_end plan o ≡ end_files plan N i failed E ending
+    files = same_files plan N o E w i failed E ending (end_removals (end_files plan N i failed E ending) ending.removing.rs
+        ++ tries (end_files plan N i failed E ending) i failed) apart_is
 
     all_last : nat_eq (length o.last) (length (removed_at_end plan o)) ≡ true
     all_last = and_second (whole_jobs plan.jobs o.jobs && whole_job (link_run plan.link o.jobs) o.link)

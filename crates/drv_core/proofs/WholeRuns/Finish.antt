@@ -298,20 +298,21 @@ summed_same zero f g e = refl
 summed_same (suc n) f g e = rw (e n (omega arith), summed_same n f g (λ j lt. e j (omega arith))) refl
 
 -- a function that is less at one number, and the same elsewhere, has a smaller sum
-pub summed_less : (n k : ℕ) (f g : ℕ → ℕ) → k < n → g k < f k → ((j : ℕ) → nat_eq k j ≡ false → g j ≡ f j) → summed n g < summed n f
-summed_less zero k f g lt less_k others = absurd (omega arith)
-summed_less (suc n) k f g lt less_k others = by (nat_eq k n) refl (λ below. summed_less n k f g below less_k others)
+pub summed_less : (n k : ℕ) (old new : ℕ → ℕ) → k < n → new k < old k → ((j : ℕ) → nat_eq k j ≡ false → new j ≡ old j)
+    → summed n new < summed n old
+summed_less zero k old new lt less_k others = absurd (omega arith)
+summed_less (suc n) k old new lt less_k others = by (nat_eq k n) refl (λ below. summed_less n k old new below less_k others)
   where
     -- Plan: by whether the number is the last one.
-    by : (t : Bool) → nat_eq k n ≡ t → (k < n → summed n g < summed n f) → g n + summed n g < f n + summed n f
+    by : (t : Bool) → nat_eq k n ≡ t → (k < n → summed n new < summed n old) → new n + summed n new < old n + summed n old
     by true e ih =
         let is : k ≡ n = same k n e in
-        let here : g n < f n = subst (λ i. g i < f i) is less_k in
-        let rest : summed n g ≡ summed n f = summed_same n g f (λ j below. others j (grind (arith, nat_tests))) in
+        let here : new n < old n = subst (λ i. new i < old i) is less_k in
+        let rest : summed n new ≡ summed n old = summed_same n new old (λ j below. others j (grind (arith, nat_tests))) in
         omega (arith, here, rest)
     by false e ih =
-        let rest : summed n g < summed n f = ih (grind (arith, nat_tests)) in
-        let here : g n ≡ f n = others n e in
+        let rest : summed n new < summed n old = ih (grind (arith, nat_tests)) in
+        let here : new n ≡ old n = others n e in
         omega (arith, rest, here)
 
 -- blocks that complete these to a run of the sources

@@ -85,17 +85,18 @@ AllOwned n [] = ⊤
 AllOwned n (b ∷ bs) = Owned n b × AllOwned n bs
 
 -- the events of j in a block of k, and in what follows it
-lane_block : (n j k last : ℕ) (b : List RunEvent) (rest tail : List RunEvent) → AllOwn n k last b → ((l : ℕ) → lane n j l rest ≡ tail)
-    → lane n j last (b ++ rest) ≡ (if nat_eq k j then b else []) ++ tail
+lane_block : (n j k last : ℕ) (block : List RunEvent) (rest tail : List RunEvent) → AllOwn n k last block → ((l : ℕ) → lane n j l rest
+    ≡ tail)
+    → lane n j last (block ++ rest) ≡ (if nat_eq k j then block else []) ++ tail
 lane_block n j k last [] rest tail own is = is last ∙ by (nat_eq k j)
   where
     by : (t : Bool) → tail ≡ (if t then [] else []) ++ tail
     by true = refl
     by false = refl
-lane_block n j k last (e ∷ b) rest tail own is = ap (λ o. (if nat_eq o j then e ∷ [] else []) ++ lane n j o (b ++ rest)) own.0
-    ∙ ap (λ l. (if nat_eq k j then e ∷ [] else []) ++ l) (lane_block n j k k b rest tail own.1 is) ∙ by (nat_eq k j)
+lane_block n j k last (e ∷ block) rest tail own is = ap (λ o. (if nat_eq o j then e ∷ [] else []) ++ lane n j o (block ++ rest)) own.0
+    ∙ ap (λ l. (if nat_eq k j then e ∷ [] else []) ++ l) (lane_block n j k k block rest tail own.1 is) ∙ by (nat_eq k j)
   where
-    by : (t : Bool) → (if t then e ∷ [] else []) ++ ((if t then b else []) ++ tail) ≡ (if t then e ∷ b else []) ++ tail
+    by : (t : Bool) → (if t then e ∷ [] else []) ++ ((if t then block else []) ++ tail) ≡ (if t then e ∷ block else []) ++ tail
     by true = refl
     by false = refl
 
@@ -136,20 +137,20 @@ own_close n k true = (refl, tt)
 own_close n k false = tt
 
 -- the starts of a group, a report and the closing of the pipe belong to their job
-own_starts : (n k g m i : ℕ) (refused : Bool) (xs : List StartAnswer) (last : ℕ) → AllOwn n k last (starts_block k g m i refused xs)
-own_starts n k g m i refused [] last = tt
-own_starts n k g m i refused (start.Started id ∷ xs) last = (refl, own_starts n k g m (i + 1) refused xs k)
-own_starts n k g m i refused (start.NotStarted why ∷ xs) last = (refl, (refl, own_close n k (nat_lt 0 i)))
+own_starts : (n k g size i : ℕ) (refused : Bool) (xs : List StartAnswer) (last : ℕ) → AllOwn n k last (starts_block k g size i refused xs)
+own_starts n k g size i refused [] last = tt
+own_starts n k g size i refused (start.Started id ∷ xs) last = (refl, own_starts n k g size (i + 1) refused xs k)
+own_starts n k g size i refused (start.NotStarted why ∷ xs) last = (refl, (refl, own_close n k (nat_lt 0 i)))
 
 -- the report of a wait belongs to its job
-own_wait_report : (n k g i : ℕ) (x : WaitAnswer) (t : Bool) → AllOwn n k k (wait_report (place.Command k g i) x t)
-own_wait_report n k g i (Exit c) t = tt
-own_wait_report n k g i Signal t = (refl, tt)
-own_wait_report n k g i Lost t = (refl, tt)
+own_wait_report : (n k g i : ℕ) (reply : WaitAnswer) (told : Bool) → AllOwn n k k (wait_report (place.Command k g i) reply told)
+own_wait_report n k g i (Exit c) told = tt
+own_wait_report n k g i Signal told = (refl, tt)
+own_wait_report n k g i Lost told = (refl, tt)
 
 -- a wait has its job as owner
-own_wait : (n k g i id : ℕ) (w : Told WaitAnswer) (last : ℕ) → AllOwn n k last (wait_block k g i id w)
-own_wait n k g i id w last = (refl, own_wait_report n k g i w.answer w.told)
+own_wait : (n k g i id : ℕ) (reply : Told WaitAnswer) (last : ℕ) → AllOwn n k last (wait_block k g i id reply)
+own_wait n k g i id reply last = (refl, own_wait_report n k g i reply.answer reply.told)
 
 -- a job's own removal and its report belong to the job
 own_removal : (n k i : ℕ) (r : Told RemoveAnswer) (last : ℕ) → AllOwn n k last (removal_block (place.OnFailure k i) r)
@@ -230,19 +231,20 @@ story_owned n k job a = subst (λ l. AllOwned n l)
 -- the blocks that led a source to its stage
 
 -- a block that begins at a stage of job k belongs to k
-own_one : (n k : ℕ) (job : Job) (s : Stage) (b : Block) (m : Stage) → OneBlock k job s b m → (last : ℕ) → AllOwn n k last b
-own_one n k job (Claims i) b m o last = subst (λ l. AllOwn n k last l) (sym o.is) (own_claim n k i o.a last)
-own_one n k job (ClaimReport i x) b m o last = absurd o
-own_one n k job (Starts g was ids) b m o last = subst (λ l. AllOwn n k last l) (sym o.is)
+own_one : (n k : ℕ) (job : Job) (stage : Stage) (block : Block) (next : Stage) → OneBlock k job stage block next → (last : ℕ)
+    → AllOwn n k last block
+own_one n k job (Claims i) block next o last = subst (λ l. AllOwn n k last l) (sym o.is) (own_claim n k i o.a last)
+own_one n k job (ClaimReport i x) block next o last = absurd o
+own_one n k job (Starts g was ids) block next o last = subst (λ l. AllOwn n k last l) (sym o.is)
     (own_starts n k g (length (group_at job g)) 0 o.refused o.xs last)
-own_one n k job (StartReport g was ids why) b m o last = absurd o
-own_one n k job (Closing g was ids why told) b m o last = absurd o
-own_one n k job (Waits g was ids i fault) b m o last = subst (λ l. AllOwn n k last l) (sym o.is)
+own_one n k job (StartReport g was ids why) block next o last = absurd o
+own_one n k job (Closing g was ids why told) block next o last = absurd o
+own_one n k job (Waits g was ids i fault) block next o last = subst (λ l. AllOwn n k last l) (sym o.is)
     (own_wait n k g i (get_or ids i 0) o.a last)
-own_one n k job (WaitReport g was ids i fault x) b m o last = absurd o
-own_one n k job (Removals i) b m o last = subst (λ l. AllOwn n k last l) (sym o.is) (own_removal n k i o.a last)
-own_one n k job (RemovalReport i) b m o last = absurd o
-own_one n k job Ended b m o last = absurd o
+own_one n k job (WaitReport g was ids i fault x) block next o last = absurd o
+own_one n k job (Removals i) block next o last = subst (λ l. AllOwn n k last l) (sym o.is) (own_removal n k i o.a last)
+own_one n k job (RemovalReport i) block next o last = absurd o
+own_one n k job Ended block next o last = absurd o
 
 -- the blocks of a path of job k belong to k
 pub path_owned : (n k : ℕ) (job : Job) (s : Stage) (bs : List Block) (m : Stage) → Path k job s bs m → AllOwned n (tag k bs)
@@ -252,9 +254,9 @@ path_owned n k job s (b ∷ bs) m p = (own_one n k job s b p.0 p.1.0, path_owned
 -- the open block
 
 -- and the starts so far of a group
-own_so_far : (n k g m i : ℕ) (ids : List ℕ) (last : ℕ) → AllOwn n k last (starts_so_far k g m i ids)
-own_so_far n k g m i [] last = tt
-own_so_far n k g m i (id ∷ ids) last = (refl, own_so_far n k g m (i + 1) ids k)
+own_so_far : (n k g size i : ℕ) (ids : List ℕ) (last : ℕ) → AllOwn n k last (starts_so_far k g size i ids)
+own_so_far n k g size i [] last = tt
+own_so_far n k g size i (id ∷ ids) last = (refl, own_so_far n k g size (i + 1) ids k)
 
 -- the starts of an open block, up to a refused one, belong to their job
 own_refused : (n k : ℕ) (job : Job) (g : ℕ) (ids : List ℕ) (why : NotStarted) (last : ℕ)

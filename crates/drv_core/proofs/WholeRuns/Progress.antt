@@ -34,22 +34,22 @@ count_fewer (suc n) p q h =
     omega arith
 
 -- a test that passes at one number more counts one more
-pub count_with : (n k : ℕ) (p q : ℕ → Bool) → k < n → p k ≡ false → q k ≡ true → ((j : ℕ) → nat_eq j k ≡ false → q j ≡ p j)
-    → count n q ≡ count n p + 1
-count_with zero k p q lt pk qk others = absurd (omega arith)
-count_with (suc n) k p q lt pk qk others = by (nat_eq n k) refl (λ below. count_with n k p q below pk qk others)
+pub count_with : (n k : ℕ) (old new : ℕ → Bool) → k < n → old k ≡ false → new k ≡ true → ((j : ℕ) → nat_eq j k ≡ false → new j ≡ old j)
+    → count n new ≡ count n old + 1
+count_with zero k old new lt pk qk others = absurd (omega arith)
+count_with (suc n) k old new lt pk qk others = by (nat_eq n k) refl (λ below. count_with n k old new below pk qk others)
   where
     -- Plan: by whether the number is the last one.
-    by : (t : Bool) → nat_eq n k ≡ t → (k < n → count n q ≡ count n p + 1)
-        → (if q n then 1 else 0) + count n q ≡ (if p n then 1 else 0) + count n p + 1
+    by : (t : Bool) → nat_eq n k ≡ t → (k < n → count n new ≡ count n old + 1)
+        → (if new n then 1 else 0) + count n new ≡ (if old n then 1 else 0) + count n old + 1
     by true e ih =
         let is : n ≡ k = same n k e in
-        let pn : p n ≡ false = subst (λ i. p i ≡ false) (sym is) pk in
-        let qn : q n ≡ true = subst (λ i. q i ≡ true) (sym is) qk in
-        let rest : count n q ≡ count n p = count_same n q p (λ j below. others j (grind (arith, nat_tests))) in
+        let pn : old n ≡ false = subst (λ i. old i ≡ false) (sym is) pk in
+        let qn : new n ≡ true = subst (λ i. new i ≡ true) (sym is) qk in
+        let rest : count n new ≡ count n old = count_same n new old (λ j below. others j (grind (arith, nat_tests))) in
         rw (pn, qn, rest) (omega arith)
     by false e ih =
-        let rest : count n q ≡ count n p + 1 = ih (grind (arith, nat_tests)) in
+        let rest : count n new ≡ count n old + 1 = ih (grind (arith, nat_tests)) in
         rw (others n e, rest) (omega arith)
 
 -- the first number below n that passes

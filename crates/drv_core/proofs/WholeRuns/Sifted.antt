@@ -100,51 +100,56 @@ no_claims f k quiet i (c ∷ cs) = flat_map-append f (claim_block k i c) (events
     by false = nothing (quiet i c.answer c.told).1 refl
 
 -- where f says nothing of a wait, the waits of a group say nothing
-pub no_waits : {X : Type 0} (f : RunEvent → List X) (k g : ℕ) → ((i id : ℕ) (x : WaitAnswer) (t : Bool)
-    → flat_map f (wait_block k g i id (record { answer = x; told = t })) ≡ [])
-    → (i : ℕ) (xs : List StartAnswer) (ws : List (Told WaitAnswer)) → sift f (wait_blocks k g i xs ws) ≡ []
-no_waits f k g quiet i [] ws = refl
-no_waits f k g quiet i (NotStarted why ∷ xs) ws = refl
-no_waits f k g quiet i (Started id ∷ xs) [] = refl
-no_waits f k g quiet i (Started id ∷ xs) (w ∷ ws) = flat_map-append f (wait_block k g i id w) (events_of (wait_blocks k g (i + 1) xs ws))
-    ∙ nothing (quiet i id w.answer w.told) (no_waits f k g quiet (i + 1) xs ws)
+pub no_waits : {X : Type 0} (pick : RunEvent → List X) (k g : ℕ) → ((i id : ℕ) (reply : WaitAnswer) (told : Bool)
+    → flat_map pick (wait_block k g i id (record { answer = reply; told = told })) ≡ [])
+    → (i : ℕ) (xs : List StartAnswer) (ws : List (Told WaitAnswer)) → sift pick (wait_blocks k g i xs ws) ≡ []
+no_waits pick k g quiet i [] ws = refl
+no_waits pick k g quiet i (NotStarted why ∷ xs) ws = refl
+no_waits pick k g quiet i (Started id ∷ xs) [] = refl
+no_waits pick k g quiet i (Started id ∷ xs) (w ∷ ws) = flat_map-append pick (wait_block k g i id w) (events_of (wait_blocks k g (i + 1) xs
+    ws))
+    ∙ nothing (quiet i id w.answer w.told) (no_waits pick k g quiet (i + 1) xs ws)
 
 -- the sources, in any order of their blocks
 
 -- where only job k's blocks say something, all blocks say what those say
-blocks : {X : Type 0} (f : RunEvent → List X) (k n : ℕ) (bs : List SourceBlock) → Below n bs
-    → ((j : ℕ) → j < n → nat_eq j k ≡ false → sift f (of j bs) ≡ []) → sift f (blocks_of bs) ≡ sift f (of k bs)
-blocks f k n [] under others = refl
-blocks f k n (b ∷ bs) under others = flat_map-append f b.block (events_of (blocks_of bs)) ∙ ap (λ l. flat_map f b.block ++ l)
-    (blocks f k n bs under.1 (λ j lt e. following (nat_eq b.source j) j (others j lt e))) ∙ by (nat_eq b.source k) refl
+blocks : {X : Type 0} (pick : RunEvent → List X) (k n : ℕ) (bs : List SourceBlock) → Below n bs
+    → ((j : ℕ) → j < n → nat_eq j k ≡ false → sift pick (of j bs) ≡ []) → sift pick (blocks_of bs) ≡ sift pick (of k bs)
+blocks pick k n [] under others = refl
+blocks pick k n (b ∷ bs) under others = flat_map-append pick b.block (events_of (blocks_of bs)) ∙ ap (λ l. flat_map pick b.block ++ l)
+    (blocks pick k n bs under.1 (λ j lt e. following (nat_eq b.source j) j (others j lt e))) ∙ by (nat_eq b.source k) refl
   where
     -- Plan: by whether the first block is job k's: then it says what it says on both sides; else it says nothing (`alone`).
-    following : (t : Bool) (j : ℕ) → sift f (if t then b.block ∷ of j bs else of j bs) ≡ [] → sift f (of j bs) ≡ []
-    following true j e = (parts (flat_map f b.block) (sift f (of j bs)) (sym (flat_map-append f b.block (events_of (of j bs))) ∙ e)).1
+    following : (t : Bool) (j : ℕ) → sift pick (if t then b.block ∷ of j bs else of j bs) ≡ [] → sift pick (of j bs) ≡ []
+    following true j e = (parts (flat_map pick b.block) (sift pick (of j bs)) (sym (flat_map-append pick b.block (events_of (of j bs)))
+        ∙ e)).1
     following false j e = e
 
-    alone : nat_eq b.source k ≡ false → flat_map f b.block ≡ []
-    alone e = (parts (flat_map f b.block) (sift f (of b.source bs)) (sym (flat_map-append f b.block (events_of (of b.source bs)))
-        ∙ sym (ap (λ (t : Bool). sift f (if t then b.block ∷ of b.source bs else of b.source bs)) (nat_eq_equiv.refl b.source))
+    alone : nat_eq b.source k ≡ false → flat_map pick b.block ≡ []
+    alone e = (parts (flat_map pick b.block) (sift pick (of b.source bs)) (sym (flat_map-append pick b.block (events_of (of b.source bs)))
+        ∙ sym (ap (λ (t : Bool). sift pick (if t then b.block ∷ of b.source bs else of b.source bs)) (nat_eq_equiv.refl b.source))
         ∙ others b.source under.0 e)).0
 
-    by : (t : Bool) → nat_eq b.source k ≡ t → flat_map f b.block ++ sift f (of k bs) ≡ sift f (if t then b.block ∷ of k bs else of k bs)
-    by true e = sym (flat_map-append f b.block (events_of (of k bs)))
-    by false e = ap (λ l. l ++ sift f (of k bs)) (alone e)
+    by : (t : Bool) → nat_eq b.source k ≡ t → flat_map pick b.block ++ sift pick (of k bs)
+        ≡ sift pick (if t then b.block ∷ of k bs else of k bs)
+    by true e = sym (flat_map-append pick b.block (events_of (of k bs)))
+    by false e = ap (λ l. l ++ sift pick (of k bs)) (alone e)
 
 -- the blocks of another source say nothing where its story doesn't
-other_sources : {X : Type 0} (f : RunEvent → List X) (k : ℕ) → ((j : ℕ) (job : Job) (a : JobAnswers) → nat_eq j k ≡ false
-    → sift f (story j job a) ≡ []) → (bs : List SourceBlock) (from : ℕ) (jobs : List Job) (xs : List JobAnswers) → whole_jobs jobs xs ≡ true
+other_sources : {X : Type 0} (pick : RunEvent → List X) (k : ℕ) → ((j : ℕ) (job : Job) (a : JobAnswers) → nat_eq j k ≡ false
+    → sift pick (story j job a) ≡ []) → (bs : List SourceBlock) (from : ℕ) (jobs : List Job) (xs : List JobAnswers)
+    → whole_jobs jobs xs ≡ true
     → TellStories bs from jobs xs
-    → (j : ℕ) → j < length jobs → nat_eq (from + j) k ≡ false → sift f (of (from + j) bs) ≡ []
-other_sources f k quiet bs from [] xs e t j lt other = absurd (omega arith)
-other_sources f k quiet bs from (job ∷ jobs) [] e t j lt other = absurd cc
-other_sources f k quiet bs from (job ∷ jobs) (a ∷ xs) e t zero lt other =
+    → (j : ℕ) → j < length jobs → nat_eq (from + j) k ≡ false → sift pick (of (from + j) bs) ≡ []
+other_sources pick k quiet bs from [] xs e t j lt other = absurd (omega arith)
+other_sources pick k quiet bs from (job ∷ jobs) [] e t j lt other = absurd cc
+other_sources pick k quiet bs from (job ∷ jobs) (a ∷ xs) e t zero lt other =
     let at : from + 0 ≡ from = omega arith in
-    ap (λ i. sift f (of i bs)) at ∙ ap (λ l. sift f l) t.0 ∙ quiet from job a (ap (λ i. nat_eq i k) (sym at) ∙ other)
-other_sources f k quiet bs from (job ∷ jobs) (a ∷ xs) e t (suc j) lt other =
+    ap (λ i. sift pick (of i bs)) at ∙ ap (λ l. sift pick l) t.0 ∙ quiet from job a (ap (λ i. nat_eq i k) (sym at) ∙ other)
+other_sources pick k quiet bs from (job ∷ jobs) (a ∷ xs) e t (suc j) lt other =
     let at : from + suc j ≡ from + 1 + j = omega arith in
-    ap (λ i. sift f (of i bs)) at ∙ other_sources f k quiet bs (from + 1) jobs xs (and_second (whole_job job a) (whole_jobs jobs xs) e) t.1
+    ap (λ i. sift pick (of i bs)) at ∙ other_sources pick k quiet bs (from + 1) jobs xs (and_second (whole_job job a) (whole_jobs jobs xs)
+    e) t.1
     j (omega arith) (ap (λ i. nat_eq i k) (sym at) ∙ other)
 
 -- a whole run
@@ -173,20 +178,23 @@ above n k (b ∷ bs) under le = ap (λ (t : Bool). if t then b.block ∷ of k bs
     (apart b.source k (let lt = under.0 in omega (arith, lt, le))) ∙ above n k bs under.1 le
 
 -- a number that no source has has no block
-pub none_above : (plan : Plan) (N : ℕ) (o : Answers) (E : List RunEvent) → (w : Windowed plan N o E) → (k : ℕ) → length plan.jobs ≤ k
-    → of k w.blocks ≡ []
-none_above plan N o E w k le = above (length plan.jobs) k w.blocks (below plan N o E w) le
+pub none_above : (plan : Plan) (N : ℕ) (o : Answers) (E : List RunEvent) → (run : Windowed plan N o E) → (k : ℕ) → length plan.jobs ≤ k
+    → of k run.blocks ≡ []
+none_above plan N o E run k le = above (length plan.jobs) k run.blocks (below plan N o E run) le
 
 -- a whole run says of job k what its blocks say, and then what comes after the sources says
-pub halves : {X : Type 0} (f : RunEvent → List X) (plan : Plan) (N : ℕ) (o : Answers) (E : List RunEvent) (w : Windowed plan N o E) (k : ℕ)
-    → ((j : ℕ) (job : Job) (a : JobAnswers) → nat_eq j k ≡ false → sift f (story j job a) ≡ [])
-    → flat_map f E ≡ sift f (of k w.blocks) ++ sift f (after_sources plan o)
-halves f plan N o E w k quiet = ap (λ l. flat_map f l) w.events ∙ flat_map-append f (events_of (blocks_of w.blocks))
+pub halves : {X : Type 0} (pick : RunEvent → List X) (plan : Plan) (window : ℕ) (o : Answers) (events : List RunEvent) (run : Windowed plan
+    window o events) (k : ℕ)
+    → ((j : ℕ) (job : Job) (replies : JobAnswers) → nat_eq j k ≡ false → sift pick (story j job replies) ≡ [])
+    → flat_map pick events ≡ sift pick (of k run.blocks) ++ sift pick (after_sources plan o)
+halves pick plan window o events run k quiet =
+    ap (λ l. flat_map pick l) run.events ∙ flat_map-append pick (events_of (blocks_of run.blocks))
     (events_of (after_sources plan o))
-    ∙ ap (λ l. l ++ sift f (after_sources plan o)) (blocks f k (length plan.jobs) w.blocks (below plan N o E w) others)
+    ∙ ap (λ l. l ++ sift pick (after_sources plan o)) (blocks pick k (length plan.jobs) run.blocks (below plan window o events run) others)
   where
-    others : (j : ℕ) → j < length plan.jobs → nat_eq j k ≡ false → sift f (of j w.blocks) ≡ []
+    others : (j : ℕ) → j < length plan.jobs → nat_eq j k ≡ false → sift pick (of j run.blocks) ≡ []
     others j lt other =
         let at : j ≡ 0 + j = omega arith in
-        ap (λ i. sift f (of i w.blocks)) at ∙ other_sources f k quiet w.blocks 0 plan.jobs o.jobs (jobs_whole plan N o E w) w.stories j lt
+        ap (λ i. sift pick (of i run.blocks)) at ∙ other_sources pick k quiet run.blocks 0 plan.jobs o.jobs (jobs_whole plan window o
+        events run) run.stories j lt
         (ap (λ i. nat_eq i k) (sym at) ∙ other)

@@ -37,10 +37,11 @@ Path k job s [] m = s ≡ m
 Path k job s (b ∷ bs) m = (t : Stage) × (OneBlock k job s b t × Path k job t bs m)
 
 -- one more block at the end of a path
-pub path_more : (k : ℕ) (job : Job) (s : Stage) (bs : List Block) (m : Stage) (b : Block) (n : Stage) → Path k job s bs m
-    → OneBlock k job m b n → Path k job s (bs ++ b ∷ []) n
-path_more k job s [] m b n p o = (n, (subst (λ t. OneBlock k job t b n) (sym p) o, refl))
-path_more k job s (c ∷ bs) m b n p o = (p.0, (p.1.0, path_more k job p.0 bs m b n p.1.1 o))
+pub path_more : (k : ℕ) (job : Job) (stage : Stage) (bs : List Block) (middle : Stage) (block : Block) (next : Stage)
+    → Path k job stage bs middle
+    → OneBlock k job middle block next → Path k job stage (bs ++ block ∷ []) next
+path_more k job stage [] middle block next p o = (next, (subst (λ t. OneBlock k job t block next) (sym p) o, refl))
+path_more k job stage (c ∷ bs) middle block next p o = (p.0, (p.1.0, path_more k job p.0 bs middle block next p.1.1 o))
 
 -- a path to the end is a `Walk`
 pub path_ends : (k : ℕ) (job : Job) (s : Stage) (bs : List Block) → Path k job s bs Ended → Walk k job s bs

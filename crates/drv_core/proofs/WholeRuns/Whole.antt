@@ -98,18 +98,21 @@ removing_first files = record { rs = []; many = refl; within = omega arith; fail
     none (f ∷ fs) = refl
 
 -- the block of one more removal
-removed_one : (files : List File) (i : ℕ) (failed : Bool) (E : List RunEvent) (x : RemoveAnswer) (t : Bool) (b : Block)
-    → (r : Removing files i failed E) → i < length files → b ≡ removal_block (file_at files i).place (record { answer = x; told = t })
-    → (E' : List RunEvent) → E' ≡ events_of (end_removals files r.rs) ++ b → Removing files (i + 1) false E'
-removed_one files i failed E x t b r lt is E' events = record {
-  rs = r.rs ++ record { answer = x; told = t } ∷ [];
-  many = (let len : length (r.rs ++ record { answer = x; told = t } ∷ []) ≡ length r.rs + 1 = length-append {A = Told RemoveAnswer} r.rs (record { answer = x; told = t } ∷ []) in let m = r.many in omega (arith, len, m));
+removed_one : (files : List File) (i : ℕ) (failed : Bool) (E : List RunEvent) (reply : RemoveAnswer) (told : Bool) (block : Block)
+    → (r : Removing files i failed E) → i < length files → block
+    ≡ removal_block (file_at files i).place (record { answer = reply; told = told })
+    → (E' : List RunEvent) → E' ≡ events_of (end_removals files r.rs) ++ block → Removing files (i + 1) false E'
+removed_one files i failed E reply told block r lt is E' events = record {
+  rs = r.rs ++ record { answer = reply; told = told } ∷ [];
+  many = (let len : length (r.rs ++ record { answer = reply; told = told } ∷ [])
+      ≡ length r.rs + 1 = length-append {A = Told RemoveAnswer} r.rs (record { answer = reply; told = told } ∷ []) in let m = r.many in
+      omega (arith, len, m));
   within = omega arith;
   failed_within = λ e. absurd cc;
   events = events ∙ ap (λ l. events_of (end_removals files r.rs) ++ l) is
-      ∙ sym (events_more (end_removals files r.rs) (removal_block (file_at files i).place (record { answer = x; told = t })))
-      ∙ ap (λ l. events_of l) (sym (end_more files r.rs i (record { answer = x; told = t }) r.many lt))
-      ∙ sym (append-nil (events_of (end_removals files (r.rs ++ record { answer = x; told = t } ∷ []))));
+      ∙ sym (events_more (end_removals files r.rs) (removal_block (file_at files i).place (record { answer = reply; told = told })))
+      ∙ ap (λ l. events_of l) (sym (end_more files r.rs i (record { answer = reply; told = told }) r.many lt))
+      ∙ sym (append-nil (events_of (end_removals files (r.rs ++ record { answer = reply; told = told } ∷ []))));
 }
 
 -- one more removal, which did not fail

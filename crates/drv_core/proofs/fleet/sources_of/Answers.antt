@@ -7,21 +7,23 @@ use Rattle.std.proofs.Common.{subst, sym, ℕ}
 use Rattle.std.proofs.lemmas.List.{drop_all, drop_more, get_or_default, map-append}
 
 -- one more source is made, and its job is no longer left
-one_more : {A B C : Type 0} (f : A → C) (g : B → C) (made new : List A) (a : A) (from : List B) (i : ℕ) (b : B)
-    → new ≡ made ++ a ∷ [] → f a ≡ g b → b ≡ get_or from i b → i < length from
-    → map f made ++ map g (drop i from) ≡ map g from → map f new ++ map g (drop (i + 1) from) ≡ map g from
-one_more f g made new a from i b is same at here so_far =
-    ap (λ n. map f n ++ map g (drop (i + 1) from)) is
-    ∙ ap (λ n. n ++ map g (drop (i + 1) from)) (map-append f made (a ∷ []))
-    ∙ append_assoc (map f made) (f a ∷ []) (map g (drop (i + 1) from))
-    ∙ ap (λ x. map f made ++ x ∷ map g (drop (i + 1) from)) (same ∙ ap g at)
-    ∙ ap (λ l. map f made ++ map g l) (sym (drop_more from i b here))
+one_more : {A B C : Type 0} (of_made : A → C) (of_from : B → C) (made new : List A) (last : A) (from : List B) (i : ℕ) (item : B)
+    → new ≡ made ++ last ∷ [] → of_made last ≡ of_from item → item ≡ get_or from i item → i < length from
+    → map of_made made ++ map of_from (drop i from) ≡ map of_from from → map of_made new ++ map of_from (drop (i + 1) from)
+    ≡ map of_from from
+one_more of_made of_from made new last from i item is same at here so_far =
+    ap (λ n. map of_made n ++ map of_from (drop (i + 1) from)) is
+    ∙ ap (λ n. n ++ map of_from (drop (i + 1) from)) (map-append of_made made (last ∷ []))
+    ∙ append_assoc (map of_made made) (of_made last ∷ []) (map of_from (drop (i + 1) from))
+    ∙ ap (λ x. map of_made made ++ x ∷ map of_from (drop (i + 1) from)) (same ∙ ap of_from at)
+    ∙ ap (λ l. map of_made made ++ map of_from l) (sym (drop_more from i item here))
     ∙ so_far
 
 -- once no job is left, all sources are made
-all_made : {A B C : Type 0} (f : A → C) (g : B → C) (made : List A) (from : List B) (i : ℕ) → length from ≤ i
-    → map f made ++ map g (drop i from) ≡ map g from → map f made ≡ map g from
-all_made f g made from i past so_far = sym (append-nil (map f made)) ∙ ap (λ l. map f made ++ map g l) (sym (drop_all i from past)) ∙ so_far
+all_made : {A B C : Type 0} (of_made : A → C) (of_from : B → C) (made : List A) (from : List B) (i : ℕ) → length from ≤ i
+    → map of_made made ++ map of_from (drop i from) ≡ map of_from from → map of_made made ≡ map of_from from
+all_made of_made of_from made from i past so_far =
+    sym (append-nil (map of_made made)) ∙ ap (λ l. map of_made made ++ map of_from l) (sym (drop_all i from past)) ∙ so_far
 
 -- what comes before n comes before i, if i is at least n
 up_to : (n i : ℕ) → n ≤ i → (j : ℕ) → j < n → j < i
