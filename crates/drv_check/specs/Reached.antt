@@ -56,8 +56,8 @@ reached_from set (suc left) i names =
     else names
 
 -- the names of the texts that are reached, where the sources have these texts
-abbrev pub reached : Roots → List (List ℕ) → Set → List (List ℕ)
-reached roots texts set = reached_from set most_texts 0 (with_pairs texts (first_names roots) set.pairs)
+abbrev pub reached_names : Roots → List (List ℕ) → Set → List (List ℕ)
+reached_names roots texts set = reached_from set most_texts 0 (with_pairs texts (first_names roots) set.pairs)
 
 -- the dump of these texts and of those of the sources
 
@@ -76,4 +76,4 @@ pair_entry texts pair = if is_among texts pair.1 then entry_text pair else []
 
 -- the texts that are reached, and then the pairs with the texts of the sources
 abbrev pub reached_dump : Roots → List (List ℕ) → Set → List ℕ
-reached_dump roots texts set = flat_map (named_entry set) (reached roots texts set) ++ flat_map (pair_entry texts) set.pairs
+reached_dump roots texts set = flat_map (named_entry set) (reached_names roots texts set) ++ flat_map (pair_entry texts) set.pairs

@@ -368,7 +368,7 @@ struct MarkedText<'a> {
 }
 
 /// The bytes of a part.
-fn written(text: &[u8], part: Extent) -> &[u8]
+fn part_bytes(text: &[u8], part: Extent) -> &[u8]
     ensures { result.now ≡ take (part.end - part.start) (drop part.start text.now) }
 {
     let size = part.end.saturating_sub(part.start) as usize;
@@ -384,7 +384,7 @@ fn marked_part(alloc: Global, text: &MarkedText<'_>, part: Extent) -> Result<Mar
 {
     Ok(MarkedPart {
         head: Word::from_bytes(alloc, text.head)?,
-        written: Word::from_bytes(alloc, written(text.text, part))?,
+        written: Word::from_bytes(alloc, part_bytes(text.text, part))?,
         at: text.at + part.start as usize,
         spot: spot_at(text.spots, text.text.len(), part.start as usize),
         joint: part.joint,

@@ -1,8 +1,7 @@
 //! The texts of a set that a plan can use.
 
-ghost use Rattle.drv_check.specs.Reached.{entry_of, first_names, named_entry, pair_entry, reached};
-ghost use Rattle.drv_check.specs.Reached.{reached_dump, text_names, with_name};
-ghost use Rattle.drv_check.specs.Reached.{with_names, with_pairs};
+ghost use Rattle.drv_check.specs.Reached.{entry_of, first_names, named_entry, pair_entry, reached_dump, reached_names, text_names};
+ghost use Rattle.drv_check.specs.Reached.{with_name, with_names, with_pairs};
 ghost use Rattle.drv_check.specs.UnusedTexts.{is_among};
 ghost use Rattle.drv_specs.specs.Dumping.{entry_text, named_text};
 ghost use Rattle.std.specs.List.{flat_map};
@@ -127,13 +126,13 @@ fn add_pairs(
 
 /// The names of the texts that a plan can use whose sources have these texts.
 #[tactic(auto, using(crate::proofs::TextsReached::text_next, crate::proofs::TextsReached::most_reached, crate::proofs::TextsReached::all_reached))]
-fn reached(
+fn reached_names(
     alloc: Global,
     set: &SpecSet,
     roots: Roots,
     texts: &[Word],
 ) -> Result<Listing<Word>, AllocError>
-    ensures { IfOk result (λ names. names ≡ reached roots texts.now set.now) }
+    ensures { IfOk result (λ names. names ≡ reached_names roots texts.now set.now) }
 {
     let mut names = first_names(alloc, roots)?;
     add_pairs(alloc, &mut names, texts, set)?;
@@ -211,7 +210,7 @@ pub fn reached_dump(
 ) -> Result<Word, AllocError>
     ensures { IfOk result (λ dump. dump ≡ reached_dump roots texts.now set.now) }
 {
-    let names = reached(alloc, set, roots, texts)?;
+    let names = reached_names(alloc, set, roots, texts)?;
     let mut dump = Word::empty(alloc);
     push_all_named(&mut dump, set, names.as_slice())?;
     push_pairs(&mut dump, texts, set.pairs())?;

@@ -11,7 +11,7 @@ use Rattle.drv_syntax.specs.Tree.{Items, none}
 use Rattle.drv_syntax.specs.declared.fault.SyntaxFault.{SyntaxFault}
 use Rattle.drv_syntax.specs.declared.token.Token.{Token}
 use Rattle.drv_why.proofs.SwitchFates.{unlike_begun}
-use Rattle.drv_why.specs.Causes.{Case, behind_groups, case_at, caused, causes_of, given, input_at, input_word, makers, number_told}
+use Rattle.drv_why.specs.Causes.{Case, behind_groups, case_at, caused, causes_of, input_at, input_word, makers, number_told, word_of_input}
 use Rattle.drv_why.specs.Causes.{numbers_told, outer_of, outers_from, outers_of, source_of, token_told, tokens_told, tree_told}
 use Rattle.drv_why.specs.Code.Beginning.{begin_alike}
 use Rattle.drv_why.specs.Taken.{fits, is_taken, is_this, with_name, with_names, with_switches}
@@ -129,24 +129,24 @@ no_maker n inputs jobs word whole past is = sym (ap (λ js. makers inputs js wor
 -- the next input is this word
 pub input_met : (n : ℕ) (inputs : List Input) (input : Input) (word : List ℕ) (names whole : List (List ℕ)) → n < length inputs
     → input ≡ get_or inputs n input → pointwise nat_eq (input_word input) word ≡ true → names ≡ word ∷ []
-    → given (drop n inputs) word ≡ whole → names ≡ whole
+    → word_of_input (drop n inputs) word ≡ whole → names ≡ whole
 input_met n inputs input word names whole below here same has is =
     has
-    ∙ sym (ap (λ is. given is word) (drop_more inputs n input below)
-    ∙ ap (λ i. given (i ∷ drop (n + 1) inputs) word) (sym here) ∙ rw same refl) ∙ is
+    ∙ sym (ap (λ is. word_of_input is word) (drop_more inputs n input below)
+    ∙ ap (λ i. word_of_input (i ∷ drop (n + 1) inputs) word) (sym here) ∙ rw same refl) ∙ is
 
 -- it is another word
 pub input_passed : (n : ℕ) (inputs : List Input) (input : Input) (word : List ℕ) (whole : List (List ℕ)) → n < length inputs
-    → input ≡ get_or inputs n input → pointwise nat_eq (input_word input) word ≡ false → given (drop n inputs) word ≡ whole
-    → given (drop (n + 1) inputs) word ≡ whole
+    → input ≡ get_or inputs n input → pointwise nat_eq (input_word input) word ≡ false → word_of_input (drop n inputs) word ≡ whole
+    → word_of_input (drop (n + 1) inputs) word ≡ whole
 input_passed n inputs input word whole below here other is =
-    sym (ap (λ is. given is word) (drop_more inputs n input below)
-    ∙ ap (λ i. given (i ∷ drop (n + 1) inputs) word) (sym here) ∙ rw other refl) ∙ is
+    sym (ap (λ is. word_of_input is word) (drop_more inputs n input below)
+    ∙ ap (λ i. word_of_input (i ∷ drop (n + 1) inputs) word) (sym here) ∙ rw other refl) ∙ is
 
 -- no input is this word
 pub no_input : (n : ℕ) (inputs : List Input) (word : List ℕ) (whole : List (List ℕ)) → length inputs ≤ n
-    → given (drop n inputs) word ≡ whole → [] ≡ whole
-no_input n inputs word whole past is = sym (ap (λ is. given is word) (drop_all n inputs past)) ∙ is
+    → word_of_input (drop n inputs) word ≡ whole → [] ≡ whole
+no_input n inputs word whole past is = sym (ap (λ is. word_of_input is word) (drop_all n inputs past)) ∙ is
 
 -- a pattern that doesn't name a switch doesn't take it, whatever word repeats it
 pub unnamed : (pattern : Pattern) (word : Option (List ℕ)) (switch : Switch) (later : List Switch) → is_named pattern switch.name ≡ false

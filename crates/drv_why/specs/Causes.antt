@@ -14,9 +14,9 @@ use Rattle.drv_syntax.specs.declared.token.TestKind.{TestKind}
 use Rattle.drv_syntax.specs.declared.token.Token.{Token}
 use Rattle.drv_syntax.specs.declared.token.TokenKind.TheVariants as kinds
 use Rattle.drv_syntax.specs.declared.token.TokenKind.{TokenKind}
-use Rattle.drv_why.specs.Taken.{is_this, taken, with_names}
+use Rattle.drv_why.specs.Taken.{is_this, taken_options, with_names}
 use Rattle.drv_why.specs.Traces.{traces_by}
-use Rattle.drv_why.specs.Walks.{gives, is_passed, reached, walked, way_to}
+use Rattle.drv_why.specs.Walks.{after_token, gives, is_passed, reach, way_to}
 use Rattle.drv_why.specs.declared.outers.Outer.{Outer}
 use Rattle.drv_why.specs.declared.telling.Telling.{Telling}
 use Rattle.drv_why.specs.declared.traces.Trace.{Trace}
@@ -73,9 +73,9 @@ makers inputs (job ∷ jobs) word =
     if is_this word job.output then option_to_list (input_at inputs job.source) else makers inputs jobs word
 
 -- this word, if an input is the same
-abbrev pub given : List Input → List ℕ → List (List ℕ)
-given [] word = []
-given (input ∷ inputs) word = if pointwise nat_eq (input_word input) word then word ∷ [] else given inputs word
+abbrev pub word_of_input : List Input → List ℕ → List (List ℕ)
+word_of_input [] word = []
+word_of_input (input ∷ inputs) word = if pointwise nat_eq (input_word input) word then word ∷ [] else word_of_input inputs word
 
 -- names, or else others
 abbrev pub or_else : List (List ℕ) → List (List ℕ) → List (List ℕ)
@@ -89,7 +89,7 @@ label_pattern label = record { name = label.word; star = label.starred }
 
 -- what a word of %o takes: the source that made it, or else the same input
 abbrev pub output_takes : Case → List (List ℕ)
-output_takes case = or_else (makers case.line.inputs case.jobs case.word) (given case.line.inputs case.word)
+output_takes case = or_else (makers case.line.inputs case.jobs case.word) (word_of_input case.line.inputs case.word)
 
 -- what a directive without an inside takes of the line
 abbrev pub leaf_takes : Case → Leaf → List (List ℕ)
@@ -101,13 +101,13 @@ leaf_takes case leaf = []
 
 -- what a test takes: only one of a switch takes any
 abbrev pub test_takes : Case → TestKind → Label → List (List ℕ)
-test_takes case asking.Switch label = taken (label_pattern label) None case.line.switches
+test_takes case asking.Switch label = taken_options (label_pattern label) None case.line.switches
 test_takes case asks label = []
 
 -- what a token takes
 abbrev pub takes : Case → TokenKind → Label → List (List ℕ)
 takes case kinds.Test label = test_takes case label.asks label
-takes case kinds.Pattern label = taken (label_pattern label) (Some case.word) case.line.switches
+takes case kinds.Pattern label = taken_options (label_pattern label) (Some case.word) case.line.switches
 takes case (kinds.Leaf leaf) label = leaf_takes case leaf
 takes case kind label = []
 
@@ -120,7 +120,7 @@ is_true label names = if label.negated then length names == 0 else not (length n
 -- after a token on the way, which takes these
 abbrev pub told_by : Token → Label → List (List ℕ) → Telling → Telling
 told_by token label found t = record {
-  walk = walked t.walk token label.asks (is_true label found);
+  walk = after_token t.walk token label.asks (is_true label found);
   names = if gives t.walk token label.negated then with_names t.names found else t.names;
 }
 
@@ -135,7 +135,7 @@ may_take kind = false
 abbrev pub told_on : Case → Token → Label → Telling → Telling
 told_on case token label t =
     if may_take token.kind then told_by token label (takes case token.kind label) t
-    else record t { walk = walked t.walk token asking.Switch false }
+    else record t { walk = after_token t.walk token asking.Switch false }
 
 -- after a token at which the way has arrived, unless it is passed over
 abbrev pub told_at : Case → Token → Label → Telling → Telling
@@ -143,7 +143,7 @@ told_at case token label t = if is_passed t.walk token then t else told_on case 
 
 -- after one more token
 abbrev pub token_told : Case → Token → Label → Telling → Telling
-token_told case token label t = told_at case token label (record t { walk = reached t.walk token })
+token_told case token label t = told_at case token label (record t { walk = reach t.walk token })
 
 -- after tokens, from the place n on, up to the part's end
 abbrev pub tokens_told : Case → Items → ℕ → Telling → List Token → Telling

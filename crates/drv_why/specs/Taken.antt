@@ -57,5 +57,5 @@ with_switches pattern word names [] = names
 with_switches pattern word names (switch ∷ later) = with_switches pattern word (with_switch pattern word names switch later) later
 
 -- the options of the switches that a pattern takes: of all, or of those that a word repeats
-abbrev pub taken : Pattern → Option (List ℕ) → List Switch → List (List ℕ)
-taken pattern word switches = with_switches pattern word [] switches
+abbrev pub taken_options : Pattern → Option (List ℕ) → List Switch → List (List ℕ)
+taken_options pattern word switches = with_switches pattern word [] switches

@@ -23,8 +23,8 @@ reached_by Around w token = if nat_le w.to token.start then record w { waypoint 
 reached_by waypoint w token = w
 
 -- the same, by the way alone
-abbrev pub reached : Walk → Token → Walk
-reached w token = reached_by w.waypoint w token
+abbrev pub reach : Walk → Token → Walk
+reach w token = reached_by w.waypoint w token
 
 -- whether a token is not on the way, by its place
 abbrev pub is_passed : Walk → Token → Bool
@@ -35,8 +35,8 @@ abbrev pub around : Walk → Token → Walk
 around w token = if nat_le token.end w.to then record w { from = token.end } else w
 
 -- the way ends
-abbrev pub ended : Walk → Walk
-ended w = record w { to = 0 }
+abbrev pub end_way : Walk → Walk
+end_way w = record w { to = 0 }
 
 -- the way goes into the alternative whose beginning it has reached
 abbrev pub inside : Walk → Walk
@@ -55,14 +55,14 @@ tested_by waypoint w holds = w
 
 -- behind another test
 abbrev pub untold_by : Waypoint → Walk → Walk
-untold_by Before w = ended w
-untold_by Failed w = ended w
+untold_by Before w = end_way w
+untold_by Failed w = end_way w
 untold_by waypoint w = w
 
 -- behind a test of this kind
-abbrev pub tested : TestKind → Walk → Bool → Walk
-tested asking.Switch w holds = tested_by w.waypoint w holds
-tested asks w holds = untold_by w.waypoint w
+abbrev pub after_test : TestKind → Walk → Bool → Walk
+after_test asking.Switch w holds = tested_by w.waypoint w holds
+after_test asks w holds = untold_by w.waypoint w
 
 -- before an item: one of an alternative without tests is on the way, one of an alternative without a true test is passed over
 abbrev pub item_by : Waypoint → Walk → Token → Walk
@@ -77,13 +77,13 @@ at_item w token = item_by w.waypoint w token
 
 -- behind a blank: it ends the part, unless no item precedes it
 abbrev pub blank_by : Waypoint → Walk → Walk
-blank_by Behind w = ended w
+blank_by Behind w = end_way w
 blank_by waypoint w = w
 
 -- behind an item that ends the part
 abbrev pub last_by : Waypoint → Walk → Walk
-last_by First w = ended w
-last_by Behind w = ended w
+last_by First w = end_way w
+last_by Behind w = end_way w
 last_by waypoint w = w
 
 -- behind another item
@@ -108,13 +108,13 @@ past kind w token = if is_passed w token then w else behind kind w
 -- behind a token of this kind on the way, which may be a true test
 abbrev pub walked_by : TokenKind → TestKind → Walk → Token → Bool → Walk
 walked_by kinds.Alternative asks w token holds = opened_by w.waypoint w token
-walked_by kinds.Test asks w token holds = record (tested asks w holds) { from = token.end }
+walked_by kinds.Test asks w token holds = record (after_test asks w holds) { from = token.end }
 walked_by kinds.Pattern asks w token holds = w
 walked_by kind asks w token holds = past kind (at_item w token) token
 
 -- behind a token on the way
-abbrev pub walked : Walk → Token → TestKind → Bool → Walk
-walked w token asks holds = walked_by token.kind asks w token holds
+abbrev pub after_token : Walk → Token → TestKind → Bool → Walk
+after_token w token asks holds = walked_by token.kind asks w token holds
 
 -- what a token on the way gives
 

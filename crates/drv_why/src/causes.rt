@@ -3,12 +3,12 @@
 ghost use Rattle.drv_syntax.specs.Labels.{label_at};
 ghost use Rattle.drv_syntax.specs.Parsed.{tree_of};
 ghost use Rattle.drv_syntax.specs.Tokens.{tokens_of};
-ghost use Rattle.drv_why.specs.Causes.{behind_groups, given, input_at, input_word, is_true, label_pattern, leaf_takes};
-ghost use Rattle.drv_why.specs.Causes.{makers, output_takes, source_of, takes, test_takes};
+ghost use Rattle.drv_why.specs.Causes.{behind_groups, input_at, input_word, is_true, label_pattern, leaf_takes, makers, output_takes};
+ghost use Rattle.drv_why.specs.Causes.{source_of, takes, test_takes, word_of_input};
 ghost use Rattle.std.specs.Option.{option_map, option_to_list};
 ghost use Rattle.std.specs.Prelude.{◌≡◌, ◌∷◌, ◌<◌, [], IfOk, length};
 
-use crate::taking::{is_this, taken};
+use crate::taking::{is_this, taken_options};
 use drv_args::{Input, Line};
 use drv_check::MarkedPart;
 use drv_match::Pattern;
@@ -105,7 +105,7 @@ pub(crate) fn source_of(jobs: &[Job], place: usize) -> Option<usize>
 }
 
 /// A word as a list of one, or none.
-fn listed(alloc: Global, word: Option<&Word>) -> Result<Listing<Word>, AllocError>
+fn list_of(alloc: Global, word: Option<&Word>) -> Result<Listing<Word>, AllocError>
     ensures { IfOk result
         (λ names. names ≡ option_to_list (option_map (λ word. word.now) word.entry)) }
 {
@@ -137,7 +137,7 @@ fn makers(
 {
     for job in jobs {
         if is_this(word, &job.output) {
-            return listed(alloc, input_at(inputs, job.source));
+            return list_of(alloc, input_at(inputs, job.source));
         }
     }
     Ok(Listing::new(alloc))
@@ -145,8 +145,8 @@ fn makers(
 
 /// A word, if an input is the same.
 #[tactic(auto, using(crate::proofs::LineCauses::input_met, crate::proofs::LineCauses::input_passed, crate::proofs::LineCauses::no_input))]
-fn given(alloc: Global, inputs: &[Input], word: &[u8]) -> Result<Listing<Word>, AllocError>
-    ensures { IfOk result (λ names. names ≡ given inputs.now word.now) }
+fn word_of_input(alloc: Global, inputs: &[Input], word: &[u8]) -> Result<Listing<Word>, AllocError>
+    ensures { IfOk result (λ names. names ≡ word_of_input inputs.now word.now) }
 {
     for input in inputs {
         if input_word(input).as_bytes() == word {
@@ -162,7 +162,7 @@ fn output_takes(alloc: Global, case: &Case<'_>) -> Result<Listing<Word>, AllocEr
 {
     let names = makers(alloc, case.line.inputs.as_slice(), case.jobs, case.word)?;
     if names.as_slice().is_empty() {
-        return given(alloc, case.line.inputs.as_slice(), case.word);
+        return word_of_input(alloc, case.line.inputs.as_slice(), case.word);
     }
     Ok(names)
 }
@@ -172,7 +172,7 @@ fn leaf_takes(alloc: Global, case: &Case<'_>, leaf: Leaf) -> Result<Listing<Word
     ensures { IfOk result (λ names. names ≡ leaf_takes case.now leaf) }
 {
     match leaf {
-        Leaf::InputName | Leaf::BaseStem | Leaf::BaseName => listed(alloc, case.input),
+        Leaf::InputName | Leaf::BaseStem | Leaf::BaseName => list_of(alloc, case.input),
         Leaf::Outputs => output_takes(alloc, case),
         _ => Ok(Listing::new(alloc)),
     }
@@ -203,7 +203,7 @@ fn test_takes(
     match tree.asks(place) {
         TestKind::Switch => {
             let pattern = pattern_at(tree, place);
-            taken(alloc, &pattern, None, case.line.switches.as_slice())
+            taken_options(alloc, &pattern, None, case.line.switches.as_slice())
         }
         TestKind::Suffix | TestKind::Language | TestKind::Result => Ok(Listing::new(alloc)),
     }
@@ -225,7 +225,7 @@ pub(crate) fn takes(
         TokenKind::Test => test_takes(alloc, case, tree, place),
         TokenKind::Pattern => {
             let pattern = pattern_at(tree, place);
-            taken(
+            taken_options(
                 alloc,
                 &pattern,
                 Some(case.word),

@@ -1,7 +1,7 @@
 //! The options of the switches of a line that a pattern takes.
 
-ghost use Rattle.drv_why.specs.Taken.{fits, is_option, is_taken, is_this, repeats, taken, with_name, with_names};
-ghost use Rattle.drv_why.specs.Taken.{with_switch, with_switches};
+ghost use Rattle.drv_why.specs.Taken.{fits, is_option, is_taken, is_this, repeats, taken_options, with_name, with_names, with_switch};
+ghost use Rattle.drv_why.specs.Taken.{with_switches};
 ghost use Rattle.drv_words.specs.Bytes.{hyphen};
 ghost use Rattle.std.specs.Cmp.Lexicographic.{pointwise};
 ghost use Rattle.std.specs.List.{list_any};
@@ -127,7 +127,7 @@ fn is_told(pattern: &Pattern<'_>, word: Option<&[u8]>, switch: &Switch, later: &
 
 /// The options of the switches that a pattern takes: of all, or of those that a word repeats.
 #[tactic(auto, using(crate::proofs::LineCauses::switch_told, crate::proofs::LineCauses::switch_untold))]
-pub(crate) fn taken(
+pub(crate) fn taken_options(
     alloc: Global,
     pattern: &Pattern<'_>,
     word: Option<&[u8]>,
@@ -135,7 +135,7 @@ pub(crate) fn taken(
 ) -> Result<Listing<Word>, AllocError>
     ensures { IfOk result
         (λ names. names
-        ≡ taken pattern.now (option_map (λ bytes. bytes.now) word.entry) switches.now) }
+        ≡ taken_options pattern.now (option_map (λ bytes. bytes.now) word.entry) switches.now) }
 {
     let mut names = Listing::new(alloc);
     let mut left = switches;

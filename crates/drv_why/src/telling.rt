@@ -12,7 +12,7 @@ ghost use Rattle.std.specs.Prelude.{◌≡◌, ◌<◌, ◌+◌, ◌-◌, [], If
 
 use crate::causes::{Case, is_true, takes};
 use crate::taking::add_names;
-use crate::walking::{Walk, gives, is_behind, is_passed, reached, walked};
+use crate::walking::{Walk, after_token, gives, is_behind, is_passed, reach};
 use drv_check::MarkedPart;
 use drv_syntax::{SpecTree, SyntaxFault, TestKind, Token, TokenKind, parse};
 use drv_words::{Listing, Word};
@@ -121,7 +121,7 @@ impl Telling {
         let is_given = gives(self.walk, met.token, tree.is_negated(place));
         self.add_found(alloc, is_given, found.as_slice())?;
         let holds = is_true(tree, place, found.as_slice());
-        self.walk = walked(self.walk, met.token, tree.asks(place), holds);
+        self.walk = after_token(self.walk, met.token, tree.asks(place), holds);
         Ok(())
     }
 
@@ -135,7 +135,7 @@ impl Telling {
         if may_take(met.token.kind) {
             return self.take_on_way(alloc, case, met);
         }
-        self.walk = walked(self.walk, met.token, TestKind::Switch, false);
+        self.walk = after_token(self.walk, met.token, TestKind::Switch, false);
         Ok(())
     }
 
@@ -151,7 +151,7 @@ impl Telling {
             ≡ token_told case.now met.now.token
             (label_at (tree_of met.now.tree.now) met.now.place) self.old) }
     {
-        self.walk = reached(self.walk, met.token);
+        self.walk = reach(self.walk, met.token);
         if is_passed(self.walk, met.token) {
             return Ok(());
         }

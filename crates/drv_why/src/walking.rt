@@ -1,8 +1,7 @@
 //! The way through the tokens of a text to the words that a part of it gives.
 
-ghost use Rattle.drv_why.specs.Walks.{around, at_item, behind, behind_by, blank_by, ended, gives, inside};
-ghost use Rattle.drv_why.specs.Walks.{is_passed, is_run, last_by, opened_by, past, reached, runs, tested, tested_by, untold_by};
-ghost use Rattle.drv_why.specs.Walks.{walked, way_to};
+ghost use Rattle.drv_why.specs.Walks.{after_test, after_token, around, at_item, behind, behind_by, blank_by, end_way, gives, inside};
+ghost use Rattle.drv_why.specs.Walks.{is_passed, is_run, last_by, opened_by, past, reach, runs, tested_by, untold_by, way_to};
 ghost use Rattle.std.specs.Prelude.{◌≡◌, nat_le};
 
 use drv_syntax::{TestKind, Token, TokenKind};
@@ -53,8 +52,8 @@ impl Walk {
 }
 
 /// The way at a token.
-pub(crate) fn reached(walk: Walk, token: Token) -> Walk
-    ensures { result ≡ reached walk token }
+pub(crate) fn reach(walk: Walk, token: Token) -> Walk
+    ensures { result ≡ reach walk token }
 {
     match walk.waypoint {
         Waypoint::Around => {
@@ -100,8 +99,8 @@ fn around(walk: Walk, token: Token) -> Walk
 }
 
 /// The way that ends.
-fn ended(walk: Walk) -> Walk
-    ensures { result ≡ ended walk }
+fn end_way(walk: Walk) -> Walk
+    ensures { result ≡ end_way walk }
 {
     Walk { to: 0, ..walk }
 }
@@ -125,7 +124,7 @@ fn at_waypoint(walk: Walk, waypoint: Waypoint) -> Walk
 }
 
 /// The way at the beginning of an alternative.
-fn opened(walk: Walk, token: Token) -> Walk
+fn open_alternative(walk: Walk, token: Token) -> Walk
     ensures { result ≡ opened_by walk.waypoint walk token }
 {
     match walk.waypoint {
@@ -161,13 +160,13 @@ fn after_untold(walk: Walk) -> Walk
 {
     match walk.waypoint {
         Waypoint::Around | Waypoint::First | Waypoint::Behind => walk,
-        Waypoint::Before | Waypoint::Failed => ended(walk),
+        Waypoint::Before | Waypoint::Failed => end_way(walk),
     }
 }
 
 /// The way behind a test of this kind.
-fn tested(asks: TestKind, walk: Walk, holds: bool) -> Walk
-    ensures { result ≡ tested asks walk holds }
+fn after_test(asks: TestKind, walk: Walk, holds: bool) -> Walk
+    ensures { result ≡ after_test asks walk holds }
 {
     match asks {
         TestKind::Switch => after_switches(walk, holds),
@@ -195,7 +194,7 @@ fn after_blank(walk: Walk) -> Walk
     ensures { result ≡ blank_by walk.waypoint walk }
 {
     match walk.waypoint {
-        Waypoint::Behind => ended(walk),
+        Waypoint::Behind => end_way(walk),
         Waypoint::Around | Waypoint::First | Waypoint::Before | Waypoint::Failed => walk,
     }
 }
@@ -205,7 +204,7 @@ fn after_last(walk: Walk) -> Walk
     ensures { result ≡ last_by walk.waypoint walk }
 {
     match walk.waypoint {
-        Waypoint::First | Waypoint::Behind => ended(walk),
+        Waypoint::First | Waypoint::Behind => end_way(walk),
         Waypoint::Around | Waypoint::Before | Waypoint::Failed => walk,
     }
 }
@@ -244,14 +243,14 @@ fn past(kind: TokenKind, walk: Walk, token: Token) -> Walk
 }
 
 /// The way behind a token on the way, which may be a true test.
-pub(crate) fn walked(walk: Walk, token: Token, asks: TestKind, holds: bool) -> Walk
-    ensures { result ≡ walked walk token asks holds }
+pub(crate) fn after_token(walk: Walk, token: Token, asks: TestKind, holds: bool) -> Walk
+    ensures { result ≡ after_token walk token asks holds }
 {
     match token.kind {
-        TokenKind::Alternative => opened(walk, token),
+        TokenKind::Alternative => open_alternative(walk, token),
         TokenKind::Test => Walk {
             from: token.end as usize,
-            ..tested(asks, walk, holds)
+            ..after_test(asks, walk, holds)
         },
         TokenKind::Pattern => walk,
         kind => past(kind, at_item(walk, token), token),

@@ -5,7 +5,7 @@ use Rattle.drv_dump.specs.declared.our_dump.OurDump.{OurDump}
 use Rattle.drv_run.specs.declared.ending.Ending.TheVariants.{OutOfMemory}
 use Rattle.drv_system.specs.declared.event.Event.{Event}
 use Rattle.gdrv_specs.specs.Told.{PutsText}
-use Rattle.gdrv_specs.specs.Translations.{Translates, TranslatesDump, misread}
+use Rattle.gdrv_specs.specs.Translations.{Translates, TranslatesDump, dump_refusal}
 use Rattle.gdrv_specs.specs.declared.outcome.Outcome.TheVariants.{Ended, Translated}
 use Rattle.std.proofs.Common.{◌≡◌, ◌∙◌, ◌⊎◌, Err, List, Ok, [], ap, inl, inr, refl, subst, sym, ℕ}
 use Rattle.std.proofs.lemmas.List.{append-nil}
@@ -28,7 +28,13 @@ lacks_memory journal journal' path dump same = ([], same ∙ sym (append-nil jou
 
 -- the file is no dump: the outcome names the place where it ceases to be one
 pub is_no_dump : (journal : List Event) (path dump : List ℕ) (fault : DumpFault) → ((fault ≡ Memory) ⊎ (our_dump_of dump ≡ Err fault))
-    → TranslatesDump journal journal path dump (misread path dump fault)
-is_no_dump journal path dump fault (inl is) = ([], sym (append-nil journal), inl (ap (misread path dump) is, refl))
-is_no_dump journal path dump fault (inr is) =
-    ([], sym (append-nil journal), inr (subst (λ result. Translates path dump result (misread path dump fault) []) (sym is) (refl, refl)))
+    → TranslatesDump journal journal path dump (dump_refusal path dump fault)
+is_no_dump journal path dump fault (inl is) = ([], sym (append-nil journal), inl (ap (dump_refusal path dump) is, refl))
+is_no_dump journal path dump fault (inr is) = (
+  [],
+  sym (append-nil journal),
+  inr (subst (λ result. Translates path dump result (dump_refusal path dump fault) []) (sym is) (
+    refl,
+    refl,
+  )),
+)

@@ -28,7 +28,7 @@ use Rattle.drv_words.specs.declared.plan.PlanLine.{PlanLine}
 use Rattle.gdrv_specs.proofs.Told.{known}
 use Rattle.gdrv_specs.specs.Code.Tracing.{IsMarked}
 use Rattle.gdrv_specs.specs.Told.{Stops}
-use Rattle.gdrv_specs.specs.Views.{seen, view_text}
+use Rattle.gdrv_specs.specs.Views.{switch_parts, view_text}
 use Rattle.gdrv_specs.specs.WordOrigins.{GivesOrigins, TellsSaid, TellsWords, lines_in, marked_specs, marked_work, marking_of, marks_in}
 use Rattle.gdrv_specs.specs.WordOrigins.{origins_of, origins_with, plan_dump, said_of, text_of_choice, text_of_input, value_of, work_after}
 use Rattle.gdrv_specs.specs.declared.outcome.Outcome.TheVariants.{Ended, NoPlan}
@@ -111,7 +111,7 @@ refused_added set input fault before is = sym (append-nil before) ∙ ap (λ c. 
 -- it is made of the marks in the texts that the plan can use, and of the plan with these
 pub origins_are : {E : Type 0} (F : Facts) (view : View) (line : Line) (set : Set) (seed : ℕ) (plan : Plan) (sources : List Source)
     (marks : Marks) (namings : List Naming) (text : List ℕ) (marked : Option Work) (lines : List PlanLine) (result : Result (List ℕ) E)
-    → marks ≡ marks_in sources (plan_dump set line plan) → namings ≡ seen view.scope sources set → text ≡ marks.text
+    → marks ≡ marks_in sources (plan_dump set line plan) → namings ≡ switch_parts view.scope sources set → text ≡ marks.text
     → marked_work F line set text seed ≡ Is marked → lines ≡ lines_in marked
     → IfOk result (λ told. told
     ≡ view_text view (record { line = line; plan = plan; sources = sources; parts = marks.parts; marked = lines }) namings)
@@ -120,10 +120,11 @@ origins_are F view line set seed plan sources marks namings text marked lines (E
 origins_are F view line set seed plan sources marks namings text marked lines (Ok told) puts names same works has says =
     ap (origins_with F view line set seed plan sources) (sym puts)
     ∙ ap (λ t. marked_work F line set t seed >>= λ m. Is (view_text view (marking_of line plan sources marks.parts m)
-    (seen view.scope sources set))) (sym same)
-    ∙ ap (λ known. known >>= λ m. Is (view_text view (marking_of line plan sources marks.parts m) (seen view.scope sources set))) works
+    (switch_parts view.scope sources set))) (sym same)
+    ∙ ap (λ known. known >>= λ m. Is (view_text view (marking_of line plan sources marks.parts m) (switch_parts view.scope sources set)))
+    works
     ∙ ap (λ ls. Is (view_text view (record { line = line; plan = plan; sources = sources; parts = marks.parts; marked = ls })
-    (seen view.scope sources set))) (sym has)
+    (switch_parts view.scope sources set))) (sym has)
     ∙ ap (λ ns. Is (view_text view (record { line = line; plan = plan; sources = sources; parts = marks.parts; marked = lines }) ns))
     (sym names)
     ∙ ap Is (sym says)

@@ -21,16 +21,16 @@ abbrev pub no_dump_at : List ℕ → List ℕ → ℕ → Outcome
 no_dump_at path dump at = NoDump path (line_number dump at) (length (line_before dump at) + 1)
 
 -- how a call ends where its dump can't be read
-abbrev pub misread : List ℕ → List ℕ → DumpFault → Outcome
-misread path dump Memory = Ended OutOfMemory
-misread path dump (Misplaced at) = no_dump_at path dump at
-misread path dump (InText name misfit at) = no_dump_at path dump at
+abbrev pub dump_refusal : List ℕ → List ℕ → DumpFault → Outcome
+dump_refusal path dump Memory = Ended OutOfMemory
+dump_refusal path dump (Misplaced at) = no_dump_at path dump at
+dump_refusal path dump (InText name misfit at) = no_dump_at path dump at
 
 -- the texts in this driver's language were written to standard output once, and the call names those that it refuses; or nothing was
 -- written
 abbrev pub Translates : List ℕ → List ℕ → Result OurDump DumpFault → Outcome → List Event → Type 0
 Translates path dump (Ok ours) outcome told = (status : ℕ) × (outcome ≡ Translated ours.refused status) × Puts ours.texts status told
-Translates path dump (Err fault) outcome told = (outcome ≡ misread path dump fault) × (told ≡ [])
+Translates path dump (Err fault) outcome told = (outcome ≡ dump_refusal path dump fault) × (told ≡ [])
 
 -- memory lacked, and nothing was written
 abbrev pub Lacks : Outcome → List Event → Type 0

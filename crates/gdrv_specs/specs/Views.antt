@@ -16,9 +16,9 @@ use Rattle.std.specs.Prelude.{List, [], ℕ}
 -- For clauses of src/views.rt and src/word_origins.rt.
 
 -- the parts of a set's texts that name switches, if the answer has switches
-abbrev pub seen : Scope → List Source → Set → List Naming
-seen Words sources set = []
-seen Whole sources set = namings_of sources (dumped set)
+abbrev pub switch_parts : Scope → List Source → Set → List Naming
+switch_parts Words sources set = []
+switch_parts Whole sources set = namings_of sources (dumped set)
 
 -- the text about a plan with marks: one half, or both
 abbrev pub text_in : Scope → Report → Marking → List Naming → List ℕ

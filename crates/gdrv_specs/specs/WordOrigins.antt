@@ -30,7 +30,7 @@ use Rattle.drv_words.specs.declared.plan.PlanLine.{PlanLine}
 use Rattle.gdrv_specs.specs.Plans.{plan_in}
 use Rattle.gdrv_specs.specs.Reasons.{WritesText}
 use Rattle.gdrv_specs.specs.Told.{Stops}
-use Rattle.gdrv_specs.specs.Views.{seen, view_text}
+use Rattle.gdrv_specs.specs.Views.{switch_parts, view_text}
 use Rattle.gdrv_specs.specs.declared.outcome.Outcome.TheVariants.{NoPlan}
 use Rattle.gdrv_specs.specs.declared.outcome.Outcome.{Outcome}
 use Rattle.gdrv_specs.specs.declared.views.View.{View}
@@ -117,7 +117,7 @@ marking_of line plan sources parts marked =
 abbrev pub origins_with : Facts → View → Line → Set → ℕ → Plan → List Source → Marks → Known (List ℕ)
 origins_with F view line set seed plan sources marks =
     marked_work F line set marks.text seed
-    >>= λ marked. Is (view_text view (marking_of line plan sources marks.parts marked) (seen view.scope sources set))
+    >>= λ marked. Is (view_text view (marking_of line plan sources marks.parts marked) (switch_parts view.scope sources set))
 
 -- by the line and its specs
 abbrev pub origins_of : Facts → View → Line → Set → ℕ → Plan → Known (List ℕ)

@@ -1,7 +1,7 @@
 //! The dump of a gcc is translated.
 
 ghost use Rattle.gdrv_specs.specs.Told.{PutsText};
-ghost use Rattle.gdrv_specs.specs.Translations.{TranslatesDump, TranslatesFile, misread, no_dump_at};
+ghost use Rattle.gdrv_specs.specs.Translations.{TranslatesDump, TranslatesFile, dump_refusal, no_dump_at};
 ghost use Rattle.std.specs.Prelude.{◌≡◌, IfOk, OnErr};
 
 use crate::outcome::Outcome;
@@ -20,8 +20,8 @@ fn no_dump_at(path: Word, dump: &[u8], at: usize) -> Outcome
 }
 
 /// How a call ends whose dump can't be read. (A translation gives no `InText`: it refuses that text.)
-fn misread(path: Word, dump: &[u8], fault: &DumpFault) -> Outcome
-    ensures { result ≡ misread path dump.now fault.now }
+fn dump_refusal(path: Word, dump: &[u8], fault: &DumpFault) -> Outcome
+    ensures { result ≡ dump_refusal path dump.now fault.now }
 {
     match fault {
         DumpFault::Memory => Outcome::Ended(Ending::OutOfMemory),
@@ -49,7 +49,7 @@ fn translate<S: System>(alloc: Global, sys: &mut S, path: Word, dump: &[u8]) -> 
             Ok(status) => Outcome::Translated(refused, status),
             Err(_) => Outcome::Ended(Ending::OutOfMemory),
         },
-        Err(fault) => misread(path, dump, &fault),
+        Err(fault) => dump_refusal(path, dump, &fault),
     }
 }
 

@@ -1,6 +1,6 @@
 //! What the answer about a line's plan has, and in which form.
 
-ghost use Rattle.gdrv_specs.specs.Views.{seen, view_text};
+ghost use Rattle.gdrv_specs.specs.Views.{switch_parts, view_text};
 ghost use Rattle.std.specs.Prelude.{◌≡◌, IfOk};
 
 use drv_check::{Naming, Source, namings_of};
@@ -28,13 +28,13 @@ pub struct View {
 }
 
 /// The parts of a set's texts that name switches, if the answer has switches.
-pub(crate) fn seen(
+pub(crate) fn switch_parts(
     alloc: Global,
     scope: Scope,
     sources: &[Source],
     set: &SpecSet,
 ) -> Result<Listing<Naming>, AllocError>
-    ensures { IfOk result (λ namings. namings ≡ seen scope sources.now set.now) }
+    ensures { IfOk result (λ namings. namings ≡ switch_parts scope sources.now set.now) }
 {
     match scope {
         Scope::Words => Ok(Listing::new(alloc)),

@@ -26,7 +26,7 @@ use crate::differing::plan_of;
 use crate::explaining::{tell_reasons, work_with};
 use crate::outcome::Outcome;
 use crate::switches::{read_line, set_of, sources_in};
-use crate::views::{View, seen, view_text};
+use crate::views::{View, switch_parts, view_text};
 use drv_args::{Input, Line};
 use drv_check::{MarkedPart, Roots, Source, marked_parts, marked_text, reached_dump};
 use drv_plan::{PlanFault, language};
@@ -246,7 +246,7 @@ fn origins_with<S: System>(
         (plan_dump set.old traced.now.line.now planned.now.plan.now)) ≡ Is text) }
 {
     let marks = marks_of(alloc, traced.line, set, planned.plan, planned.sources)?;
-    let namings = seen(alloc, traced.view.scope, planned.sources, set)?;
+    let namings = switch_parts(alloc, traced.view.scope, planned.sources, set)?;
     let marked = marked_work(alloc, traced, set, marks.text.as_bytes(), outside)?;
     let lines = lines_in(alloc, &marked)?;
     let marking = Marking {

@@ -194,7 +194,7 @@ sure_takes jobs N most f E reply some filled s kind = by (takes jobs N f E reply
         let less : to_come jobs (put (stage_in f) f.current (next_stage jobs f (stage_in f) reply)) < to_come jobs (stage_in f) =
         less_to_come jobs (stage_in f) f.current reply in_range valid more kind in
         let is : to_come jobs (stage_in (taken jobs f reply))
-            ≡ to_come jobs (put (stage_in f) f.current (next_stage jobs f (stage_in f) reply)) =
+        ≡ to_come jobs (put (stage_in f) f.current (next_stage jobs f (stage_in f) reply)) =
         ap (λ st. to_come jobs st) (fun_ext at) in
         let len : length (E ++ made jobs f (stage_in f) reply ∷ []) ≡ length E + 1 =
         length-append {A = RunEvent} E (made jobs f (stage_in f) reply ∷ []) in

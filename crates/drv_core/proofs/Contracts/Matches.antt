@@ -504,8 +504,10 @@ step_matches plan N room p c s reply h m is kind =
     }
 
     by : (q : Phase) → p.phase ≡ q → HoldsAt plan N q c → InPhase q plan p c → asked_at plan q c ≡ Some s
-        → Matches plan room (moved_in q plan (kept p s reply) reply) (stepped_at plan q (record c { events = c.events
-        ++ event s reply ∷ [] }) reply)
+        → Matches plan room (moved_in q plan (kept p s reply) reply) (stepped_at plan q (record c {
+          events = c.events
+              ++ event s reply ∷ [];
+        }) reply)
     by Sources phase held here e = flown_matches plan room (record (kept p s reply) { fleet = taken plan.jobs p.fleet reply })
         (record c { events = c.events ++ event s reply ∷ []; fleet = taken plan.jobs c.fleet reply }) phase
         (record {

@@ -1,12 +1,12 @@
 use Rattle.drv_check.proofs.TextsReached.{all_reached, most_reached, text_next}
-use Rattle.drv_check.proofs.reached.reached.Goals as goal
-use Rattle.drv_check.proofs.reached.reached.Goals.{else-loop-place-test, then-loop-place-test+else-place-len}
-use Rattle.drv_check.specs.Reached.{most_texts, reached, reached_from, with_pairs}
+use Rattle.drv_check.proofs.reached.reached_names.Goals as goal
+use Rattle.drv_check.proofs.reached.reached_names.Goals.{else-loop-place-test, then-loop-place-test+else-place-len}
+use Rattle.drv_check.specs.Reached.{most_texts, reached_from, reached_names, with_pairs}
 use Rattle.std.proofs.Common.{◌≡◌, ◌∙◌, ◌-◌, ap, arith}
 use Rattle.std.specs.Option.{option_map}
 use Rattle.std.specs.Prelude.{get_or}
 
--- reached (src/reached.rt). The names of the texts that a plan can use whose sources have these texts.
+-- reached_names (src/reached.rt). The names of the texts that a plan can use whose sources have these texts.
 
 pub loop-place-init : goal.loop-place-init
 loop-place-init c =
@@ -18,7 +18,7 @@ loop-place-init c =
 pub loop-place-preserved : goal.loop-place-preserved
 loop-place-preserved c =
     text_next c.args.set.now c.loop-place.names c.loop-place.place c.as_bytes.result.now c.index-as_slice-place.result
-    (option_map (λ tree. tree.now) c.tree-tree.result) c.add_text.new.names (reached c.args.roots c.args.texts.now c.args.set.now)
+    (option_map (λ tree. tree.now) c.tree-tree.result) c.add_text.new.names (reached_names c.args.roots c.args.texts.now c.args.set.now)
     c.loop-place-test.true (omega (arith, c.if-place-len.true, c.len.ensures))
     (c.as_bytes.ensures ∙ c.index-as_slice-place.is
     ∙ ap (λ names. get_or names c.loop-place.place c.index-as_slice-place.result) c.as_slice.ensures)
@@ -28,9 +28,9 @@ pub returns : goal.returns
 returns c =
     elim c.loop-place-test.branch [
       | then-loop-place-test+else-place-len w ↦
-          all_reached c.args.set.now c.loop-place.names c.loop-place.place (reached c.args.roots c.args.texts.now c.args.set.now)
+          all_reached c.args.set.now c.loop-place.names c.loop-place.place (reached_names c.args.roots c.args.texts.now c.args.set.now)
           (omega (arith, w.if-place-len.false, w.len.ensures)) c.loop-place.invariant
       | else-loop-place-test w ↦
-          most_reached c.args.set.now c.loop-place.names c.loop-place.place (reached c.args.roots c.args.texts.now c.args.set.now)
+          most_reached c.args.set.now c.loop-place.names c.loop-place.place (reached_names c.args.roots c.args.texts.now c.args.set.now)
           w.loop-place-test.false c.loop-place.invariant
     ]

@@ -1,0 +1,11 @@
+use Rattle.drv_check.proofs.reached.reached_names.Given as goal
+use Rattle.drv_check.specs.Reached.{most_texts, reached_from, reached_names}
+use Rattle.std.proofs.Common.{◌≡◌, ◌-◌}
+
+-- The loops of reached_names (src/reached.rt). The names of the texts that a plan can use whose sources have these texts.
+
+abbrev pub invariant-loop-place : goal.invariant-loop-place
+invariant-loop-place l = reached_from l.set (most_texts - l.place) l.place l.names ≡ reached_names l.fn.roots l.texts l.set
+
+abbrev pub decreases-loop-place : goal.decreases-loop-place
+decreases-loop-place l = 65536 - l.place
