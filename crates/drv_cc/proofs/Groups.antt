@@ -194,11 +194,11 @@ find_shown f p (x ∷ xs) = by (p (f x)) refl (find_shown f p xs)
     by false e ih = rw e ih
 
 -- For `row_among` (src/table.rt), whose search gives a reference to a row.
-pub found_shown : {R A B : Type 0} (g : R → A) (f : A → B) (p : B → Bool) (xs : List A) (found : Option R)
-    → option_map g found ≡ find (λ x. p (f x)) xs → option_map (λ r. f (g r)) found ≡ find p (map f xs)
-found_shown {R} g f p xs found is = twice found ∙ ap (option_map f) is ∙ find_shown f p xs
+pub found_shown : {R A B : Type 0} (seen : R → A) (shown : A → B) (p : B → Bool) (xs : List A) (found : Option R)
+    → option_map seen found ≡ find (λ x. p (shown x)) xs → option_map (λ r. shown (seen r)) found ≡ find p (map shown xs)
+found_shown {R} seen shown p xs found is = twice found ∙ ap (option_map shown) is ∙ find_shown shown p xs
   where
-    twice : (r : Option R) → option_map (λ x. f (g x)) r ≡ option_map f (option_map g r)
+    twice : (r : Option R) → option_map (λ x. shown (seen x)) r ≡ option_map shown (option_map seen r)
     twice None = refl
     twice (Some r) = refl
 

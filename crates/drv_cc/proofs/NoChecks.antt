@@ -52,10 +52,10 @@ first_off : (a b : Bool) → a ≡ false → (a && b) ≡ false
 first_off a b e = rw e refl
 
 -- Where none of the five libraries is needed, no word is added.
-no_library : (a h t l u : Bool) → a ≡ false → h ≡ false → t ≡ false → l ≡ false → u ≡ false
-    → library_word a (codes "asan") ++ library_word h (codes "hwasan") ++ library_word t (codes "tsan") ++ library_word l (codes "lsan")
-    ++ library_word u (codes "ubsan") ≡ []
-no_library a h t l u ea eh et el eu = rw (ea, eh, et, el, eu) refl
+no_library : (address hardware thread leak undefined : Bool) → address ≡ false → hardware ≡ false → thread ≡ false → leak ≡ false
+    → undefined ≡ false → library_word address (codes "asan") ++ library_word hardware (codes "hwasan")
+    ++ library_word thread (codes "tsan") ++ library_word leak (codes "lsan") ++ library_word undefined (codes "ubsan") ≡ []
+no_library address hardware thread leak undefined ea eh et el eu = rw (ea, eh, et, el, eu) refl
 
 -- For `add_check_words`: without -fsanitize= it adds nothing.
 pub none_needed : (words : List (List ℕ)) (items : List Item) → has (codes "-fsanitize=") items ≡ false → words ≡ words ++ check_words items

@@ -86,9 +86,10 @@ has_none : (n : List ℕ) (items : List Item) → is_judged n ≡ true → list_
 has_none n items judged e = of_none (λ i. same n i.name) (λ i quiet. other_name n i.name judged (name_of i quiet)) items e
 
 -- The seven questions of `is_asked` (specs/Asked.antt), each of which fails.
-none_of_seven : (a t p s x v n t' p' s' x' v' n' : Bool) → a ≡ false → t ≡ false → p ≡ false → s ≡ false → x ≡ false → v ≡ false → n ≡ false
-    → (((a || (t && t')) || (p && p')) || ((((s && s') || (x && x')) || (v && v')) || (n && n'))) ≡ false
-none_of_seven a t p s x v n t' p' s' x' v' n' ea et ep es ex ev en = rw (ea, et, ep, es, ex, ev, en) refl
+none_of_seven : (a t params stabs xcoff v n t' params' stabs' xcoff' v' n' : Bool) → a ≡ false → t ≡ false → params ≡ false
+    → stabs ≡ false → xcoff ≡ false → v ≡ false → n ≡ false
+    → (((a || (t && t')) || (params && params')) || ((((stabs && stabs') || (xcoff && xcoff')) || (v && v')) || (n && n'))) ≡ false
+none_of_seven a t params stabs xcoff v n t' params' stabs' xcoff' v' n' ea et ep es ex ev en = rw (ea, et, ep, es, ex, ev, en) refl
 
 -- `is_asked` asks this first.
 pub none_asks : (items : List Item) → list_any may_ask items ≡ false → false ≡ is_asked items

@@ -64,12 +64,13 @@ broad_too a false p q all is = absurd cc
 broad_too false true p q all is = absurd cc
 
 -- The tests of a hit, taken together, pass from one pattern to the other.
-both_too : (h l m n b c : Bool) → (m ≡ true → n ≡ true) → (b ≡ true → c ≡ true) → (h && m && (b || l)) ≡ true → (h && n && (c || l)) ≡ true
-both_too false l m n b c f g e = absurd cc
-both_too true l false n b c f g e = absurd cc
-both_too true l true n true c f g e = rw (f refl, g refl) refl
-both_too true true true n false c f g e = rw (f refl) (or-true c)
-both_too true false true n false c f g e = absurd cc
+both_too : (shown live named named' broad broad' : Bool) → (named ≡ true → named' ≡ true) → (broad ≡ true → broad' ≡ true)
+    → (shown && named && (broad || live)) ≡ true → (shown && named' && (broad' || live)) ≡ true
+both_too false live named named' broad broad' f g e = absurd cc
+both_too true live false named' broad broad' f g e = absurd cc
+both_too true live true named' true broad' f g e = rw (f refl, g refl) refl
+both_too true true true named' false broad' f g e = rw (f refl) (or-true broad')
+both_too true false true named' false broad' f g e = absurd cc
 
 -- A switch that the second pattern hits, the first one hits.
 hit_too : (names : List (List ℕ)) (hidden : List Bool) (first second : Label) → names_all first second ≡ true → (i : ℕ)
@@ -104,8 +105,9 @@ switch_too names hidden first second all =
     (range_with_len 0 (length names))
 
 -- With negations on either side the tests still pass from one to the other: all cases, by themselves.
-turned_too : (m n A B C D : Bool) → (C ≡ true → B ≡ true → A ≡ true) → (D ≡ true → A ≡ true → B ≡ true)
-    → (if m then n && D else not n && C) ≡ true → (if n then not B else B) ≡ true → (if m then not A else A) ≡ true
+turned_too : (turned turned' A B C D : Bool) → (C ≡ true → B ≡ true → A ≡ true) → (D ≡ true → A ≡ true → B ≡ true)
+    → (if turned then turned' && D else not turned' && C) ≡ true → (if turned' then not B else B) ≡ true
+    → (if turned then not A else A) ≡ true
 turned_too true true true true C D f g e t = absurd cc
 turned_too true true true false C D f g e t = absurd (let clash : false ≡ true = g e refl in cc)
 turned_too true true false B C D f g e t = refl

@@ -29,7 +29,7 @@ tree_same n name x (Ok tree) = tt
 tree_same n name x (Err fault) = refl
 
 -- Of two results that have none, the one that a test chooses has none.
-if_same : (n : ℕ) {X : Type 0} (t : Bool) (x y : Result X SpecsFault) → Same n x → Same n y → Same n (if t then x else y)
+if_same : (n : ℕ) {X : Type 0} (test : Bool) (x y : Result X SpecsFault) → Same n x → Same n y → Same n (if test then x else y)
 if_same n true x y first second = first
 if_same n false x y first second = second
 

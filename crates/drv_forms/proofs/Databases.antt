@@ -22,21 +22,22 @@ some_more f (x ∷ xs) ys =
 -- an object, member by member
 
 -- a member's name, its value, and the rest of the object make the object
-pub named_then : {X E : Type 0} (t : Token) (xs ys before a b c : List Token) (result : Result X E) → a ≡ before ++ t ∷ [] → b ≡ a ++ xs
-    → OnOk result (c ≡ b ++ ys) → OnOk result (c ≡ before ++ t ∷ (xs ++ ys))
-named_then t xs ys before a b c (Err e) one two three = three
-named_then t xs ys before a b c (Ok x) one two three =
+pub named_then : {X E : Type 0} (t : Token) (xs ys before first second whole : List Token) (result : Result X E)
+    → first ≡ before ++ t ∷ [] → second ≡ first ++ xs → OnOk result (whole ≡ second ++ ys)
+    → OnOk result (whole ≡ before ++ t ∷ (xs ++ ys))
+named_then t xs ys before first second whole (Err e) one two three = three
+named_then t xs ys before first second whole (Ok x) one two three =
     three ∙ ap (λ l. l ++ ys) (two ∙ ap (λ l. l ++ xs) one) ∙ append_assoc (before ++ t ∷ []) xs ys
     ∙ append_assoc before (t ∷ []) (xs ++ ys)
 
 -- for `put_entry`: three values, of which the second and third have their own keys (k and l), make the object
-pub named_two : {X E : Type 0} (t k l : Token) (xs ys zs before a b c d : List Token) (result : Result X E) → a ≡ before ++ t ∷ []
-    → b ≡ a ++ k ∷ xs
-    → c ≡ b ++ l ∷ ys → OnOk result (d ≡ c ++ zs) → OnOk result (d ≡ before ++ t ∷ (k ∷ (xs ++ l ∷ (ys ++ zs))))
-named_two t k l xs ys zs before a b c d (Err e) one two three four = four
-named_two t k l xs ys zs before a b c d (Ok x) one two three four =
-    four ∙ ap (λ m. m ++ zs) three ∙ append_assoc b (l ∷ ys) zs ∙ ap (λ m. m ++ l ∷ (ys ++ zs)) (two ∙ ap (λ m. m ++ k ∷ xs) one)
-    ∙ append_assoc (before ++ t ∷ []) (k ∷ xs) (l ∷ (ys ++ zs)) ∙ append_assoc before (t ∷ []) (k ∷ (xs ++ l ∷ (ys ++ zs)))
+pub named_two : {X E : Type 0} (key k l : Token) (xs ys zs before first second third whole : List Token) (result : Result X E)
+    → first ≡ before ++ key ∷ [] → second ≡ first ++ k ∷ xs
+    → third ≡ second ++ l ∷ ys → OnOk result (whole ≡ third ++ zs) → OnOk result (whole ≡ before ++ key ∷ (k ∷ (xs ++ l ∷ (ys ++ zs))))
+named_two key k l xs ys zs before first second third whole (Err e) one two three four = four
+named_two key k l xs ys zs before first second third whole (Ok x) one two three four =
+    four ∙ ap (λ m. m ++ zs) three ∙ append_assoc second (l ∷ ys) zs ∙ ap (λ m. m ++ l ∷ (ys ++ zs)) (two ∙ ap (λ m. m ++ k ∷ xs) one)
+    ∙ append_assoc (before ++ key ∷ []) (k ∷ xs) (l ∷ (ys ++ zs)) ∙ append_assoc before (key ∷ []) (k ∷ (xs ++ l ∷ (ys ++ zs)))
 
 -- `put_entries` has written the entries of one job more: those of the jobs that are left complete the text
 pub entries_next : (directory : List ℕ) (names : List (List ℕ)) (n : ℕ) (jobs : List Job) (job : Job) (before after whole : List Token)

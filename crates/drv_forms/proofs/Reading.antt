@@ -16,19 +16,20 @@ use Rattle.std.specs.Str.{is_utf8}
 -- For `plan_json` (src/json_form.rt): the plan that is read from a plan's JSON is that plan.
 
 -- what is read first is there, and so is what is read after it: a step of the proofs of `job_back` and `plan_back`
-goes_on : {A B : Type 0} (o : Option A) (x : A) (f : A → Option B) (y : Option B) → o ≡ Some x → f x ≡ y → option_and_then f o ≡ y
-goes_on o x f y is gives = ap (option_and_then f) is ∙ gives
+goes_on : {A B : Type 0} (read : Option A) (value : A) (f : A → Option B) (given : Option B) → read ≡ Some value → f value ≡ given
+    → option_and_then f read ≡ given
+goes_on read value f given is gives = ap (option_and_then f) is ∙ gives
 
 -- what is read last is there: the last step of these proofs
-ends : {A B : Type 0} (o : Option A) (x : A) (f : A → B) → o ≡ Some x → option_map f o ≡ Some (f x)
-ends o x f is = ap (option_map f) is
+ends : {A B : Type 0} (read : Option A) (value : A) (f : A → B) → read ≡ Some value → option_map f read ≡ Some (f value)
+ends read value f is = ap (option_map f) is
 
 -- a list is read back from its array, if each item is
-items_back : {A : Type 0} (f : A → Json) (g : Json → Option A) (P : A → Type 0) → ((x : A) → P x → g (f x) ≡ Some x) → (xs : List A)
-    → Each P xs → all_of g (items_json f xs) ≡ Some xs
-items_back f g P back [] each = refl
-items_back f g P back (x ∷ xs) each =
-    goes_on (g (f x)) x _ _ (back x each.0) (ends (all_of g (items_json f xs)) xs _ (items_back f g P back xs each.1))
+items_back : {A : Type 0} (write : A → Json) (read : Json → Option A) (P : A → Type 0) → ((x : A) → P x → read (write x) ≡ Some x)
+    → (xs : List A) → Each P xs → all_of read (items_json write xs) ≡ Some xs
+items_back write read P back [] each = refl
+items_back write read P back (x ∷ xs) each =
+    goes_on (read (write x)) x _ _ (back x each.0) (ends (all_of read (items_json write xs)) xs _ (items_back write read P back xs each.1))
 
 -- a number is read back from its digits
 number_back : (n : ℕ) → IsNumber n → number_of (number_json n) ≡ Some n

@@ -333,9 +333,10 @@ module _ (F : Facts) (C : Context) (p : Pattern) (items : Items) where
       by n m e = ap (λ k. each levels (range_with_len 0 k)) (sym e)
 
 -- whether a switch is hit, by the code's own list of names and flags
-pub hit_in : (C : Context) (all : List (List ℕ)) (hidden flags : List Bool) (q : switches.Pattern) (p : Pattern) (i : ℕ) (b : Bool)
-    → b ≡ is_hit all hidden q i → all ≡ names C → hidden ≡ flags → q ≡ matching p → b ≡ is_hit (names C) flags (matching p) i
-hit_in C all hidden flags q p i b e a h m = e ∙ ap (λ xs. is_hit xs hidden q i) a ∙ ap (λ xs. is_hit (names C) xs q i) h
+pub hit_in : (C : Context) (all : List (List ℕ)) (hidden flags : List Bool) (matcher : switches.Pattern) (p : Pattern) (i : ℕ) (hit : Bool)
+    → hit ≡ is_hit all hidden matcher i → all ≡ names C → hidden ≡ flags → matcher ≡ matching p
+    → hit ≡ is_hit (names C) flags (matching p) i
+hit_in C all hidden flags matcher p i hit e a h m = e ∙ ap (λ xs. is_hit xs hidden matcher i) a ∙ ap (λ xs. is_hit (names C) xs matcher i) h
     ∙ ap (λ x. is_hit (names C) flags x i) m
 
 -- the next switch that is hit

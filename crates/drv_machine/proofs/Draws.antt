@@ -28,8 +28,9 @@ use Rattle.std.specs.Prelude.{cond, if◌then◌else◌, nat_eq}
 -- map once it has many.
 
 -- six stretches of a name, put one after another by the code, are those of the definition
-regroup : (a b c d e f : List ℕ) → (((((([] ++ a) ++ b) ++ c) ++ d) ++ e) ++ f) ≡ a ++ b ++ c ++ d ++ e ++ f
-regroup a b c d e f = simp append_assoc
+regroup : (folder cc seed bar number suffix : List ℕ) → (((((([] ++ folder) ++ cc) ++ seed) ++ bar) ++ number) ++ suffix)
+    ≡ folder ++ cc ++ seed ++ bar ++ number ++ suffix
+regroup folder cc seed bar number suffix = simp append_assoc
 
 -- a name is made of its parts: the folder, cc, the seed in base 16, the number and the suffix
 pub temp_named : (F : Facts) (dir : Option (List ℕ)) (seed number : ℕ) (suffix p0 p1 p2 p3 p4 p5 p6 : List ℕ)

@@ -238,13 +238,13 @@ after_well b atoms (Goes others x v) e f = (fits_append b atoms others e f.0, f.
 after_well b atoms (Refuses others fault) e f = stops_append b atoms others e f
 after_well b atoms (Waits others) e f = stops_append b atoms others e f
 
-follow_well : {X Y : Type 0} (b : Bool) (work : Worked X) (f : X → Step Y) → WellDone b work → ((x : X) → Well (f x))
+follow_well : {X Y : Type 0} (b : Bool) (work : Worked X) (f : X → Step Y) → WellDone b work → ((value : X) → Well (f value))
     → WellDone b (follow work f)
-follow_well b (Goes atoms x v) f e goes = after_well b atoms (f x v) e.0 ((goes x).stays v b e.1)
+follow_well b (Goes atoms value v) f e goes = after_well b atoms (f value v) e.0 ((goes value).stays v b e.1)
 follow_well b (Refuses atoms fault) f e goes = e
 follow_well b (Waits atoms) f e goes = e
 
-pub then_well : {X Y : Type 0} {a : Step X} {f : X → Step Y} → Well a → ((x : X) → Well (f x)) → Well (a >>= f)
+pub then_well : {X Y : Type 0} {a : Step X} {f : X → Step Y} → Well a → ((value : X) → Well (f value)) → Well (a >>= f)
 then_well {a = a} {f = f} e goes = record { stays = λ w b i. follow_well b (a w) f (e.stays w b i) goes }
 
 pub puts_well : (atoms : List Atom) → None-bounds atoms → Well (puts atoms)

@@ -61,10 +61,11 @@ abbrev word_closed : Machine → Machine
 word_closed s = record s { cut = record s.cut { word = None; marks = no_marks; barred = false } }
 
 -- the six steps of the code are `word_done`
-pub word_finished : (word : List ℕ) (s a b c d e f : Machine) → a ≡ removed_kept word s → b ≡ failure_kept word a → c ≡ output_kept word b
-    → d ≡ inside_kept word c → e ≡ word_pushed word d → f ≡ word_closed e
-    → f ≡ record s { cut = word_done s.cut (word ∷ []) word }
-word_finished word s a b c d e f ea eb ec ed ee ef =
+pub word_finished : (word : List ℕ) (s removed failed named inside pushed closed : Machine) → removed ≡ removed_kept word s
+    → failed ≡ failure_kept word removed → named ≡ output_kept word failed → inside ≡ inside_kept word named
+    → pushed ≡ word_pushed word inside → closed ≡ word_closed pushed
+    → closed ≡ record s { cut = word_done s.cut (word ∷ []) word }
+word_finished word s removed failed named inside pushed closed ea eb ec ed ee ef =
     ef ∙ ap word_closed (ee ∙ ap (word_pushed word) (ed
     ∙ ap (inside_kept word) (ec ∙ ap (output_kept word) (eb ∙ ap (failure_kept word) ea))))
 

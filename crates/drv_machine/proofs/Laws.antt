@@ -14,16 +14,17 @@ use Rattle.std.specs.Prelude.{Err, Ok}
 -- `outcome`, which cuts the whole list at its end, is what cutting it as it comes gives (`outcome_runs`).
 
 -- answers one after another may be joined from the left or from the right
-pub then_then : {X Y Z : Type 0} (a : Answer X) (f : X → Answer Y) (g : Y → Answer Z) → ((a >>- f) >>- g) ≡ (a >>- λ x. f x >>- g)
-then_then (Is (Ok x)) f g = refl
-then_then (Is (Err fault)) f g = refl
-then_then Unasked f g = refl
+pub then_then : {X Y Z : Type 0} (first : Answer X) (next : X → Answer Y) (last : Y → Answer Z)
+    → ((first >>- next) >>- last) ≡ (first >>- λ x. next x >>- last)
+then_then (Is (Ok x)) next last = refl
+then_then (Is (Err fault)) next last = refl
+then_then Unasked next last = refl
 
 -- what follows an answer may be replaced by what is the same for each value
-pub then_same : {X Y : Type 0} (a : Answer X) (f g : X → Answer Y) → ((x : X) → f x ≡ g x) → (a >>- f) ≡ (a >>- g)
-then_same (Is (Ok x)) f g e = e x
-then_same (Is (Err fault)) f g e = refl
-then_same Unasked f g e = refl
+pub then_same : {X Y : Type 0} (a : Answer X) (next next' : X → Answer Y) → ((x : X) → next x ≡ next' x) → (a >>- next) ≡ (a >>- next')
+then_same (Is (Ok x)) next next' e = e x
+then_same (Is (Err fault)) next next' e = refl
+then_same Unasked next next' e = refl
 
 -- for any answers F of the system, and any C that a text is run for
 module _ (F : Facts) (C : Context) where

@@ -128,10 +128,11 @@ pub left_in : (F : Facts) (C : Context) (text other : List ℕ) (w : Walk) (s : 
 left_in F C text other w s given e left = subst (λ (t : List ℕ). Left F C t w s given) (sym e) left
 
 -- `Following` for another walk with the same end, %* and frames
-pub after_in : (F : Facts) (C : Context) (text : List ℕ) (w v : Walk) (at : ℕ) (step : Levels → List ℕ → Step (Unit {0})) (s : Machine)
-    (given : Answer (Unit {0} × Machine)) → v.end ≡ w.end → v.star ≡ w.star → v.frames ≡ w.frames
-    → Following F C text w at step s given → Following F C text v at step s given
-after_in F C text w v at step s given end_is star_is frames_is b = record {
+pub after_in : (F : Facts) (C : Context) (text : List ℕ) (walk other : Walk) (at : ℕ)
+    (step : Levels → List ℕ → Step (Unit {0})) (s : Machine) (given : Answer (Unit {0} × Machine)) → other.end ≡ walk.end
+    → other.star ≡ walk.star → other.frames ≡ walk.frames
+    → Following F C text walk at step s given → Following F C text other at step s given
+after_in F C text walk other at step s given end_is star_is frames_is b = record {
   rest = b.rest;
   arounds = b.arounds;
   lies = subst (λ (k : ℕ). Lies text at b.rest k) (sym end_is) b.lies;

@@ -45,15 +45,15 @@ put_held F C s t atoms outputs (Err e) (inl memory) = inl memory
 put_held F C s t atoms outputs (Err e) (inr is) = inr (held F C s atoms outputs ∙ ap (λ a. a >>- given_back outputs) is)
 
 -- the words that are put while the outputs are taken out are those that %o puts
-pub outputs_put : (F : Facts) (C : Context) (s m t u : Machine) (outs list : List (List ℕ)) (result : Result (Unit {0}) MachineFault)
-    → C.input ≡ None → outs ≡ s.world.outputs → list ≡ outs → m ≡ holding [] s → u ≡ holding outs t
-    → GivesKnown Memory (λ v. (tt, t)) result (run F C m (puts (Break ∷ words list)))
-    → GivesKnown Memory (λ v. (tt, u)) result (run F C s (outputs_step F C))
-outputs_put F C s m t u outs list result none taken same left back put =
+pub outputs_put : (F : Facts) (C : Context) (s emptied t refilled : Machine) (outs list : List (List ℕ))
+    (result : Result (Unit {0}) MachineFault) → C.input ≡ None → outs ≡ s.world.outputs → list ≡ outs → emptied ≡ holding [] s
+    → refilled ≡ holding outs t → GivesKnown Memory (λ v. (tt, t)) result (run F C emptied (puts (Break ∷ words list)))
+    → GivesKnown Memory (λ v. (tt, refilled)) result (run F C s (outputs_step F C))
+outputs_put F C s emptied t refilled outs list result none taken same left back put =
     let out = subst (λ (n : Machine). GivesKnown Memory (λ v. (tt, t)) result (run F C n (puts (Break ∷ words list)))) left put in
     let all = subst (λ (xs : List (List ℕ)). GivesKnown Memory (λ v. (tt, t)) result (run F C (holding [] s) (puts (Break ∷ words xs))))
     (same ∙ taken) out in
     let whole = put_held F C s t (Break ∷ words s.world.outputs) s.world.outputs result all in
     let given = subst (λ (n : Machine). GivesKnown Memory (λ v. (tt, n)) result (run F C s (puts (Break ∷ words s.world.outputs))))
     (sym (back ∙ ap (λ o. holding o t) taken)) whole in
-    subst (λ a. GivesKnown Memory (λ v. (tt, u)) result a) (sym (link_outputs F C s none)) given
+    subst (λ a. GivesKnown Memory (λ v. (tt, refilled)) result a) (sym (link_outputs F C s none)) given

@@ -29,9 +29,9 @@ module _ {X Y : Type 0} (F : Facts) (C : Context) (s : Machine) (a : Step X) (f 
   then_fails fault (inr e) = inr (then_err fault e)
 
 -- a look at the state changes nothing
-pub looked : {X Y : Type 0} (F : Facts) (C : Context) (s : Machine) (f : Machine → X) (g : X → Step Y) (h : Step X)
-    → run F C s h ≡ Is (Ok (f s, s)) → run F C s (h >>= g) ≡ run F C s (g (f s))
-looked F C s f g h e = then_ok F C s h g (f s) s e
+pub looked : {X Y : Type 0} (F : Facts) (C : Context) (state : Machine) (view : Machine → X) (next : X → Step Y) (looking : Step X)
+    → run F C state looking ≡ Is (Ok (view state, state)) → run F C state (looking >>= next) ≡ run F C state (next (view state))
+looked F C state view next looking e = then_ok F C state looking next (view state) state e
 
 -- a refusal of one answer is that of another that it stops
 pub fails_as : {X Y : Type 0} {fault : MachineFault} (given : Answer X) (whole : Answer Y) → (fault ≡ Memory) ⊎ (given ≡ Is (Err fault))

@@ -58,10 +58,10 @@ pub by_leaf : (F : Facts) (C : Context) (s : Machine) (leaf l : Leaf) → leaf �
 by_leaf F C s leaf l e = ap (λ x. run F C s (leaf_step F C x)) (sym e)
 
 -- a directive that uses the input's name is refused where the text has no input
-pub leaf_unnamed : (F : Facts) (C : Context) (s : Machine) (leaf l : Leaf) → leaf ≡ l → (f : List ℕ → Step (Unit {0}))
-    → leaf_step F C l ≡ (input_name F C >>= f) → (fault : MachineFault)
+pub leaf_unnamed : (F : Facts) (C : Context) (s : Machine) (leaf other : Leaf) → leaf ≡ other → (rest : List ℕ → Step (Unit {0}))
+    → leaf_step F C other ≡ (input_name F C >>= rest) → (fault : MachineFault)
     → (fault ≡ Memory) ⊎ (run F C s (input_name F C) ≡ Is (Err fault))
     → (fault ≡ Memory) ⊎ (run F C s (leaf_step F C leaf) ≡ Is (Err fault))
-leaf_unnamed F C s leaf l is f means fault stopped =
-    fails_as _ (run F C s (leaf_step F C leaf)) (then_fails F C s (input_name F C) f fault stopped)
-    (λ e. sym (by_leaf F C s leaf l is) ∙ ap (run F C s) means ∙ e)
+leaf_unnamed F C s leaf other is rest means fault stopped =
+    fails_as _ (run F C s (leaf_step F C leaf)) (then_fails F C s (input_name F C) rest fault stopped)
+    (λ e. sym (by_leaf F C s leaf other is) ∙ ap (run F C s) means ∙ e)

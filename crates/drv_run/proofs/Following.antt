@@ -108,15 +108,16 @@ closed_after journal journal' events grows none closed = ap (λ j. pipe_pending 
     ∙ ap pipe_pending (run_after journal events) ∙ pending_of_rest (run_of journal) events none ∙ closed
 
 -- a whole run after a journal is a plan carried out, as a caller sees it
-pub executed : (plan p : Plan) (pass_codes q : FailureStatus) (N n : ℕ) (journal journal' : List Event) (status : ℕ)
-    (events : List RunEvent)
-    → journal' ≡ journal ++ map Run events → p ≡ plan → q ≡ pass_codes → n ≡ N → length events ≤ needed p → (w : IsWhole p n events)
-    → ((o : Answers) → Windowed p n o events → status ≡ status_of q o) → Executed plan pass_codes N journal journal' status
-executed plan p pass_codes q N n journal journal' status events grows plans codes windows few w says = record {
+pub executed : (plan same_plan : Plan) (pass_codes same_codes : FailureStatus) (N window : ℕ) (journal journal' : List Event) (status : ℕ)
+    (events : List RunEvent) → journal' ≡ journal ++ map Run events → same_plan ≡ plan → same_codes ≡ pass_codes → window ≡ N
+    → length events ≤ needed same_plan → (w : IsWhole same_plan window events)
+    → ((o : Answers) → Windowed same_plan window o events → status ≡ status_of same_codes o)
+    → Executed plan pass_codes N journal journal' status
+executed plan same_plan pass_codes same_codes N window journal journal' status events grows plans codes windows few w says = record {
   events = events;
   answers = w.o;
   journal_grows = grows;
-  windowed = subst (λ m. Windowed plan m w.o events) windows (subst (λ r. Windowed r n w.o events) plans w.windowed);
+  windowed = subst (λ m. Windowed plan m w.o events) windows (subst (λ r. Windowed r window w.o events) plans w.windowed);
   few = subst (λ r. length events ≤ needed r) plans few;
   status_is = says w.o w.windowed ∙ ap (λ b. status_of b w.o) codes;
 }

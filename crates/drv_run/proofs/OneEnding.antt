@@ -36,10 +36,10 @@ one_expanded F args a b (left, responds, is) (left', responds', is') =
     ap (λ words. expanded_by words a.from_file) same.1 ∙ ap (expanded_by b.words) (is ∙ ap (λ n. nat_lt n 2000) same.0 ∙ sym is')
 
 -- what the front of c99 makes of one expansion
-one_front : (F : Facts) (args : List (List ℕ)) (a b : Expanded) (x y : Result Expanded C99Fault)
-    → Expands F 2000 (after_c99 args) (Ok a) → Expands F 2000 (after_c99 args) (Ok b) → fronted (is_c99 args) a ≡ x
-    → fronted (is_c99 args) b ≡ y → x ≡ y
-one_front F args a b x y expands expands' fronts fronts' =
+one_front : (F : Facts) (args : List (List ℕ)) (a b : Expanded) (front front' : Result Expanded C99Fault)
+    → Expands F 2000 (after_c99 args) (Ok a) → Expands F 2000 (after_c99 args) (Ok b) → fronted (is_c99 args) a ≡ front
+    → fronted (is_c99 args) b ≡ front' → front ≡ front'
+one_front F args a b front front' expands expands' fronts fronts' =
     sym fronts ∙ ap (fronted (is_c99 args)) (one_expanded F (after_c99 args) a b expands expands') ∙ fronts'
 
 -- arguments give one list of words
@@ -48,34 +48,35 @@ one_words F args a b w v =
     let same : Ok a ≡ Ok b = one_front F args w.expanded v.expanded (Ok a) (Ok b) w.expands v.expands w.fronts v.fronts in cc
 
 -- what the words of a line are read as
-one_reading : (F : Facts) (args : List (List ℕ)) (a b : Expanded) (x y : Result Line ArgsFault)
-    → Words F args a → Words F args b → line_read a ≡ x → line_read b ≡ y → x ≡ y
-one_reading F args a b x y gives gives' reads reads' = sym reads ∙ ap line_read (one_words F args a b gives gives') ∙ reads'
+one_reading : (F : Facts) (args : List (List ℕ)) (a b : Expanded) (read read' : Result Line ArgsFault)
+    → Words F args a → Words F args b → line_read a ≡ read → line_read b ≡ read' → read ≡ read'
+one_reading F args a b read read' gives gives' reads reads' = sym reads ∙ ap line_read (one_words F args a b gives gives') ∙ reads'
 
 -- words are read as one line
-one_line : (F : Facts) (args : List (List ℕ)) (a b : Expanded) (l m : Line)
-    → Words F args a → Words F args b → line_read a ≡ Ok l → line_read b ≡ Ok m → l ≡ m
-one_line F args a b l m gives gives' reads
-    reads' = let same : Ok l ≡ Ok m = one_reading F args a b (Ok l) (Ok m) gives gives' reads reads' in cc
+one_line : (F : Facts) (args : List (List ℕ)) (a b : Expanded) (line line' : Line)
+    → Words F args a → Words F args b → line_read a ≡ Ok line → line_read b ≡ Ok line' → line ≡ line'
+one_line F args a b line line' gives gives' reads reads' =
+    let same : Ok line ≡ Ok line' = one_reading F args a b (Ok line) (Ok line') gives gives' reads reads' in cc
 
 -- one line loads one set, or is refused for one reason
-one_loading : (F : Facts) (args : List (List ℕ)) (a b : Expanded) (l m : Line) (x y : Result Set SpecsFault)
-    → Words F args a → Words F args b → line_read a ≡ Ok l → line_read b ≡ Ok m → specs_of F l.settings ≡ Is x
-    → specs_of F m.settings ≡ Is y → x ≡ y
-one_loading F args a b l m x y gives gives' reads reads' loads loads' =
-    let lines : l ≡ m = one_line F args a b l m gives gives' reads reads' in
-    let e : Is x ≡ Is y = sym loads ∙ ap (λ line. specs_of F line.settings) lines ∙ loads' in cc
+one_loading : (F : Facts) (args : List (List ℕ)) (a b : Expanded) (line line' : Line) (loaded loaded' : Result Set SpecsFault)
+    → Words F args a → Words F args b → line_read a ≡ Ok line → line_read b ≡ Ok line' → specs_of F line.settings ≡ Is loaded
+    → specs_of F line'.settings ≡ Is loaded' → loaded ≡ loaded'
+one_loading F args a b line line' loaded loaded' gives gives' reads reads' loads loads' =
+    let lines : line ≡ line' = one_line F args a b line line' gives gives' reads reads' in
+    let e : Is loaded ≡ Is loaded' = sym loads ∙ ap (λ line. specs_of F line.settings) lines ∙ loads' in cc
 
 -- one line with one set of specs asks for one work
-one_work : (F : Facts) (args : List (List ℕ)) (seed : ℕ) (a b : Expanded) (l m : Line) (s t : Set) (x y : Result Work PlanFault)
-    → Words F args a → Words F args b → line_read a ≡ Ok l → line_read b ≡ Ok m → specs_of F l.settings ≡ Is (Ok s)
-    → specs_of F m.settings ≡ Is (Ok t)
-    → work_of F l s seed ≡ Is x → work_of F m t seed ≡ Is y → x ≡ y
-one_work F args seed a b l m s t x y gives gives' reads reads' loads loads' works works' =
-    let lines : l ≡ m = one_line F args a b l m gives gives' reads reads' in
-    let sets : Ok s ≡ Ok t = one_loading F args a b l m (Ok s) (Ok t) gives gives' reads reads' loads loads' in
-    let same : s ≡ t = cc in
-    let e : Is x ≡ Is y = sym works ∙ ap (λ line. work_of F line s seed) lines ∙ ap (λ set. work_of F m set seed) same ∙ works' in cc
+one_work : (F : Facts) (args : List (List ℕ)) (seed : ℕ) (a b : Expanded) (line line' : Line) (set set' : Set)
+    (work work' : Result Work PlanFault) → Words F args a → Words F args b → line_read a ≡ Ok line → line_read b ≡ Ok line'
+    → specs_of F line.settings ≡ Is (Ok set) → specs_of F line'.settings ≡ Is (Ok set')
+    → work_of F line set seed ≡ Is work → work_of F line' set' seed ≡ Is work' → work ≡ work'
+one_work F args seed a b line line' set set' work work' gives gives' reads reads' loads loads' works works' =
+    let lines : line ≡ line' = one_line F args a b line line' gives gives' reads reads' in
+    let sets : Ok set ≡ Ok set' = one_loading F args a b line line' (Ok set) (Ok set') gives gives' reads reads' loads loads' in
+    let same : set ≡ set' = cc in
+    let e : Is work ≡ Is work' = sym works ∙ ap (λ line. work_of F line set seed) lines ∙ ap (λ set. work_of F line' set seed) same
+    ∙ works' in cc
 
 -- arguments ask for one work, and no other
 pub driven_once : (F : Facts) (args : List (List ℕ)) (seed : ℕ) (a b : Work) → Drives F args seed a → Drives F args seed b → a ≡ b
@@ -106,11 +107,11 @@ not_read_twice F args a b line fault gives gives' reads reads' =
     let same : Ok line ≡ Err fault = one_reading F args a b (Ok line) (Err fault) gives gives' reads reads' in cc
 
 -- specs that are loaded are not refused
-not_loaded_twice : (F : Facts) (args : List (List ℕ)) (a b : Expanded) (l m : Line) (set : Set) (fault : SpecsFault)
-    → Words F args a → Words F args b → line_read a ≡ Ok l → line_read b ≡ Ok m → specs_of F l.settings ≡ Is (Ok set)
-    → specs_of F m.settings ≡ Is (Err fault) → ⊥
-not_loaded_twice F args a b l m set fault gives gives' reads reads' loads loads' =
-    let same : Ok set ≡ Err fault = one_loading F args a b l m (Ok set) (Err fault) gives gives' reads reads' loads loads' in cc
+not_loaded_twice : (F : Facts) (args : List (List ℕ)) (a b : Expanded) (line line' : Line) (set : Set) (fault : SpecsFault)
+    → Words F args a → Words F args b → line_read a ≡ Ok line → line_read b ≡ Ok line' → specs_of F line.settings ≡ Is (Ok set)
+    → specs_of F line'.settings ≡ Is (Err fault) → ⊥
+not_loaded_twice F args a b line line' set fault gives gives' reads reads' loads loads' =
+    let same : Ok set ≡ Err fault = one_loading F args a b line line' (Ok set) (Err fault) gives gives' reads reads' loads loads' in cc
 
 -- arguments that ask for a work are not refused
 pub driven_alone : (F : Facts) (args : List (List ℕ)) (seed : ℕ) (work : Work) (refusal : Refusal) → Drives F args seed work
