@@ -213,7 +213,8 @@ chosen off taken judged known question unknown = cond (off || taken) known (cond
 -- what a word is that no row fits, by whether it is passed over
 abbrev passed_or : List ℕ → List ℕ → List ℕ → Bool → Item
 passed_or known word name passed = cond passed (passed_item known word name)
-    (chosen (turns_off known word) (accepts known name) (judges known name) (known_item known name) (plain Question word) (plain Unknown word))
+    (chosen (turns_off known word) (accepts known name) (judges known name) (known_item known name)
+    (plain Question word) (plain Unknown word))
 
 -- Without names a word that no row fits, that is not passed over and turns no warning off, is unknown.
 unknown_first : (word : List ℕ) (b : ℕ) (name : List ℕ) → is_passed_over (b ∷ name) ≡ false → turns_off [] word ≡ false
@@ -368,7 +369,8 @@ own_switch known word machine passed off taken same machine_is other passed_is s
     (λ t. if t then machine_item known (drop (length (codes "-mcpu=")) word) else item word [] Alone Switch) none
   where
     by : (t : Bool) → t ≡ true
-        → (if t then known_item known word else if judges known word then plain Question word else plain Unknown word) ≡ known_item known word
+        → (if t then known_item known word else if judges known word then plain Question word else plain Unknown word)
+        ≡ known_item known word
     by true e = refl
     by false e = absurd cc
 

@@ -1,9 +1,11 @@
-use Rattle.drv_cc.specs.Code.Groups.{begun_at, begun_key, is_begun, is_parted, is_short, is_whole, key_of, last_byte, third, whole_at, whole_key}
+use Rattle.drv_cc.specs.Code.Groups.{begun_at, begun_key, is_begun, is_parted, is_short, is_whole, key_of, last_byte, third}
+use Rattle.drv_cc.specs.Code.Groups.{whole_at, whole_key}
 use Rattle.drv_cc.specs.Items.{begins, first_row, fits, option_fits, same, takes_rest}
 use Rattle.drv_cc.specs.Table.{OptionRow, sections, table}
 use Rattle.drv_cc.specs.declared.table.Takes.TheVariants.{Attached, Either, Newer, Next, Nothing, Rest}
 use Rattle.drv_cc.specs.declared.table.Takes.{Takes}
-use Rattle.std.proofs.Common.{arith, ◌≡◌, ◌==◌, ◌&&◌, ◌||◌, ◌∙◌, ◌++◌, ◌<◌, ◌-◌, ◌%◌, Bool, List, [], ◌∷◌, None, Option, Some, ap, cond, false}
+use Rattle.std.proofs.Common.{arith, ◌≡◌, ◌==◌, ◌&&◌, ◌||◌, ◌∙◌, ◌++◌, ◌<◌, ◌-◌, ◌%◌, Bool, List, [], ◌∷◌, None, Option, Some, ap}
+use Rattle.std.proofs.Common.{cond, false}
 use Rattle.std.proofs.Common.{find, get_or, length, map, not, refl, sym, take, true, ℕ}
 use Rattle.std.proofs.lemmas.Bool.{eq-eqb, eqb-true}
 use Rattle.std.proofs.lemmas.List.Folds.{find-append}
@@ -101,7 +103,8 @@ begins_alike (a ∷ b ∷ []) (x ∷ y ∷ word) e = two_alike a b x y word (eqb
 begins_alike (a ∷ b ∷ c ∷ option) (x ∷ y ∷ []) e = absurd (never_two (a == x) (b == y) e)
 begins_alike (a ∷ b ∷ c ∷ option) (x ∷ y ∷ z ∷ word) e =
     or_true (is_short (a ∷ b ∷ c ∷ option)) (begun_key (a ∷ b ∷ c ∷ option) == begun_key (x ∷ y ∷ z ∷ word))
-    (eq-eqb (key_of b c) (key_of y z) (ap (λ l. key_of l c) (eqb-true b y (second_true (a == x) (b == y) (begins (c ∷ option) (z ∷ word)) e))
+    (eq-eqb (key_of b c) (key_of y z)
+    (ap (λ l. key_of l c) (eqb-true b y (second_true (a == x) (b == y) (begins (c ∷ option) (z ∷ word)) e))
     ∙ ap (key_of y) (eqb-true c z (third_true (a == x) (b == y) (c == z) (begins option word) e))))
 
 -- An option that takes a rest and fits a word has the key of the word, or is in each group.

@@ -23,6 +23,7 @@ others_keep d (a ∷ b ∷ name) e = by (a == 45) (b == 103) refl refl
   where
     by : (x y : Bool) → (a == 45) ≡ x → (b == 103) ≡ y → d ≡ debugged_by d (a ∷ b ∷ name)
     by true true ex ey =
-        absurd (let same : true ≡ false = sym (both (45 == a) (103 == b) (eq-eqb 45 a (sym (eqb-true a 45 ex))) (eq-eqb 103 b (sym (eqb-true b 103 ey)))) ∙ e in cc)
+        absurd (let same : true ≡ false =
+        sym (both (45 == a) (103 == b) (eq-eqb 45 a (sym (eqb-true a 45 ex))) (eq-eqb 103 b (sym (eqb-true b 103 ey)))) ∙ e in cc)
     by true false ex ey = rw (ex, ey) refl
     by false y ex ey = rw ex refl

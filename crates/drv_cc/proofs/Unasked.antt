@@ -44,7 +44,8 @@ other_name n name judged not_judged = by (same n name) refl
     by true e = absurd (let clash : true ≡ false = sym judged ∙ ap is_judged (same_is n name e) ∙ not_judged in cc)
 
 -- Nor is it in a list of such names.
-in_no_list : (names : List (List ℕ)) (name : List ℕ) → list_all is_judged names ≡ true → is_judged name ≡ false → is_among names name ≡ false
+in_no_list : (names : List (List ℕ)) (name : List ℕ) → list_all is_judged names ≡ true → is_judged name ≡ false
+    → is_among names name ≡ false
 in_no_list [] name all none = refl
 in_no_list (other ∷ names) name all none =
     by (same name other) refl (both_true (is_judged other) (list_all is_judged names) all) (λ more. in_no_list names name more none)

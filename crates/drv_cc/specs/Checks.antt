@@ -11,14 +11,14 @@ use Rattle.std.specs.Prelude.{◌==◌, ◌&&◌, ◌||◌, Bool, List, ◌++◌
 -- the checks of undefined
 abbrev pub undefined_checks : List ℕ
 undefined_checks =
-    codes "shift-base shift-exponent integer-divide-by-zero unreachable vla-bound return null signed-integer-overflow bool enum bounds alignment "
-    ++ codes "nonnull-attribute returns-nonnull-attribute object-size vptr pointer-overflow builtin"
+    codes "shift-base shift-exponent integer-divide-by-zero unreachable vla-bound return null signed-integer-overflow bool enum bounds "
+    ++ codes "alignment nonnull-attribute returns-nonnull-attribute object-size vptr pointer-overflow builtin"
 
 -- the names of all checks and of groups of them that -fsanitize= takes
 abbrev pub checks : List ℕ
 checks =
-    codes "address kernel-address hwaddress kernel-hwaddress pointer-compare pointer-subtract thread leak shadow-call-stack undefined shift "
-    ++ codes "float-divide-by-zero float-cast-overflow bounds-strict " ++ undefined_checks
+    codes "address kernel-address hwaddress kernel-hwaddress pointer-compare pointer-subtract thread leak shadow-call-stack undefined "
+    ++ codes "shift float-divide-by-zero float-cast-overflow bounds-strict " ++ undefined_checks
 
 -- whether a name is a check's or a group's. Between commas there may be nothing, and all where checks are turned off (GCC, "opts.cc",
 -- parse_sanitizer_options)

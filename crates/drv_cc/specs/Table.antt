@@ -10,8 +10,8 @@ use Rattle.std.specs.Prelude.{◌==◌, List, [], ◌∷◌, ◌++◌, codes, if
 
 -- The option table (GCC manual, the section that each part names; "GCC Internals", "Option Files": which forms an option has and which
 -- other it is an alias of). The first row that fits a word decides.
--- The values of Takes, Spelling and Role are explained in src/table.rt: Attached takes the word's rest, which isn't empty, and Rest one that
--- may be; Either takes the next word where the rest is empty. Newer takes none, and newer compilers alone call the option by its name.
+-- The values of Takes, Spelling and Role are explained in src/table.rt: Attached takes the word's rest, which isn't empty, and Rest one
+-- that may be; Either takes the next word where the rest is empty. Newer takes none, and newer compilers alone call the option by its name.
 -- After a change run tools/option_rows: it writes the rows and names of the code (src/whole_options.rt and its like; docs/CHANGING.md).
 -- For clauses of src/classes.rt, src/reading.rt, src/renaming.rt and src/checks.rt. drv_compile cites it too.
 

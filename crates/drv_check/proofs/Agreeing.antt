@@ -161,7 +161,8 @@ module _ (F : Facts) (prefixes : Prefixes) where
   -- a piece loaded as a text by itself
 
   -- a set that is loaded from one directive is the set that this makes
-  pub change_alone : (result : Result Set SpecsFault) → then_by (then_by (load.changed most_files result) (λ d. Is (Ok d))) set_in ≡ Is result
+  pub change_alone : (result : Result Set SpecsFault)
+      → then_by (then_by (load.changed most_files result) (λ d. Is (Ok d))) set_in ≡ Is result
   change_alone (Ok set) = refl
   change_alone (Err fault) = refl
 
@@ -207,7 +208,8 @@ module _ (F : Facts) (prefixes : Prefixes) where
   pub one_as : (enters : Enters) (levels : ℕ) (c : Checking) → OpensFrom enters levels c
       → (c' : Checking) (file : OpenFile) (piece : Piece) (directive : Directive)
       → IsRead piece directive
-      → One enters levels c file piece c' → Follows (faults_of c.findings) c' (carried (including F prefixes levels) (carried_of c) directive)
+      → One enters levels c file piece c'
+      → Follows (faults_of c.findings) c' (carried (including F prefixes levels) (carried_of c) directive)
   one_as enters levels c opens c' file piece (Text name body) read is =
       changed_as c file piece enters (with_text c.set name body) c' (text_same piece.number c.set name body)
       (stays enters levels c c' file piece (with_text c.set name body) read.includes

@@ -26,7 +26,8 @@ use Rattle.drv_specs.specs.declared.fault.SpecsFault.TheVariants.{BadLine, Inclu
 use Rattle.drv_specs.specs.declared.fault.SpecsFault.{SpecsFault}
 use Rattle.drv_system.specs.Facts.{Facts}
 use Rattle.drv_system.specs.Known.{◌>>=◌, Is, Known, Unasked}
-use Rattle.std.proofs.Common.{◌≡◌, ◌∙◌, ◌<◌, ◌≤◌, ◌+◌, ◌-◌, ◌∷◌, Err, IfOk, IfSome, List, None, Ok, Option, Result, Some, [], ap, arith, drop}
+use Rattle.std.proofs.Common.{◌≡◌, ◌∙◌, ◌<◌, ◌≤◌, ◌+◌, ◌-◌, ◌∷◌, Err, IfOk, IfSome, List, None, Ok, Option, Result, Some, [], ap}
+use Rattle.std.proofs.Common.{arith, drop}
 use Rattle.std.proofs.Common.{false, length, refl, subst, suc, sym, zero, ℕ}
 use Rattle.std.proofs.lemmas.List.{drop_all}
 use Rattle.std.specs.Prelude.{get_or}

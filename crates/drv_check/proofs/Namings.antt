@@ -11,7 +11,8 @@ use Rattle.drv_syntax.specs.Labels.{label_at}
 use Rattle.drv_syntax.specs.Parsed.{tree_of}
 use Rattle.drv_syntax.specs.Tree.{Items, none}
 use Rattle.drv_syntax.specs.declared.token.Token.{Token}
-use Rattle.std.proofs.Common.{◌≡◌, ◌∙◌, ◌<◌, ◌+◌, ◌++◌, ◌∷◌, Bool, Err, List, None, Ok, OnOk, Option, Result, Some, [], ap, append_assoc, drop}
+use Rattle.std.proofs.Common.{◌≡◌, ◌∙◌, ◌<◌, ◌+◌, ◌++◌, ◌∷◌, Bool, Err, List, None, Ok, OnOk, Option, Result, Some, [], ap}
+use Rattle.std.proofs.Common.{append_assoc, drop}
 use Rattle.std.proofs.Common.{false, length, refl, sym, true, ℕ}
 use Rattle.std.proofs.lemmas.List.{append-nil, drop_more}
 use Rattle.std.specs.List.{position}

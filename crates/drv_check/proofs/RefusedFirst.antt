@@ -1,4 +1,5 @@
-use Rattle.drv_check.proofs.Agreeing.{Follows, Loads, One, OpensFrom, agrees, carried_of, joins, loads_join, loads_set, noted_faults, one_as}
+use Rattle.drv_check.proofs.Agreeing.{Follows, Loads, One, OpensFrom, agrees, carried_of, joins, loads_join, loads_set}
+use Rattle.drv_check.proofs.Agreeing.{noted_faults, one_as}
 use Rattle.drv_check.proofs.Agreeing.{same_in}
 use Rattle.drv_check.proofs.IncludesRead.{answers_alike, refusing}
 use Rattle.drv_check.proofs.PiecesRead.{pieces_read}
@@ -19,14 +20,16 @@ use Rattle.drv_check.specs.declared.pieces.Piece.{Piece}
 use Rattle.drv_search.specs.Search.{file_found}
 use Rattle.drv_search.specs.declared.prefixes.Prefixes.{Prefixes}
 use Rattle.drv_specs.specs.Directives.{Directive, directives_of}
-use Rattle.drv_specs.specs.Loading.{Carried, all_carried, carried, file_carried, file_loaded, including, most_files, most_levels, text_read, then_by}
+use Rattle.drv_specs.specs.Loading.{Carried, all_carried, carried, file_carried, file_loaded, including, most_files, most_levels}
+use Rattle.drv_specs.specs.Loading.{text_read, then_by}
 use Rattle.drv_specs.specs.Sets.{Set}
 use Rattle.drv_specs.specs.declared.fault.SpecsFault.TheVariants.{IncludeTooDeep, TooManyIncludes}
 use Rattle.drv_specs.specs.declared.fault.SpecsFault.{SpecsFault}
 use Rattle.drv_system.specs.Facts.{Facts, read_of}
 use Rattle.drv_system.specs.Known.{◌>>=◌, Is, Known, Unasked, asked}
 use Rattle.drv_system.specs.declared.event.ReadAnswer.{ReadAnswer}
-use Rattle.std.proofs.Common.{◌≡◌, ◌∙◌, ◌++◌, ◌∷◌, ◌||◌, Bool, Err, List, None, Ok, Option, Result, Some, [], ap, false, length, refl, subst}
+use Rattle.std.proofs.Common.{◌≡◌, ◌∙◌, ◌++◌, ◌∷◌, ◌||◌, Bool, Err, List, None, Ok, Option, Result, Some, [], ap, false, length}
+use Rattle.std.proofs.Common.{refl, subst}
 use Rattle.std.proofs.Common.{suc, sym, true, zero, ℕ}
 use Rattle.std.proofs.lemmas.Bool.{false≢true}
 use Rattle.std.specs.List.{list_any}

@@ -14,7 +14,8 @@ use Rattle.drv_specs.specs.Blanks.{is_blank}
 use Rattle.drv_specs.specs.Directives.{is_colon}
 use Rattle.drv_system.specs.Facts.{Facts}
 use Rattle.drv_system.specs.Known.{◌>>=◌, Is}
-use Rattle.std.proofs.Common.{◌≡◌, ◌∙◌, ◌<◌, ◌+◌, ◌-◌, ◌++◌, ◌∷◌, Bool, Err, IfOk, List, None, Ok, Option, Result, Some, [], ap, append_assoc}
+use Rattle.std.proofs.Common.{◌≡◌, ◌∙◌, ◌<◌, ◌+◌, ◌-◌, ◌++◌, ◌∷◌, Bool, Err, IfOk, List, None, Ok, Option, Result, Some, [], ap}
+use Rattle.std.proofs.Common.{append_assoc}
 use Rattle.std.proofs.Common.{arith, drop, false, length, refl, sym, true, ℕ}
 use Rattle.std.proofs.lemmas.Bool.Decides.{Decides-eqb}
 use Rattle.std.proofs.lemmas.List.Quantifiers.{position-Some}
@@ -91,7 +92,8 @@ other_head head piece line is lacks =
     same at false test found = refl
     same at true test found =
         let place : (at < length line) × (is_colon (get_or line at 0) ≡ true) × _ = position-Some is_colon line at 0 found in
-        let alike : head ≡ take at line = (slice_eq-Decides Decides-eqb head (take at line) (pointwise nat_eq head (take at line)) refl).0 test in
+        let alike : head ≡ take at line =
+        (slice_eq-Decides Decides-eqb head (take at line) (pointwise nat_eq head (take at line)) refl).0 test in
         let size : length head ≡ at = ap length alike ∙ length-take-le at line (omega (arith, place.0)) in
         let there : slice_get line at ≡ Some (get_or line at 0) = slice_get-get_or line at 0 place.0 in
         sym lacks ∙ ap (has_colon_at line) size ∙ ap is_colon_there there ∙ place.1

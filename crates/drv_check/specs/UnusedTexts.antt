@@ -28,10 +28,10 @@ use Rattle.std.specs.Prelude.{nat_eq, not, ℕ}
 abbrev pub gcc_names : List ℕ
 gcc_names =
     codes "asm asm_debug asm_debug_option asm_final asm_options invoke_as cpp cpp_options cpp_debug_options cpp_unique_options "
-    ++ codes "trad_capable_cpp cc1 cc1_options cc1plus link_gcc_c_sequence link_ssp endfile link lib link_gomp libgcc startfile cross_compile "
-    ++ codes "version multilib multilib_defaults multilib_extra multilib_matches multilib_exclusions multilib_options multilib_reuse linker "
-    ++ codes "linker_plugin_file lto_wrapper lto_gcc post_link link_libgcc md_exec_prefix md_startfile_prefix md_startfile_prefix_1 "
-    ++ codes "startfile_prefix_spec sysroot_spec sysroot_suffix_spec sysroot_hdrs_suffix_spec self_spec link_command "
+    ++ codes "trad_capable_cpp cc1 cc1_options cc1plus link_gcc_c_sequence link_ssp endfile link lib link_gomp libgcc startfile "
+    ++ codes "cross_compile version multilib multilib_defaults multilib_extra multilib_matches multilib_exclusions multilib_options "
+    ++ codes "multilib_reuse linker linker_plugin_file lto_wrapper lto_gcc post_link link_libgcc md_exec_prefix md_startfile_prefix "
+    ++ codes "md_startfile_prefix_1 startfile_prefix_spec sysroot_spec sysroot_suffix_spec sysroot_hdrs_suffix_spec self_spec link_command "
 
 -- those that the driver's set has besides
 abbrev pub own_names : List ℕ

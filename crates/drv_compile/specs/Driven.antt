@@ -35,8 +35,8 @@ use Rattle.drv_system.specs.Known.{Is, Known}
 use Rattle.std.specs.Prelude.{◌≡◌, List, [], ◌∷◌, ◌++◌, None, Ok, Err, Option, Some, codes, ℕ}
 
 -- Who carries out a line, over facts: the driver, with the file that has the line's texts and its items, with the options that its spec
--- files give it (GCC, "gcc.cc", set_up_specs, do_self_spec; GCC manual, "Overall Options", -specs=). Or it is the compiler of the spec file,
--- where no row has the words for the line's machine: another row's words would make another object.
+-- files give it (GCC, "gcc.cc", set_up_specs, do_self_spec; GCC manual, "Overall Options", -specs=). Or it is the compiler of the spec
+-- file, where no row has the words for the line's machine: another row's words would make another object.
 -- For clauses of src/driving.rt.
 
 -- The items of the driver's line: the spec file, that a front precedes it, and those of the front.

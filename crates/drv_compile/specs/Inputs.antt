@@ -56,7 +56,8 @@ pub data Reaches (path : List ℕ) : List (List ℕ) → List HostEvent → Bool
       → is_at path answer ≡ false
       → Reaches path inputs events found → Reaches path (input ∷ inputs) (Resolved input answer ∷ events) found
 
--- whether a file is one of the inputs by whatever path, with the questions for that: the file's own path, and then each input's until one is it
+-- whether a file is one of the inputs by whatever path, with the questions for that: the file's own path, and then each input's until
+-- one is it
 pub data IsRead (inputs : List (List ℕ)) : Option (List ℕ) → List HostEvent → Bool → Type 0 where
   no_output : IsRead inputs None [] false
   new_output : {output : List ℕ} → IsRead inputs (Some output) (Resolved output None ∷ []) false

@@ -88,7 +88,8 @@ open_append : (xs ys : List Atom) (enclosed : Enclosed) (count : ℕ)
 open_append [] ys enclosed count = refl
 open_append (x ∷ xs) ys enclosed count = by (open_after x enclosed count) (λ left. open_append xs ys enclosed left)
   where
-    by : (after : Option ℕ) → ((left : ℕ) → open_following (xs ++ ys) enclosed left ≡ then_open ys enclosed (open_following xs enclosed left))
+    by : (after : Option ℕ) → ((left : ℕ)
+        → open_following (xs ++ ys) enclosed left ≡ then_open ys enclosed (open_following xs enclosed left))
         → then_open (xs ++ ys) enclosed after ≡ then_open ys enclosed (then_open xs enclosed after)
     by None goes = refl
     by (Some left) goes = goes left
@@ -113,7 +114,8 @@ even_bare (atom ∷ atoms) e count =
     ap (then_open atoms Failure) (opens_no_failure atom count each.0) ∙ even_bare atoms each.1 count
 
 even_failure : (atoms : List Atom) → Even atoms → Even (From ∷ atoms ++ Break ∷ To ∷ [])
-even_failure atoms e count = open_append atoms (Break ∷ To ∷ []) Failure (suc count) ∙ ap (then_open (Break ∷ To ∷ []) Failure) (e (suc count))
+even_failure atoms e count = open_append atoms (Break ∷ To ∷ []) Failure (suc count)
+    ∙ ap (then_open (Break ∷ To ∷ []) Failure) (e (suc count))
 
 pub even_file : (atoms : List Atom) → Even atoms → Even (Break ∷ FileFrom ∷ atoms ++ Break ∷ FileTo ∷ [])
 even_file atoms e count = open_append atoms (Break ∷ FileTo ∷ []) Failure count ∙ ap (then_open (Break ∷ FileTo ∷ []) Failure) (e count)
@@ -181,7 +183,8 @@ stops_here false = (refl, λ count. refl)
 pub stops_file : (atoms : List Atom) → Stops true atoms → Stops false (Break ∷ FileFrom ∷ atoms)
 stops_file atoms e = (ap is_some (unfiled_open atoms 1 e.0), λ count. e.1 count)
 
-broken_append : (xs ys : List Stretch) → list_any is_broken xs ≡ false → list_any is_broken ys ≡ false → list_any is_broken (xs ++ ys) ≡ false
+broken_append : (xs ys : List Stretch) → list_any is_broken xs ≡ false → list_any is_broken ys ≡ false
+    → list_any is_broken (xs ++ ys) ≡ false
 broken_append xs ys e f = list_any-append is_broken xs ys ∙ ap (λ (b : Bool). b || list_any is_broken ys) e ∙ f
 
 shaped_append : (b : Bool) (xs ys : List Atom) → Shaped b xs → Shaped b ys → Shaped b (xs ++ ys)

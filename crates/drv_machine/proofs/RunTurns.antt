@@ -26,7 +26,8 @@ use Rattle.std.proofs.Common.{slice_get, subst, sym, true, ℕ}
 use Rattle.std.proofs.lemmas.Bool.{lt-ltb, ltb-true}
 use Rattle.std.specs.Prelude.{if◌then◌else◌, nat_lt}
 
--- For `work_run` (turns.rt) and `open_text` (named.rt): plain bytes that follow one another, worked as one slice, are so many turns, each of which works one byte.
+-- For `work_run` (turns.rt) and `open_text` (named.rt): plain bytes that follow one another, worked as one slice, are so many
+-- turns, each of which works one byte.
 
 -- one more item is counted
 abbrev one_more : Machine → Machine

@@ -9,8 +9,8 @@ use Rattle.std.specs.List.{filter, filter_map, flat_map, list_any}
 use Rattle.std.specs.Prelude.{◌≡◌, ◌&&◌, ◌||◌, Bool, List, [], ◌∷◌, ◌++◌, Option, None, Some, Ok, false, if◌then◌else◌, is_some, not}
 use Rattle.std.specs.Prelude.{option_and_then, suc, true, zero, ℕ}
 
--- What a list of atoms is cut into, by definitions over the whole list (this project's profile). `Cutting` says it atom by atom, as the code
--- does; the laws of src/cut_laws.rt, which alone cite this file, say that both agree.
+-- What a list of atoms is cut into, by definitions over the whole list (this project's profile). `Cutting` says it atom by atom, as the
+-- code does; the laws of src/cut_laws.rt, which alone cite this file, say that both agree.
 
 -- the atom ends the word that is open: a break or a pipe
 abbrev pub ends_word : Atom → Bool

@@ -179,7 +179,16 @@ impl Model for Machine {
         outer = m.outer;
         inside = m.inside;
       };
-      world = record { hidden = m.hidden; options = m.options; drawn = m.drawn; number = m.number; outputs = m.outputs; notices = m.notices; is_in_file = m.is_in_file; items = 0 };
+      world = record {
+        hidden = m.hidden;
+        options = m.options;
+        drawn = m.drawn;
+        number = m.number;
+        outputs = m.outputs;
+        notices = m.notices;
+        is_in_file = m.is_in_file;
+        items = 0;
+      };
     } };
 }
 

@@ -315,11 +315,14 @@ flags_next names order flags after k first same within told last is j below = rw
         let place : get_or order j 0 ≡ get_or order k 0 = eqb-true _ _ e in
         rw (place, get_or-set_same flags (get_or order k 0) (nat_le first (get_or order k 0)) false (rw same within)) here
     by false true e e' = absurd
-        (let one : j ≡ k = eqb-true j k e' in let clash : true ≡ false = sym (nat_eq_equiv.refl (get_or order j 0)) ∙ ap (λ m. get_or order j 0 == get_or order m 0) one ∙ e in cc)
+        (let one : j ≡ k = eqb-true j k e' in
+        let clash : true ≡ false = sym (nat_eq_equiv.refl (get_or order j 0))
+        ∙ ap (λ m. get_or order j 0 == get_or order m 0) one ∙ e in cc)
     by false false e e' =
         let lower : j < k = grind (arith, nat_tests) in
         rw (get_or-set_other flags (get_or order k 0) (get_or order j 0) (nat_le first (get_or order k 0)) false
-        (λ place. absurd (let clash : true ≡ false = sym (nat_eq_equiv.refl (get_or order j 0)) ∙ ap (λ m. get_or order j 0 == m) place ∙ e in cc))) (told j lower)
+        (λ place. absurd (let clash : true ≡ false = sym (nat_eq_equiv.refl (get_or order j 0)) ∙ ap (λ m. get_or order j 0 == m) place
+        ∙ e in cc))) (told j lower)
 
 -- at its end all flags are right
 pub flags_all : (names : List (List ℕ)) (order : List ℕ) (flags : List Bool) (k : ℕ) → IsOrder names order → length flags ≡ length names

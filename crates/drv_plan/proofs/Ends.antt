@@ -28,7 +28,8 @@ not_alike text end last wanted some last_at wanted_at differ = by (ends_with nat
   where
     by : (r : Bool) → ends_with nat_eq text end ≡ r → ends_with nat_eq text end ≡ false
     by false e = e
-    by true e = absurd (let z : true ≡ false = sym ((Decides-eqb last wanted).1 (last_at ∙ last_is text end some e ∙ sym wanted_at)) ∙ differ in cc)
+    by true e = absurd (let z : true ≡ false =
+        sym ((Decides-eqb last wanted).1 (last_at ∙ last_is text end some e ∙ sym wanted_at)) ∙ differ in cc)
 
 -- a length that is not 0
 pub some_there : (n : ℕ) (empty : Bool) → empty ≡ (n == 0) → empty ≡ false → 0 < n

@@ -384,7 +384,8 @@ white_ends b white = by (ends_with_backslash (b ∷ [])) refl
   where
     by : (e : Bool) → ends_with_backslash (b ∷ []) ≡ e → ends_with_backslash (b ∷ []) ≡ false
     by false e = e
-    by true e = absurd (let wrong : true ≡ false = sym white ∙ ap is_white (sym (eqb-true backslash b (and_first (nat_eq backslash b) true e))) in cc)
+    by true e = absurd (let wrong : true ≡ false = sym white
+        ∙ ap is_white (sym (eqb-true backslash b (and_first (nat_eq backslash b) true e))) in cc)
 
 -- a text without the white space at its end is empty, or ends with a byte that is none
 ended : (text : List ℕ) → (without_end is_white text ≡ []) ⊎ Ended text
@@ -459,7 +460,8 @@ ended_body body (inl none) (inr e) ends =
 ended_body body (inr (inl last)) (inr e) ends = absurd (by e.soft)
   where
     by : (e.end ≡ []) ⊎ (ends_with_backslash body ≡ false) → ⊥
-    by (inl none) = let wrong : true ≡ false = sym last ∙ ap ends_with_backslash (e.whole ∙ ap (λ t. e.front ++ e.last ∷ t) none ∙ sym e.is) ∙ ends in cc
+    by (inl none) = let wrong : true ≡ false = sym last
+        ∙ ap ends_with_backslash (e.whole ∙ ap (λ t. e.front ++ e.last ∷ t) none ∙ sym e.is) ∙ ends in cc
     by (inr soft) = let wrong : true ≡ false = sym last ∙ soft in cc
 ended_body body (inr (inr good)) (inr e) ends =
     inr (ap is_text e.is ∙ body_cut e.front e.last e.end false false (ap is_text (sym e.whole) ∙ good) e.solid

@@ -100,7 +100,8 @@ module _ (name : List ℕ) where
       by None true is none later = ap (λ b. texts_left (cond b es ((e.0, None) ∷ remove_entry (is_key_of name) es))) is
       by None false is none later = ap (λ b. texts_left (cond b es ((e.0, None) ∷ remove_entry (is_key_of name) es))) is ∙ later none
       by (Some text) true is none later =
-          absurd (let wrong : Some text ≡ None = sym (ap (λ b. cond b (Some text) (lookup (pointwise nat_eq name) (texts_left es))) is) ∙ none in cc)
+          absurd (let wrong : Some text ≡ None =
+          sym (ap (λ b. cond b (Some text) (lookup (pointwise nat_eq name) (texts_left es))) is) ∙ none in cc)
       by (Some text) false is none later =
           ap (λ b. texts_left (cond b es ((e.0, Some text) ∷ remove_entry (is_key_of name) es))) is
           ∙ ap (λ l. (e.0.items, text) ∷ l) (later (sym (ap (λ b. cond b (Some text) (lookup (pointwise nat_eq name) (texts_left es))) is)

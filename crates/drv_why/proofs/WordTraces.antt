@@ -12,8 +12,8 @@ use Rattle.std.proofs.lemmas.List.{drop_more}
 use Rattle.std.specs.Option.{unwrap_or}
 use Rattle.std.specs.Prelude.{get_or, if◌then◌else◌}
 
--- For origins_report (src/origins.rt): the words of a command beside those of the plan, the bytes of a part, and the commands of a plan, one
--- after another.
+-- For origins_report (src/origins.rt): the words of a command beside those of the plan, the bytes of a part, and the commands of a plan,
+-- one after another.
 
 -- `are_words` goes on after a word that is the same
 pub are_next : (t : Trace) (word : List ℕ) (ts ts' : List Trace) (words words' : List (List ℕ)) → ts ≡ t ∷ ts' → words ≡ word ∷ words'

@@ -28,9 +28,10 @@ use Rattle.std.specs.Option.{option_map, option_to_list, unwrap_or}
 use Rattle.std.specs.Prelude.{◌+◌, ◌-◌, ◌==◌, ◌&&◌, Bool, List, [], ◌∷◌, None, Option, Some, false, if◌then◌else◌, is_none, length}
 use Rattle.std.specs.Prelude.{map, nat_eq, nat_le, nat_lt, not, slice_get, true, ℕ}
 
--- What of a line a word of a command is for: the options by which it is there, and the input that it names (GCC manual, "Spec Files"; which of
--- them are named is this project's profile). An option is named where a test in an alternative of the word's part, or around it, takes it, and
--- where the part passes it on and the word repeats it. An input is named by %i, %b and %B, and by %o. Whether %< hides an option is not asked.
+-- What of a line a word of a command is for: the options by which it is there, and the input that it names (GCC manual, "Spec Files";
+-- which of them are named is this project's profile). An option is named where a test in an alternative of the word's part, or around it,
+-- takes it, and where the part passes it on and the word repeats it. An input is named by %i, %b and %B, and by %o. Whether %< hides an
+-- option is not asked.
 -- For clauses of src/causes.rt.
 
 -- a word of a command, beside the line and its plan

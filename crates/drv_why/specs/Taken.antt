@@ -5,7 +5,8 @@ use Rattle.drv_why.specs.Fates.{canceller}
 use Rattle.drv_words.specs.Bytes.{hyphen}
 use Rattle.std.specs.Cmp.Lexicographic.{pointwise}
 use Rattle.std.specs.List.{list_any}
-use Rattle.std.specs.Prelude.{◌==◌, ◌&&◌, ◌||◌, Bool, List, [], ◌∷◌, ◌++◌, None, Option, Some, false, if◌then◌else◌, is_none, nat_eq, true, ℕ}
+use Rattle.std.specs.Prelude.{◌==◌, ◌&&◌, ◌||◌, Bool, List, [], ◌∷◌, ◌++◌, None, Option, Some, false, if◌then◌else◌, is_none}
+use Rattle.std.specs.Prelude.{nat_eq, true, ℕ}
 
 -- The options of the switches of a line that a pattern takes (GCC manual, "Spec Files", %{S} and %{S:X}), each once.
 -- For clauses of src/taking.rt.

@@ -8,7 +8,8 @@ use Rattle.drv_words.specs.declared.plan.PlanLine.{PlanLine}
 use Rattle.std.specs.Cmp.Lexicographic.{pointwise}
 use Rattle.std.specs.List.{ends_with}
 use Rattle.std.specs.Option.{option_to_list}
-use Rattle.std.specs.Prelude.{◌+◌, ◌*◌, ◌-◌, ◌==◌, ◌&&◌, ◌||◌, Bool, List, [], ◌∷◌, ◌++◌, None, Option, Some, false, if◌then◌else◌, length, nat_eq}
+use Rattle.std.specs.Prelude.{◌+◌, ◌*◌, ◌-◌, ◌==◌, ◌&&◌, ◌||◌, Bool, List, [], ◌∷◌, ◌++◌, None, Option, Some, false}
+use Rattle.std.specs.Prelude.{if◌then◌else◌, length, nat_eq}
 use Rattle.std.specs.Prelude.{nat_lt, not, take, true, ℕ}
 
 -- The parts of texts that each word of a command has its bytes from (this project's profile). A set with marks before its parts gives a

@@ -3,9 +3,11 @@ use Rattle.drv_args.specs.declared.line.Switch.{Switch}
 use Rattle.drv_words.specs.Bytes.{equals, hyphen}
 use Rattle.gdrv.proofs.Nearness.{first_of, near_is_edit, near_sized, never, second_of}
 use Rattle.gdrv.specs.Code.Doubts.{has_ends, is_front, is_last, last_of}
-use Rattle.gdrv.specs.Meant.{IsEdit, before, compared_part, is_doubtful, is_meant, is_near, long_options, meant_option, names_file, one_later, one_less, one_more}
+use Rattle.gdrv.specs.Meant.{IsEdit, before, compared_part, is_doubtful, is_meant, is_near, long_options, meant_option}
+use Rattle.gdrv.specs.Meant.{names_file, one_later, one_less, one_more}
 use Rattle.gdrv.specs.Meant.{one_other, takes_equals, through, two_swapped, word_of}
-use Rattle.std.proofs.Common.{◌≡◌, ◌∙◌, ◌&&◌, ◌==◌, ◌⊎◌, ◌<◌, ◌≤◌, ◌+◌, ◌-◌, Bool, List, [], ◌∷◌, None, Option, Some, ap, arith, false, get_or}
+use Rattle.std.proofs.Common.{◌≡◌, ◌∙◌, ◌&&◌, ◌==◌, ◌⊎◌, ◌<◌, ◌≤◌, ◌+◌, ◌-◌, Bool, List, [], ◌∷◌, None, Option, Some, ap, arith}
+use Rattle.std.proofs.Common.{false, get_or}
 use Rattle.std.proofs.Common.{if◌then◌else◌, inl, inr, length, refl, suc, sym, take, true, zero, ℕ}
 use Rattle.std.proofs.lemmas.Bool.Decides.{nat_tests}
 use Rattle.std.proofs.lemmas.List.{length-take}

@@ -1,7 +1,9 @@
 use Rattle.drv_words.specs.Bytes.{equals}
-use Rattle.gdrv.specs.Meant.{IsEdit, before, compared_part, is_front_edited, is_meant, is_near, is_same, is_swapped, one_later, one_less, one_more}
+use Rattle.gdrv.specs.Meant.{IsEdit, before, compared_part, is_front_edited, is_meant, is_near, is_same, is_swapped, one_later}
+use Rattle.gdrv.specs.Meant.{one_less, one_more}
 use Rattle.gdrv.specs.Meant.{one_other, takes_equals, through, two_swapped}
-use Rattle.std.proofs.Common.{◌≡◌, ◌∙◌, ◌&&◌, ◌||◌, ◌==◌, ◌⊎◌, ◌<◌, ◌≤◌, ◌+◌, Bool, List, [], ◌∷◌, ap, arith, false, if◌then◌else◌, inl, inr, length, refl, subst, take}
+use Rattle.std.proofs.Common.{◌≡◌, ◌∙◌, ◌&&◌, ◌||◌, ◌==◌, ◌⊎◌, ◌<◌, ◌≤◌, ◌+◌, Bool, List, [], ◌∷◌, ap, arith, false}
+use Rattle.std.proofs.Common.{if◌then◌else◌, inl, inr, length, refl, subst, take}
 use Rattle.std.proofs.Common.{sym, true, ℕ}
 use Rattle.std.proofs.lemmas.Bool.Decides.{Decides-eqb, nat_tests}
 use Rattle.std.proofs.lemmas.List.{length-take}

@@ -15,7 +15,8 @@ ghost use Rattle.gdrv.specs.Meant.{is_swapped, long_options, meant_option, names
 ghost use Rattle.gdrv.specs.Meant.{word_of};
 ghost use Rattle.std.specs.List.{list_any, position};
 ghost use Rattle.std.specs.Option.{option_map};
-ghost use Rattle.std.specs.Prelude.{◌≡◌, ◌<◌, ◌==◌, ◌∷◌, ◌++◌, IfOk, IfSome, IsFalse, IsTrue, None, Ok, OnOk, drop, false, find, length, map, true};
+ghost use Rattle.std.specs.Prelude.{◌≡◌, ◌<◌, ◌==◌, ◌∷◌, ◌++◌, IfOk, IfSome, IsFalse, IsTrue, None, Ok, OnOk, drop};
+ghost use Rattle.std.specs.Prelude.{false, find, length, map, true};
 
 use drv_args::{Line, Settings, Switch};
 use drv_check::names_switch;

@@ -35,7 +35,8 @@ use Rattle.gdrv_specs.specs.Reasons.{Answers, AnswersAll, Gives, Reports, TellsT
 use Rattle.gdrv_specs.specs.Told.{PutsText, Stops}
 use Rattle.gdrv_specs.specs.declared.outcome.Outcome.TheVariants.{Ended}
 use Rattle.gdrv_specs.specs.declared.outcome.Outcome.{Outcome}
-use Rattle.std.proofs.Common.{◌≡◌, ◌∙◌, ◌<◌, ◌≤◌, ◌+◌, ◌++◌, ◌∷◌, ◌&&◌, Bool, Err, IfOk, List, Ok, Result, Some, [], ap, append_assoc, drop, false}
+use Rattle.std.proofs.Common.{◌≡◌, ◌∙◌, ◌<◌, ◌≤◌, ◌+◌, ◌++◌, ◌∷◌, ◌&&◌, Bool, Err, IfOk, List, Ok, Result, Some, [], ap}
+use Rattle.std.proofs.Common.{append_assoc, drop, false}
 use Rattle.std.proofs.Common.{inl, inr, length, refl, subst, sym, true, ℕ}
 use Rattle.std.proofs.lemmas.Bool.{eqb-true}
 use Rattle.std.proofs.lemmas.List.{append-nil, drop_all, drop_more}
@@ -81,7 +82,8 @@ module _ (F : Facts) (line : List (List ℕ)) (work : Work) (seed : ℕ) (parts 
       → AnswersAll F line work seed parts (reasons' ++ others)
   more_answers n part reasons reasons' one below answers grows so_far others rest =
       let split : drop n parts ≡ get_or parts n part ∷ drop (n + 1) parts = drop_more parts n part below in
-      let joined : reasons' ++ others ≡ reasons ++ (one ∷ others) = ap (λ rs. rs ++ others) grows ∙ append_assoc reasons (one ∷ []) others in
+      let joined : reasons' ++ others ≡ reasons ++ (one ∷ others) = ap (λ rs. rs ++ others) grows
+      ∙ append_assoc reasons (one ∷ []) others in
       subst (AnswersAll F line work seed parts) (sym joined)
       (so_far (one ∷ others)
       (subst (λ ps. AnswersAll F line work seed ps (one ∷ others)) (sym split) (one, others, answers, rest, refl)))
@@ -245,7 +247,8 @@ explains_before {journal} {F' = F'} report line seed ending empty asks gives = r
 }
 
 -- the reasons were printed, over the answers to the call's questions alone
-pub explains_after : {journal journal' journal'' : List Event} {F F' : Facts} (report : Report) (line : List (List ℕ)) (seed : ℕ) (text : List ℕ)
+pub explains_after : {journal journal' journal'' : List Event} {F F' : Facts} (report : Report) (line : List (List ℕ))
+    (seed : ℕ) (text : List ℕ)
     (outcome : Outcome)
     → F ≡ no_facts → Asks journal journal' F F' → ((G : Facts) → Extends F' G → Gives G report line seed (Ok text))
     → TellsText journal' journal'' text outcome

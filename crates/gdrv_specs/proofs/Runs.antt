@@ -39,7 +39,8 @@ is_story (Ok text) plan own manner given codes window events shown status own_is
   code = status;
   after = after;
   code_is = λ o within. subst (λ x. status ≡ status_of x o) codes_are
-      (code_is o (subst (λ w. Windowed own w o events) (sym window_is) (subst (λ p. Windowed p manner.window o events) (sym own_is) within)));
+      (code_is o (subst (λ w. Windowed own w o events) (sym window_is)
+      (subst (λ p. Windowed p manner.window o events) (sym own_is) within)));
   text_is = text_is ∙ ap (λ es. story plan es status) same;
 }
 is_story (Err fault) plan own manner given codes window events shown status own_is codes_are window_is after same code_is text_is = tt

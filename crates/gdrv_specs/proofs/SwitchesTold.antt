@@ -36,7 +36,8 @@ use Rattle.std.proofs.lemmas.List.{append-nil}
 -- For `tell_switches` (src/switches.rt): the call prints what becomes of the switches of a line.
 
 -- the text is made of the sources, the dump and the namings that were found
-pub fates_are : {E : Type 0} (F : Facts) (report : Report) (line : Line) (set : Set) (sources : List Source) (dump : List ℕ) (namings : List Naming)
+pub fates_are : {E : Type 0} (F : Facts) (report : Report) (line : Line) (set : Set) (sources : List Source)
+    (dump : List ℕ) (namings : List Naming)
     (result : Result (List ℕ) E) → sources_of F line.settings.prefixes line.settings.specs ≡ Is sources → dump ≡ dumped set
     → namings ≡ namings_of sources dump → IfOk result (λ text. text ≡ fates_report report sources namings line.switches)
     → IfOk result (λ text. fates_of F report line set ≡ Is text)
@@ -101,7 +102,8 @@ loading_ends F args seed line fault reads (inl memory) = subst (λ f. Comes F ar
 loading_ends F args seed line fault reads (inr loads) = refused_specs F args seed fault (not_loaded reads.1 reads.2 loads)
 
 -- what a line that is read gives is what its words give
-pub call_gives : (F : Facts) (report : Report) (args : List (List ℕ)) (line : Line) (result : Result (List ℕ) Ending) → ReadsLine F args line
+pub call_gives : (F : Facts) (report : Report) (args : List (List ℕ)) (line : Line) (result : Result (List ℕ) Ending)
+    → ReadsLine F args line
     → GivesLine F report line result → GivesFates F report args result
 call_gives F report args line (Ok text) reads gives = (line, gives.0, reads, gives.1, gives.2)
 call_gives F report args line (Err ending) reads gives =
@@ -122,7 +124,8 @@ stops F args seed (Refused refusal) comes = (comes, refl)
 stops F args seed OutOfMemory comes = refl
 
 -- the call ended without the text: refused, or for lack of memory
-pub switches_before : {journal journal' : List Event} {F F' : Facts} (report : Report) (args : List (List ℕ)) (ending : Ending) → F ≡ no_facts
+pub switches_before : {journal journal' : List Event} {F F' : Facts} (report : Report) (args : List (List ℕ)) (ending : Ending)
+    → F ≡ no_facts
     → Asks journal journal' F F' → ((G : Facts) → Extends F' G → GivesFates G report args (Err ending))
     → TellsSwitches journal journal' report args (Ended ending)
 switches_before {journal} {F' = F'} report args ending empty asks gives = record {
@@ -137,7 +140,8 @@ switches_before {journal} {F' = F'} report args ending empty asks gives = record
 }
 
 -- the text was written, over the answers to the call's questions alone
-pub switches_after : {journal journal' journal'' : List Event} {F F' : Facts} (report : Report) (args : List (List ℕ)) (text : List ℕ) (outcome : Outcome)
+pub switches_after : {journal journal' journal'' : List Event} {F F' : Facts} (report : Report) (args : List (List ℕ))
+    (text : List ℕ) (outcome : Outcome)
     → F ≡ no_facts → Asks journal journal' F F' → ((G : Facts) → Extends F' G → GivesFates G report args (Ok text))
     → TellsText journal' journal'' text outcome
     → TellsSwitches journal journal'' report args outcome

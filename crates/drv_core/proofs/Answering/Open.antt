@@ -249,8 +249,8 @@ later_waited k g i id reply E w group member at =
     last false u e = refl
 
     apart : (g < group) ⊎ ((group ≡ g) × (i + 1 ≤ member)) → (nat_eq k k && (nat_eq group g && nat_eq member i)) ≡ false
-    apart (inl x) = last (nat_eq k k) (nat_eq group g && nat_eq member i) (let ne : nat_eq group g
-    ≡ false = grind (arith, nat_tests) in rw ne refl)
+    apart (inl x) = last (nat_eq k k) (nat_eq group g && nat_eq member i)
+        (let ne : nat_eq group g ≡ false = grind (arith, nat_tests) in rw ne refl)
     apart (inr x) =
         let p = x.1 in
         last (nat_eq k k) (nat_eq group g && nat_eq member i) (last (nat_eq group g) (nat_eq member i)

@@ -344,16 +344,16 @@ goes_inside jobs N st k E next ev run may valid same_base more = record {
 }
   where
     -- Plan: only source k has another stage, and its open block began at the same stage as before, so what holds between blocks stays true.
-    same_at : (j : ℕ) (t : Bool) → nat_eq k j ≡ t → base (st j) ≡ base (if t then m else st j)
-    same_at j true e = let is : k ≡ j = same k j e in subst (λ i. base (st i) ≡ base m) is (sym same_base)
+    same_at : (j : ℕ) (t : Bool) → nat_eq k j ≡ t → base (st j) ≡ base (if t then next else st j)
+    same_at j true e = let is : k ≡ j = same k j e in subst (λ i. base (st i) ≡ base next) is (sym same_base)
     same_at j false e = refl
 
-    same_bases : bases st ≡ bases (put st k m)
+    same_bases : bases st ≡ bases (put st k next)
     same_bases = fun_ext (λ j. same_at j (nat_eq k j) refl)
 
-    is_valid : (j : ℕ) (t : Bool) → nat_eq k j ≡ t → Valid (get_or jobs j no_job) (if t then m else st j)
-    is_valid j true e = let is : k ≡ j = same k j e in subst (λ i. Valid (get_or jobs i no_job) m) is valid
-    is_valid j false e = r.valid j
+    is_valid : (j : ℕ) (t : Bool) → nat_eq k j ≡ t → Valid (get_or jobs j no_job) (if t then next else st j)
+    is_valid j true e = let is : k ≡ j = same k j e in subst (λ i. Valid (get_or jobs i no_job) next) is valid
+    is_valid j false e = run.valid j
 
 -- one more event ends the open block: the run of the sources is between blocks
 abbrev pub goes_out : (jobs : List Job) (N : ℕ) (st : ℕ → Stage) (k : ℕ) (E : List RunEvent) (next : Stage) (ev : RunEvent)
@@ -383,13 +383,13 @@ goes_out jobs N st k E next ev run may valid more out one = record {
     new : SourceBlock
     new = record { source = k; block = open_of k (get_or jobs k no_job) (st k) ++ ev ∷ [] }
 
-    same_at : (j : ℕ) (t : Bool) → (if t then m else base (st j)) ≡ base (if t then m else st j)
-    same_at j true = sym (base_out m out)
+    same_at : (j : ℕ) (t : Bool) → (if t then next else base (st j)) ≡ base (if t then next else st j)
+    same_at j true = sym (base_out next out)
     same_at j false = refl
 
-    is_valid : (j : ℕ) (t : Bool) → nat_eq k j ≡ t → Valid (get_or jobs j no_job) (if t then m else st j)
-    is_valid j true e = let is : k ≡ j = same k j e in subst (λ i. Valid (get_or jobs i no_job) m) is valid
-    is_valid j false e = r.valid j
+    is_valid : (j : ℕ) (t : Bool) → nat_eq k j ≡ t → Valid (get_or jobs j no_job) (if t then next else st j)
+    is_valid j true e = let is : k ≡ j = same k j e in subst (λ i. Valid (get_or jobs i no_job) next) is valid
+    is_valid j false e = run.valid j
 
 -- one more event of a source that may go on, or has the open block, keeps `Running`
 pub goes_on : (jobs : List Job) (N : ℕ) (st : ℕ → Stage) (k : ℕ) (E : List RunEvent) (reply : Answer)

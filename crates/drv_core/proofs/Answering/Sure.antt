@@ -44,8 +44,8 @@ use Rattle.std.specs.Option.{option_to_list}
 
 -- All that is known of the sources while one goes on, after these events; `most` is the most events that they can have. `opens` says that
 -- each stage's children were started and not waited for. `sized` says that no group has more children than commands. `pipe` says whether a
--- pipe is pending. `bound` counts the events so far, and those that can still come. `going` says that the code's stages are those (`at`) of a
--- run in progress (`run`), where each is `Valid`: the claim, command, child or removal that it names next is there.
+-- pipe is pending. `bound` counts the events so far, and those that can still come. `going` says that the code's stages are those (`at`) of
+-- a run in progress (`run`), where each is `Valid`: the claim, command, child or removal that it names next is there.
 pub record Sure (jobs : List Job) (N most : ℕ) (f : Fleet) (E : List RunEvent) : Type 0 where
   pub going : Going jobs N f E
   pub opens : (j : ℕ) → Opens j (stage_in f j) E
@@ -278,7 +278,8 @@ sure_starts jobs N most some filled few = by (starts jobs N some filled)
       sized = λ j. subst (λ t. Sized (get_or jobs j no_job) t) (sym (at j)) (sized_begin (get_or jobs j no_job));
       pipe = sym (ap piped (at (first_busy 0 jobs)) ∙ piped_out (begin (get_or jobs (first_busy 0 jobs) no_job))
           (begin_out (get_or jobs (first_busy 0 jobs) no_job)));
-      bound = (let is : to_come jobs (stage_in (fresh_fleet jobs N)) ≡ to_come jobs (λ j. begin (get_or jobs j no_job)) = ap (λ st. to_come jobs st) (fun_ext at) in omega (arith, is, few));
+      bound = (let is : to_come jobs (stage_in (fresh_fleet jobs N)) ≡ to_come jobs (λ j. begin (get_or jobs j no_job)) =
+          ap (λ st. to_come jobs st) (fun_ext at) in omega (arith, is, few));
       later = λ h l at. refl;
     })
     by (inr over) = inr (record { landed = over; pipe = refl; bound = omega arith; later = λ h l at. refl })

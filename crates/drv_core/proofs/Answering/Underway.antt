@@ -50,8 +50,8 @@ pub record Going (jobs : List Job) (N : ℕ) (f : Fleet) (E : List RunEvent) : T
   pub more : left (st f.current) ≡ true
   pub counts : Counts jobs N f run.blocks
 
--- All sources have ended, and the code's count of unended ones is 0. `st` gives the stages, which are the code's (`at`). `run` is the run up
--- to here. `all` says that every source has ended.
+-- All sources have ended, and the code's count of unended ones is 0. `st` gives the stages, which are the code's (`at`). `run` is the run
+-- up to here. `all` says that every source has ended.
 pub record Landed (jobs : List Job) (N : ℕ) (f : Fleet) (E : List RunEvent) : Type 0 where
   pub st : ℕ → Stage
   pub at : (j : ℕ) → stage_in f j ≡ st j
@@ -407,7 +407,8 @@ starts jobs N some filled = settles jobs N (fresh_fleet jobs N) 0 (λ j. begin (
       keep = record {
         stand = stands_first jobs N (bases (λ j. begin (get_or jobs j no_job)))
             (λ j lt. sym (base_out (begin (get_or jobs j no_job)) (begin_out (get_or jobs j no_job))));
-        window = (let none : count (length jobs) (λ j. has j [] && left (base (begin (get_or jobs j no_job)))) ≡ 0 = count_none (length jobs) (λ j. has j [] && left (base (begin (get_or jobs j no_job)))) (λ j lt. refl) in omega (arith, none));
+        window = (let none : count (length jobs) (λ j. has j [] && left (base (begin (get_or jobs j no_job)))) ≡ 0 =
+            count_none (length jobs) (λ j. has j [] && left (base (begin (get_or jobs j no_job)))) (λ j lt. refl) in omega (arith, none));
         order = λ j i lt e. absurd cc;
         beyond = λ j past. ap (λ job. base (begin job)) (get_or_past jobs j no_job past);
       };

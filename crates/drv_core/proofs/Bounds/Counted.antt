@@ -69,16 +69,16 @@ claimed_one n j i left E c = record {
 }
   where
     -- Plan: by whether job k is that of the claim: its count grows by one, and the others stay.
-    by : (k : ℕ) → k ≤ n → (t : Bool) → nat_eq j k ≡ t → get_or (slice_set x.claimed j (get_or x.claimed j 0 + 1)) k 0
+    by : (k : ℕ) → k ≤ n → (t : Bool) → nat_eq j k ≡ t → get_or (slice_set left.claimed j (get_or left.claimed j 0 + 1)) k 0
         ≡ tally k (E ++ event (step.Claim (place.Temp j i)) (answer.Claim claim.Claimed) ∷ [])
     by k le true e =
         let more : tally k (E ++ event (step.Claim (place.Temp j i)) (answer.Claim claim.Claimed) ∷ [])
         ≡ tally k E + one_if (nat_eq j k && true) = tally_more k E (step.Claim (place.Temp j i)) (answer.Claim claim.Claimed) in
         let one : one_if (nat_eq j k && true) ≡ 1 = ap (λ (t : Bool). one_if (t && true)) e in
         let is = c.counts k le in
-        let set : get_or (slice_set x.claimed j (get_or x.claimed j 0 + 1)) k 0 ≡ get_or x.claimed k 0 + 1 =
-        subst (λ m. get_or (slice_set x.claimed j (get_or x.claimed j 0 + 1)) m 0 ≡ get_or x.claimed m 0 + 1) (same j k e)
-        (get_or-set_same x.claimed j (get_or x.claimed j 0 + 1) 0
+        let set : get_or (slice_set left.claimed j (get_or left.claimed j 0 + 1)) k 0 ≡ get_or left.claimed k 0 + 1 =
+        subst (λ m. get_or (slice_set left.claimed j (get_or left.claimed j 0 + 1)) m 0 ≡ get_or left.claimed m 0 + 1) (same j k e)
+        (get_or-set_same left.claimed j (get_or left.claimed j 0 + 1) 0
         (let len = c.sizes in let at : j ≡ k = same j k e in omega (arith, len, at, le))) in
         omega (arith, more, one, is, set)
     by k le false e =
@@ -86,8 +86,8 @@ claimed_one n j i left E c = record {
         ≡ tally k E + one_if (nat_eq j k && true) = tally_more k E (step.Claim (place.Temp j i)) (answer.Claim claim.Claimed) in
         let none : one_if (nat_eq j k && true) ≡ 0 = ap (λ (t : Bool). one_if (t && true)) e in
         let is = c.counts k le in
-        let set : get_or (slice_set x.claimed j (get_or x.claimed j 0 + 1)) k 0 ≡ get_or x.claimed k 0 =
-        get_or-set_other x.claimed j k (get_or x.claimed j 0 + 1) 0
+        let set : get_or (slice_set left.claimed j (get_or left.claimed j 0 + 1)) k 0 ≡ get_or left.claimed k 0 =
+        get_or-set_other left.claimed j k (get_or left.claimed j 0 + 1) 0
         (λ at. clash (nat_eq j k) (ap (λ m. nat_eq j m) at ∙ nat_eq_equiv.refl j) e) in
         omega (arith, more, none, is, set)
 

@@ -42,7 +42,9 @@ may_come jobs N f blocks k lt e = record {
     is_source = less k (length jobs) lt;
     in_order = same (count k (λ j. not (has j blocks) && left (stage_in f j))) 0
         (and_first (nat_eq (count k (λ j. not (has j blocks) && left (stage_in f j))) 0) window_and_wait rest);
-    in_window = (let below : count (length jobs) (λ j. (has j blocks || nat_eq j k) && left (stage_in f j)) < N + 1 = is_less (count (length jobs) (λ j. (has j blocks || nat_eq j k) && left (stage_in f j))) (N + 1) (and_first in_window wait last) in omega (arith, below));
+    in_window = (let below : count (length jobs) (λ j. (has j blocks || nat_eq j k) && left (stage_in f j)) < N + 1 =
+        is_less (count (length jobs) (λ j. (has j blocks || nat_eq j k) && left (stage_in f j))) (N + 1) (and_first in_window wait last) in
+        omega (arith, below));
     all_in_flight = λ w. same (count (length jobs) (λ j. in_flight (of j blocks))) (min N (count (length jobs) (λ j. left (stage_in f j))))
         (waited (nat_lt 0 (pending (stage_in f k))) w (and_second in_window wait last));
   };

@@ -122,7 +122,9 @@ counts_closed jobs N f blocks o = by (left (stage_in f f.current)) refl
           ∙ listed_filter f.next (λ j. left (stage_in f j) || nat_eq j f.current) (λ k. not (nat_eq k f.current))
           ∙ listed_same f.next (λ j. (left (stage_in f j) || nat_eq j f.current) && not (nat_eq j f.current)) (λ j. left (stage_in f j))
           (λ j lt. gone e j (nat_eq j f.current) refl);
-      unended_is = (let more : count (length jobs) (λ j. left (stage_in f j) || nat_eq j f.current) ≡ count (length jobs) (λ j. left (stage_in f j)) + 1 = count_with (length jobs) f.current (λ j. left (stage_in f j)) (λ j. left (stage_in f j) || nat_eq j f.current) o.current_in e
+      unended_is = (let more : count (length jobs) (λ j. left (stage_in f j) || nat_eq j f.current)
+          ≡ count (length jobs) (λ j. left (stage_in f j)) + 1 =
+          count_with (length jobs) f.current (λ j. left (stage_in f j)) (λ j. left (stage_in f j) || nat_eq j f.current) o.current_in e
           (ap (λ (t : Bool). left (stage_in f f.current) || t) (nat_eq_equiv.refl f.current) ∙ or_all (left (stage_in f f.current)))
           (λ j is. ap (λ (t : Bool). left (stage_in f j) || t) is ∙ or_same (left (stage_in f j))) in let all = o.unended_is in
           omega (arith, more, all));

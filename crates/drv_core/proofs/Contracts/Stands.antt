@@ -214,7 +214,8 @@ fleet_ready plan N most f c s = record {
   children = has_room (get_or plan.jobs f.current no_job) (stage_in f f.current) (source_in f f.current).room
       (subst (λ t. Valid (get_or plan.jobs f.current no_job) t) (sym (s.going.at f.current)) (s.going.run.valid f.current))
       (s.going.counts.rooms f.current in_range);
-  room = (let many : length f.begun ≡ count (length plan.jobs) (λ j. has j s.going.run.blocks && left (stage_in f j)) = begun_many plan.jobs N f s.going.run.blocks s.going.counts in
+  room = (let many : length f.begun ≡ count (length plan.jobs) (λ j. has j s.going.run.blocks && left (stage_in f j)) =
+      begun_many plan.jobs N f s.going.run.blocks s.going.counts in
       let same : count (length plan.jobs) (λ j. has j s.going.run.blocks && left (stage_in f j))
       ≡ count (length plan.jobs) (λ j. has j s.going.run.blocks && left (bases s.going.st j)) =
       count_same (length plan.jobs) (λ j. has j s.going.run.blocks && left (stage_in f j))

@@ -104,7 +104,9 @@ removing_holds plan N i c due e is within pipe bound = by due is
     by [] d = record {
       i = i;
       ending = e;
-      all = (let len = length-drop i (end_files plan N i false c.events e) in let nothing : 0 ≡ length (drop i (end_files plan N i false c.events e)) = ap (λ (l : List File). length l) d in let w = within in omega (arith, len, nothing, w));
+      all = (let len = length-drop i (end_files plan N i false c.events e) in
+          let nothing : 0 ≡ length (drop i (end_files plan N i false c.events e)) = ap (λ (l : List File). length l) d in let w = within in
+          omega (arith, len, nothing, w));
       pipe = pipe;
       bound = omega (arith, bound);
     }
@@ -112,7 +114,9 @@ removing_holds plan N i c due e is within pipe bound = by due is
       i = i;
       ending = e;
       due_is = d;
-      some = (let len = length-drop i (end_files plan N i false c.events e) in let many : suc (length fs) ≡ length (drop i (end_files plan N i false c.events e)) = ap (λ (l : List File). length l) d in omega (arith, len, many));
+      some = (let len = length-drop i (end_files plan N i false c.events e) in
+          let many : suc (length fs) ≡ length (drop i (end_files plan N i false c.events e)) = ap (λ (l : List File). length l) d in
+          omega (arith, len, many));
       pipe = pipe;
       bound = omega (arith, bound);
     }
@@ -235,7 +239,8 @@ removal_passes plan N c h x ok = removing_holds plan N (h.i + 1)
     (removing_more files h.i h.ending.last x ok h.ending.removing h.some))
     (rest_due files c.due h.i h.due_is h.some) (let lt = h.some in omega (arith, lt))
     (quiet_remove c.events (file_at files h.i).place x h.pipe)
-    (let len : length (c.events ++ event (step.Remove (file_at files h.i).place) (answer.Remove x) ∷ []) ≡ length c.events + 1 = length-append {A = RunEvent} c.events (event (step.Remove (file_at files h.i).place) (answer.Remove x) ∷ []) in
+    (let len : length (c.events ++ event (step.Remove (file_at files h.i).place) (answer.Remove x) ∷ []) ≡ length c.events + 1 =
+    length-append {A = RunEvent} c.events (event (step.Remove (file_at files h.i).place) (answer.Remove x) ∷ []) in
     let lt = h.some in let le = h.bound in omega (arith, len, lt, le))
   where
     files : List File
@@ -257,7 +262,10 @@ removal_fails plan N c h = record {
   due_is = h.due_is;
   some = h.some;
   pipe = quiet_remove c.events (file_at (end_files plan N h.i false c.events h.ending) h.i).place remove.Failed h.pipe;
-  bound = (let len : length (c.events ++ event (step.Remove (file_at (end_files plan N h.i false c.events h.ending) h.i).place) (answer.Remove remove.Failed) ∷ []) ≡ length c.events + 1 = length-append {A = RunEvent} c.events (event (step.Remove (file_at (end_files plan N h.i false c.events h.ending) h.i).place) (answer.Remove remove.Failed) ∷ []) in
+  bound = (let len : length (c.events ++ event (step.Remove (file_at (end_files plan N h.i false c.events h.ending) h.i).place)
+      (answer.Remove remove.Failed) ∷ []) ≡ length c.events + 1 =
+      length-append {A = RunEvent} c.events
+      (event (step.Remove (file_at (end_files plan N h.i false c.events h.ending) h.i).place) (answer.Remove remove.Failed) ∷ []) in
       let le = h.bound in omega (arith, len, le));
 }
 
@@ -273,7 +281,8 @@ report_passes plan N c h t = removing_holds plan N (h.i + 1)
     (removing_told files h.i h.ending.last t h.ending.removing))
     (rest_due files c.due h.i h.due_is h.some) (let lt = h.some in omega (arith, lt))
     (quiet_report c.events (note.NotRemoved (file_at files h.i).place) t h.pipe)
-    (let len : length (c.events ++ report (note.NotRemoved (file_at files h.i).place) t ∷ []) ≡ length c.events + 1 = length-append {A = RunEvent} c.events (report (note.NotRemoved (file_at files h.i).place) t ∷ []) in
+    (let len : length (c.events ++ report (note.NotRemoved (file_at files h.i).place) t ∷ []) ≡ length c.events + 1 =
+    length-append {A = RunEvent} c.events (report (note.NotRemoved (file_at files h.i).place) t ∷ []) in
     let lt = h.some in let le = h.bound in omega (arith, len, lt, le))
   where
     files : List File

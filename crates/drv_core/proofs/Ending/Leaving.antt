@@ -89,7 +89,8 @@ all_due plan x job E many c l = ap (λ fs. filter (left_file x.claimed x.sources
     ∙ ap (λ fs. due_from 0 plan.jobs (λ j. get_or x.claimed j 0) ++ fs) (link_due plan x job (0 + length plan.jobs) (omega arith) many l)
     ∙ sym (due_append 0 plan.jobs job (λ j. get_or x.claimed j 0))
     ∙ due_same 0 (plan.jobs ++ job ∷ []) (λ j. get_or x.claimed j 0) (λ k. tally k E)
-    (λ j le lt. c.counts j (let len : length (plan.jobs ++ job ∷ []) ≡ length plan.jobs + 1 = length-append {A = Job} plan.jobs (job ∷ []) in omega (arith, len, lt)))
+    (λ j le lt. c.counts j (let len : length (plan.jobs ++ job ∷ []) ≡ length plan.jobs + 1 =
+    length-append {A = Job} plan.jobs (job ∷ []) in omega (arith, len, lt)))
 
 -- the files that the code removes, while none is removed yet, are those that are due
 pub due_places : (plan : Plan) (x : Leftovers) (job : Job) (E : List RunEvent) → x.files ≡ numbered_files [] (all_files plan)

@@ -49,7 +49,8 @@ known x i l ls f = record { due = f.due; none_due = f.none_due }
 pub found : (x : Leftovers) (i : ℕ) (ls : List Leftover) → drop i x.files ≡ ls → Found x ls (due_index x i ls)
 found x i [] is = record {
   due =
-      λ lt. absurd (let len = length-drop i x.files in let none_left : length (drop i x.files) ≡ 0 = ap (λ (l : List Leftover). length l) is in omega (arith, len, none_left, lt));
+      λ lt. absurd (let len = length-drop i x.files in
+      let none_left : length (drop i x.files) ≡ 0 = ap (λ (l : List Leftover). length l) is in omega (arith, len, none_left, lt));
   none_due = λ le. refl;
 }
 found x i (l ∷ ls) is = known x i l ls (by (is_due x x.gone l) (found x (i + 1) ls rest))
@@ -105,9 +106,11 @@ temps_due claimed sources linked k i (t ∷ ts) = by (nat_lt i (get_or claimed k
         ≡ take (get_or claimed k 0 - i) (record { place = place.Temp k i; path = t.path } ∷ temp_files k (i + 1) ts)
     by true e ih = ap (λ l. record { place = place.Temp k i; path = t.path } ∷ l) ih
         ∙ ap (λ n. take n (record { place = place.Temp k i; path = t.path } ∷ temp_files k (i + 1) ts))
-        (let lt : i < get_or claimed k 0 = is_less i (get_or claimed k 0) e in let m : suc (get_or claimed k 0 - (i + 1)) ≡ get_or claimed k 0 - i = omega (arith, lt) in m)
+        (let lt : i < get_or claimed k 0 = is_less i (get_or claimed k 0) e in
+        let m : suc (get_or claimed k 0 - (i + 1)) ≡ get_or claimed k 0 - i = omega (arith, lt) in m)
     by false e ih = ih ∙ ap (λ n. take n (temp_files k (i + 1) ts))
-        (let le : get_or claimed k 0 ≤ i = is_not_less i (get_or claimed k 0) e in let z : get_or claimed k 0 - (i + 1) ≡ 0 = omega (arith, le) in z)
+        (let le : get_or claimed k 0 ≤ i = is_not_less i (get_or claimed k 0) e in
+        let z : get_or claimed k 0 - (i + 1) ≡ 0 = omega (arith, le) in z)
         ∙ ap (λ n. take n (record { place = place.Temp k i; path = t.path } ∷ temp_files k (i + 1) ts))
         (let le : get_or claimed k 0 ≤ i = is_not_less i (get_or claimed k 0) e in let z : 0 ≡ get_or claimed k 0 - i = omega (arith, le) in
         z)

@@ -149,7 +149,9 @@ story_tally k j job a =
     let all : tally k (events_of (story j job a)) ≡ tally k (events_of (claim_blocks j 0 a.claims)) + tally k
     (events_of (group_blocks j 0 job.groups a.groups ++ own_removals j 0 a.removals)) =
     both_append (claims_in k) (claim_blocks j 0 a.claims) (group_blocks j 0 job.groups a.groups ++ own_removals j 0 a.removals) in
-    all ∙ (let e : tally k (events_of (claim_blocks j 0 a.claims)) + tally k (events_of (group_blocks j 0 job.groups a.groups ++ own_removals j 0 a.removals)) ≡ tally k (events_of (claim_blocks j 0 a.claims)) = omega (arith, both, groups, removals) in e) ∙ claims
+    all ∙ (let e : tally k (events_of (claim_blocks j 0 a.claims)) + tally k
+    (events_of (group_blocks j 0 job.groups a.groups ++ own_removals j 0 a.removals))
+    ≡ tally k (events_of (claim_blocks j 0 a.claims)) = omega (arith, both, groups, removals) in e) ∙ claims
 
 -- in the events of all sources
 

@@ -46,14 +46,16 @@ total_append f (x ∷ xs) ys = rw (total_append f xs ys) (omega arith)
 pub fair_end : (s w : ℕ) (bs : List Block) → Fair s w bs → s + total starts_child (events_of bs) ≤ w + total waits_child (events_of bs)
 fair_end s w [] f = omega (arith, f)
 fair_end s w (b ∷ bs) f = rw (total_append starts_child b (events_of bs), total_append waits_child b (events_of bs))
-    (let rest : s + total starts_child b + total starts_child (events_of bs) ≤ w + total waits_child b + total waits_child (events_of bs) = fair_end (s + total starts_child b) (w + total waits_child b) bs f.1 in omega arith)
+    (let rest : s + total starts_child b + total starts_child (events_of bs) ≤ w + total waits_child b + total waits_child (events_of bs) =
+    fair_end (s + total starts_child b) (w + total waits_child b) bs f.1 in omega arith)
 
 -- before a wait among fair blocks, fewer were waited for than started
 pub fair_at : (s w : ℕ) (xs : List Block) (b : Block) (ys : List Block) → Fair s w (xs ++ b ∷ ys) → is_wait b ≡ true
     → w + total waits_child (events_of xs) < s + total starts_child (events_of xs)
 fair_at s w [] b ys f e = let at : w < s = f.0 e in omega arith
 fair_at s w (x ∷ xs) b ys f e = rw (total_append starts_child x (events_of xs), total_append waits_child x (events_of xs))
-    (let rest : w + total waits_child x + total waits_child (events_of xs) < s + total starts_child x + total starts_child (events_of xs) = fair_at (s + total starts_child x) (w + total waits_child x) xs b ys f.1 e in omega arith)
+    (let rest : w + total waits_child x + total waits_child (events_of xs) < s + total starts_child x + total starts_child (events_of xs) =
+    fair_at (s + total starts_child x) (w + total waits_child x) xs b ys f.1 e in omega arith)
 
 -- one more block
 

@@ -271,7 +271,8 @@ code_blocks n (b ∷ bs) below = code_append b.block (events_of (blocks_of bs)) 
 top_first : (n : ℕ) (f : ℕ → ℕ) → top (suc n) f ≡ max (f 0) (top n (λ j. f (suc j)))
 top_first zero f = refl
 top_first (suc n) f = ap (λ m. max (f (suc n)) m) (top_first n f)
-    ∙ (let swap : max (f (suc n)) (max (f 0) (top n (λ j. f (suc j)))) ≡ max (f 0) (max (f (suc n)) (top n (λ j. f (suc j)))) = omega arith in swap)
+    ∙ (let swap : max (f (suc n)) (max (f 0) (top n (λ j. f (suc j))))
+    ≡ max (f 0) (max (f (suc n)) (top n (λ j. f (suc j)))) = omega arith in swap)
 
 -- where each source's blocks are its story, that is the greatest code of the answers
 pub code_stories : (blocks : List SourceBlock) (k : ℕ) (jobs : List Job) (xs : List JobAnswers) → whole_jobs jobs xs ≡ true

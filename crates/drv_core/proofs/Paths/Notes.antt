@@ -89,7 +89,8 @@ found_more before n path p place first o many is known = by (pointwise nat_eq pa
     fresh true u e (Some m) is_some = ap (λ k. Some k) (sym (same first n e) ∙ is ∙ ap (λ (x : Option ℕ). unwrap_or x n) is_some)
     fresh false u e (Some m) is_some = refl
     fresh false u e None is_none =
-        absurd (let clash : true ≡ false = sym (nat_eq_equiv.refl n) ∙ ap (λ k. nat_eq k n) (sym (is ∙ ap (λ (x : Option ℕ). unwrap_or x n) is_none)) ∙ e in cc)
+        absurd (let clash : true ≡ false = sym (nat_eq_equiv.refl n)
+        ∙ ap (λ k. nat_eq k n) (sym (is ∙ ap (λ (x : Option ℕ). unwrap_or x n) is_none)) ∙ e in cc)
 
     with_none : (x : Option ℕ) → x ≡ found_then x None
     with_none None = refl

@@ -298,7 +298,8 @@ step_start k job g was ids (start.Started id) lt = by (nat_lt (length ids + 1) n
         (enter_waits job g was (ids ++ id ∷ []) 0 false) (starts_so_far k g (length (group_at job g)) 0 ids ++ start_event k g
         (length (group_at job g)) (length ids) (start.Started id) ∷ []) (out_waits job g was (ids ++ id ∷ []) 0 false)
         (rw (← more) (started_all k job g was (ids ++ id ∷ [])
-        (let past : length (group_at job g) ≤ length ids + 1 = is_not_less (length ids + 1) (length (group_at job g)) e in let len : length (ids ++ id ∷ []) ≡ length ids + 1 = length-append {A = ℕ} ids (id ∷ []) in omega arith)))
+        (let past : length (group_at job g) ≤ length ids + 1 = is_not_less (length ids + 1) (length (group_at job g)) e in
+        let len : length (ids ++ id ∷ []) ≡ length ids + 1 = length-append {A = ℕ} ids (id ∷ []) in omega arith)))
 
 -- the report of a refused start ends the block, or leaves the pipe to be closed
 pub step_refused : (k : ℕ) (job : Job) (g : ℕ) (was : Bool) (ids : List ℕ) (why : NotStarted) (t : Bool)
@@ -375,8 +376,8 @@ step_wait_report k job g was ids i fault Signal told e = record {
   is = refl;
   leads = ap (λ u. enter_waits job g was ids (i + 1) u) (or_true fault);
 }
-step_wait_report k job g was ids i fault Lost t e = record {
-  a = record { answer = Lost; told = t };
+step_wait_report k job g was ids i fault Lost told e = record {
+  a = record { answer = Lost; told = told };
   is = refl;
   leads = ap (λ u. enter_waits job g was ids (i + 1) u) (or_true fault);
 }

@@ -39,7 +39,8 @@ removals_follow k job i [] e = by (nat_lt i (length job.on_failure)) refl
   where
     -- Plan: by whether a failure file is left; here no answer is, so none can be.
     by : (t : Bool) → nat_lt i (length job.on_failure) ≡ t → (if t then Removals i else Ended) ≡ Ended
-    by true is = absurd (let some : 0 ≡ suc (length (drop (i + 1) job.on_failure)) = e ∙ ap (λ l. length l) (drop_more job.on_failure i [] (is_less i (length job.on_failure) is)) in omega (arith, some))
+    by true is = absurd (let some : 0 ≡ suc (length (drop (i + 1) job.on_failure)) = e
+        ∙ ap (λ l. length l) (drop_more job.on_failure i [] (is_less i (length job.on_failure) is)) in omega (arith, some))
     by false is = refl
 removals_follow k job i (r ∷ rs) e = by (nat_lt i (length job.on_failure)) refl (λ f. removals_follow k job (i + 1) rs f)
   where
@@ -51,7 +52,8 @@ removals_follow k job i (r ∷ rs) e = by (nat_lt i (length job.on_failure)) ref
         let one_more : suc (length rs) ≡ suc (length (drop (i + 1) job.on_failure)) = e
         ∙ ap (λ l. length l) (drop_more job.on_failure i [] (is_less i (length job.on_failure) is)) in
         (enter_removals job (i + 1), (record { a = r; is = refl; leads = refl }, ih (omega (arith, one_more))))
-    by false is ih = absurd (let none_left : suc (length rs) ≡ 0 = e ∙ ap (λ l. length l) (drop_all i job.on_failure (is_not_less i (length job.on_failure) is)) in omega (arith, none_left))
+    by false is ih = absurd (let none_left : suc (length rs) ≡ 0 = e
+        ∙ ap (λ l. length l) (drop_all i job.on_failure (is_not_less i (length job.on_failure) is)) in omega (arith, none_left))
 
 -- without answers there are no removals
 nothing_removed : (k i : ℕ) (rs : List (Told RemoveAnswer)) → length rs ≡ 0 → own_removals k i rs ≡ []
@@ -75,7 +77,8 @@ waits_follow k job g was ids i fault [] rest e w = by (nat_lt i (length ids)) re
     by : (t : Bool) → nat_lt i (length ids) ≡ t
         → Walk k job (if t then Waits g was ids i fault else end_group job g (was || not (none ids)) fault)
         (waits_for k g i (drop i ids) [] ++ rest)
-    by true is = absurd (let some : 0 ≡ suc (length (drop (i + 1) ids)) = e ∙ ap (λ l. length l) (drop_more ids i 0 (is_less i (length ids) is)) in omega (arith, some))
+    by true is = absurd (let some : 0 ≡ suc (length (drop (i + 1) ids)) = e
+        ∙ ap (λ l. length l) (drop_more ids i 0 (is_less i (length ids) is)) in omega (arith, some))
     by false is = subst (λ l. Walk k job (end_group job g (was || not (none ids)) fault) (waits_for k g i l [] ++ rest))
         (sym (drop_all i ids (is_not_less i (length ids) is))) (subst (λ t. Walk k job (end_group job g (was || not (none ids)) t) rest)
         (or_false fault) w)
@@ -100,7 +103,8 @@ waits_follow k job g was ids i fault (a ∷ ws) rest e w = by (nat_lt i (length 
                 (omega (arith, one_more)),
           ),
         )
-    by false is ih = absurd (let none_left : suc (length ws) ≡ 0 = e ∙ ap (λ l. length l) (drop_all i ids (is_not_less i (length ids) is)) in omega (arith, none_left))
+    by false is ih = absurd (let none_left : suc (length ws) ≡ 0 = e
+        ∙ ap (λ l. length l) (drop_all i ids (is_not_less i (length ids) is)) in omega (arith, none_left))
 
 -- groups
 
@@ -202,7 +206,8 @@ groups_follow k job g was (a ∷ gs) rs e many = by (nat_lt g (length job.groups
         (drop (g + 1) job.groups) gs) whole_here)
         (and_second (whole_group (group_at job g) a.starts a.waits) (if group_failed a then none gs else whole_groups
         (drop (g + 1) job.groups) gs) whole_here)
-    by false is ih = absurd (let no : whole_groups [] (a ∷ gs) ≡ true = subst (λ l. whole_groups l (a ∷ gs) ≡ true) (drop_all g job.groups (is_not_less g (length job.groups) is)) e in cc)
+    by false is ih = absurd (let no : whole_groups [] (a ∷ gs) ≡ true =
+        subst (λ l. whole_groups l (a ∷ gs) ≡ true) (drop_all g job.groups (is_not_less g (length job.groups) is)) e in cc)
 
 -- claims
 
@@ -267,7 +272,8 @@ claims_follow k job i (c ∷ cs) gs rs claims all many = by (nat_lt i (length jo
             (drop_more job.temps i no_temp (is_less i (length job.temps) is)) claims) all many ih,
       ),
     )
-    by false is ih = absurd (let no : whole_claims [] (c ∷ cs) ≡ true = subst (λ l. whole_claims l (c ∷ cs) ≡ true) (drop_all i job.temps (is_not_less i (length job.temps) is)) claims in cc)
+    by false is ih = absurd (let no : whole_claims [] (c ∷ cs) ≡ true =
+        subst (λ l. whole_claims l (c ∷ cs) ≡ true) (drop_all i job.temps (is_not_less i (length job.temps) is)) claims in cc)
 
 -- the whole story
 

@@ -174,10 +174,10 @@ taken_apart plan N o E w sources ran own last x y is = record {
       ∙ lanes (suc (length plan.jobs)) ∙ ap events_of (last_after plan N sources ran own last);
 }
   where
-    lanes : (j : ℕ) → events_of (of j (all_blocks plan o w.blocks)) ≡ events_of (of j (following_sources plan N S ran own last))
-    lanes j = same_lane (length plan.jobs) j (all_blocks plan o w.blocks) (following_sources plan N S ran own last)
-        (whole_owned plan N o E w) (after_owned plan N S ran own last x y) (sym (whole_events plan N o E w) ∙ is
-        ∙ after_is plan N S ran own last)
+    lanes : (j : ℕ) → events_of (of j (all_blocks plan o w.blocks)) ≡ events_of (of j (following_sources plan N sources ran own last))
+    lanes j = same_lane (length plan.jobs) j (all_blocks plan o w.blocks) (following_sources plan N sources ran own last)
+        (whole_owned plan N o E w) (after_owned plan N sources ran own last x y) (sym (whole_events plan N o E w) ∙ is
+        ∙ after_is plan N sources ran own last)
 
 -- a whole run, and the sources with what follows them, have the same greatest code, so the same link
 same_link : (plan : Plan) (N : ℕ) (o : Answers) (E : List RunEvent) (run : Windowed plan N o E) (sources : List RunEvent) (ran : Ran

@@ -234,7 +234,9 @@ pub keeps_more : (jobs : List Job) (N : ℕ) (st : ℕ → Stage) (blocks : List
     → Keeps jobs N (put st k m) (blocks ++ record { source = k; block = b } ∷ [])
 keeps_more jobs N st blocks k b m keep more o may = record {
   stand = stands_more jobs N st blocks k b m keep.stand more o may;
-  window = (let fewer = count_fewer (length jobs) (λ j. has j (blocks ++ new ∷ []) && left (put st k m j)) (λ j. (has j blocks || nat_eq j k) && left (st j)) (λ j lt e. shrinks j (nat_eq k j) refl e) in let most = may.in_window in omega (arith, fewer, most));
+  window = (let fewer = count_fewer (length jobs) (λ j. has j (blocks ++ new ∷ []) && left (put st k m j))
+      (λ j. (has j blocks || nat_eq j k) && left (st j)) (λ j lt e. shrinks j (nat_eq k j) refl e) in let most = may.in_window in
+      omega (arith, fewer, most));
   order = λ j i lt e. orders j i lt (nat_eq k i) (nat_eq k j) refl refl e;
   beyond = λ j past. subst (λ (t : Bool). (if t then m else st j) ≡ Ended) (sym (not_k j past)) (keep.beyond j past);
 }

@@ -123,7 +123,10 @@ new_goes : (n N : ℕ) (begun left flying waits : ℕ → Bool) → Between n N 
 new_goes n N begun left flying waits b f room = record {
   is_source = less f.at n f.below;
   in_order = count_none f.at (λ j. not (begun j) && left j) f.before;
-  in_window = (let one : count n (λ j. (begun j || nat_eq j f.at) && left j) ≡ count n (λ j. begun j && left j) + 1 = count_with n f.at (λ j. begun j && left j) (λ j. (begun j || nat_eq j f.at) && left j) f.below (rw new refl) (rw (nat_eq_equiv.refl f.at, new, more) refl) (λ j e. rw e (ap (λ (t : Bool). t && left j) (or_false (begun j)))) in rw one (omega arith));
+  in_window = (let one : count n (λ j. (begun j || nat_eq j f.at) && left j) ≡ count n (λ j. begun j && left j) + 1 =
+      count_with n f.at (λ j. begun j && left j) (λ j. (begun j || nat_eq j f.at) && left j) f.below (rw new refl)
+      (rw (nat_eq_equiv.refl f.at, new, more) refl) (λ j e. rw e (ap (λ (t : Bool). t && left j) (or_false (begun j)))) in
+      rw one (omega arith));
   all_in_flight = λ w. absurd (let clash : true ≡ false = sym (b.begun_waits f.at f.below w) ∙ new in cc);
 }
   where
@@ -231,6 +234,8 @@ progress n N begun left flying waits some b k lt more = free (find n (λ j. begu
       k = f.at;
       has_more = and_first (left f.at) (not (waits f.at)) (and_second (begun f.at) (left f.at && not (waits f.at)) f.passes);
       may = begun_goes n N begun left flying waits f.at b f.below (and_first (begun f.at) (left f.at && not (waits f.at)) f.passes)
-          (λ e. absurd (let no : waits f.at ≡ false = not-true (waits f.at) (and_second (left f.at) (not (waits f.at)) (and_second (begun f.at) (left f.at && not (waits f.at)) f.passes)) in let clash : true ≡ false = sym e ∙ no in cc));
+          (λ e. absurd (let no : waits f.at ≡ false =
+          not-true (waits f.at) (and_second (left f.at) (not (waits f.at))
+          (and_second (begun f.at) (left f.at && not (waits f.at)) f.passes)) in let clash : true ≡ false = sym e ∙ no in cc));
     }
     free (inr none) = new none (find n (λ j. not (begun j) && left j))

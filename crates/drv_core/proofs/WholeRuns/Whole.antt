@@ -163,7 +163,9 @@ removals_between files i E r = by (end_split files r.rs (gone (length files - i)
     by : Splits files r.rs (gone (length files - i)) → RemovalsBegin files E
     by s = record {
       last = r.rs ++ gone (length files - i);
-      many = (let len : length (r.rs ++ gone (length files - i)) ≡ length r.rs + length (gone (length files - i)) = length-append {A = Told RemoveAnswer} r.rs (gone (length files - i)) in let many = gone_many (length files - i) in let m = r.many in let w = r.within in omega (arith, len, many, m, w));
+      many = (let len : length (r.rs ++ gone (length files - i)) ≡ length r.rs + length (gone (length files - i)) =
+          length-append {A = Told RemoveAnswer} r.rs (gone (length files - i)) in let many = gone_many (length files - i) in
+          let m = r.many in let w = r.within in omega (arith, len, many, m, w));
       rest = events_of s.more;
       events = ap (λ l. l ++ events_of s.more) (r.events ∙ append-nil (events_of (end_removals files r.rs)))
           ∙ sym (events_both (end_removals files r.rs) s.more) ∙ ap (λ l. events_of l) (sym s.is);

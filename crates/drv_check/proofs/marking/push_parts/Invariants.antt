@@ -9,4 +9,5 @@ use Rattle.std.specs.Prelude.{map}
 abbrev pub invariant-loop-extent : goal.invariant-loop-extent
 invariant-loop-extent l =
     l.parts ++ map (marked_part l.text.head.now l.text.text.now l.text.spots.now l.text.at) (drop l.extent-index l.extent-items)
-    ≡ l.fn.parts ++ map (marked_part l.text.head.now l.text.text.now l.text.spots.now l.text.at) (parts_of (first_in l.text.head.now) l.text.text.now l.tokens)
+    ≡ l.fn.parts ++ map (marked_part l.text.head.now l.text.text.now l.text.spots.now l.text.at)
+    (parts_of (first_in l.text.head.now) l.text.text.now l.tokens)

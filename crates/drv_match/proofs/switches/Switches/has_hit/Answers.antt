@@ -11,7 +11,9 @@ use Rattle.std.proofs.lemmas.Iterator.Search.{any_from_yields_List}
 pub any-requires-clause-callable : goal.any-requires-clause-callable
 any-requires-clause-callable c =
     serves_from_places (YieldsList-from_slice c.named_places-named.result.now c.iter.ensures.rest) (λ x q k. search (rules, tests))
-    (λ x k lt at. let within : x.now < length c.args.self.now = named_place c.args.self.now c.args.pattern.now c.named_places-named.result.now c.named_places-named.ensures k x.now lt at in search (rules, within))
+    (λ x k lt at. let within : x.now < length c.args.self.now =
+    named_place c.args.self.now c.args.pattern.now c.named_places-named.result.now c.named_places-named.ensures k x.now lt at in
+    search (rules, within))
 
 pub returns : goal.returns
 returns c =
