@@ -195,7 +195,7 @@ fn answer<S: System>(
     }
 }
 
-/// The line that its spec files put in the place of a line, if they do.
+/// The call that the spec files of a line ask for in its place, if they ask for one.
 ///
 /// # Errors
 /// The text of the refusal of what they gave.

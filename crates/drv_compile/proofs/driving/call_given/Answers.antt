@@ -2,7 +2,7 @@ use Rattle.drv_compile.proofs.DriverCalls.{given_ask, given_none, given_refusal,
 use Rattle.drv_compile.proofs.driving.call_given.Goals as goal
 use Rattle.std.proofs.Common.{◌∙◌, Some, ap}
 
--- call_given (src/driving.rt). The line that its spec files put in the place of a line, if they do.
+-- call_given (src/driving.rt). The call that the spec files of a line ask for in its place, if they ask for one.
 
 pub returns-in-Some-Run : goal.returns-in-Some-Run
 returns-in-Some-Run c = given_run c.args.answer c.in-Some-Run.call (c.in-Some-Run.is ∙ ap Some c.in-Some-Run.field-0-is)
