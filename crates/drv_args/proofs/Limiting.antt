@@ -1,4 +1,4 @@
-use Rattle.drv_args.specs.Expansion.{Large, Replacement, Text, by_answer, is_over, judged, limited}
+use Rattle.drv_args.specs.Expansion.{Large, Text, by_answer, is_over, judged, limited}
 use Rattle.drv_system.specs.Facts.{Facts, read_of}
 use Rattle.drv_system.specs.declared.event.ReadAnswer.TheVariants.{Failed, Missing, Read, TooLarge}
 use Rattle.drv_system.specs.declared.event.ReadAnswer.{ReadAnswer}

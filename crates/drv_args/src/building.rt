@@ -10,7 +10,7 @@ ghost use Rattle.drv_args.specs.declared.line.Input.TheVariants as input;
 ghost use Rattle.drv_args.specs.declared.option_table.Effect.TheVariants as given;
 ghost use Rattle.std.specs.Prelude.{◌≡◌, ◌∷◌, ◌++◌, [], IfOk, None, OnOk, Some, drop};
 
-use crate::jobs::jobs_named;
+use crate::jobs::{Jobs, jobs_named};
 use crate::option_table::{Effect, Setting, Tool};
 use crate::{Input, Line, Settings, Switch};
 use drv_words::{Listing, Word};
@@ -100,7 +100,7 @@ impl LineBuilder {
             output: None,
             specs: Listing::new(alloc),
             prefixes: Listing::new(alloc),
-            jobs: 1,
+            jobs: Jobs::one(),
         };
         let line = Line {
             switches: Listing::from_vec(Vec::with_capacity(alloc, room)?),

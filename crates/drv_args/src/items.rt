@@ -5,7 +5,7 @@ ghost use Rattle.drv_args.specs.Code.Building.{with_items};
 ghost use Rattle.drv_args.specs.Lines.{line_judged, line_of};
 ghost use Rattle.drv_args.specs.declared.fault.ArgsFault.TheVariants as fault;
 ghost use Rattle.drv_words.specs.Gives.{Gives};
-ghost use Rattle.std.specs.Prelude.{◌≡◌, ◌≤◌, IfOk, OnOk};
+ghost use Rattle.std.specs.Prelude.{◌≡◌, IfOk, OnOk};
 
 use crate::building::LineBuilder;
 use crate::judging::judge_items;
@@ -58,10 +58,8 @@ fn judged_line(alloc: Global, from_file: bool, items: &[Item]) -> Result<Line, A
 /// # Errors
 /// `Memory`; then, unless the specs are dumped, the first of `NoInputs`, `StdinNeedsLanguage` and
 /// `OutputIsInput`.
-#[tactic(auto, using(crate::proofs::JobCounts::judged_jobs_are_few))]
 pub fn line_of(alloc: Global, from_file: bool, items: &[Item]) -> Result<Line, ArgsFault>
     ensures line { Gives fault.Memory (λ line. line) result (line_judged from_file items.now) }
-    ensures jobs { IfOk result (λ line. (1 ≤ line.settings.jobs) × (line.settings.jobs ≤ 64)) }
 {
     judged_line(alloc, from_file, items)
 }

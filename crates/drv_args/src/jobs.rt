@@ -1,10 +1,50 @@
-//! The number of jobs that a word names.
+//! How many jobs may be under way at once, and the number that a word names.
 
 ghost use Rattle.drv_args.specs.Jobs.{digit_of, in_range, jobs_named, joined, number_of, tens_of};
 ghost use Rattle.std.specs.Prelude.{◌≡◌, ◌<◌, IfSome};
 
+use std::marker::Model;
+
 /// The most sources that may be under way at once.
 const MOST_JOBS: usize = 64;
+
+/// How many sources may be under way at once, from 1 to 64.
+#[derive(Clone, Copy, Debug)]
+pub struct Jobs {
+    number: usize,
+}
+
+impl Model for Jobs {
+    ghost use Rattle.std.specs.Prelude.{◌≤◌, ℕ};
+
+    ghost Value = { ℕ };
+
+    ghost view = { λ j. j.number };
+
+    ghost invariant = { λ j. (1 ≤ j.number) × (j.number ≤ 64) };
+
+    ghost inverse = { λ n. record { number = n } };
+}
+
+impl Jobs {
+    ghost use Rattle.std.specs.Prelude.{◌≡◌, ◌≤◌};
+
+    /// One source after another.
+    pub(crate) fn one() -> Jobs
+        ensures { result ≡ 1 }
+    {
+        Jobs { number: 1 }
+    }
+
+    /// The number.
+    pub fn number(self) -> usize
+        ensures number { result ≡ self }
+        ensures some { 1 ≤ result }
+        ensures most { result ≤ 64 }
+    {
+        self.number
+    }
+}
 
 /// The value of a decimal digit.
 fn digit(byte: u8) -> Option<usize>
@@ -47,19 +87,19 @@ fn number(digits: &[u8]) -> Option<usize>
 }
 
 /// The number, if it is from 1 to 64.
-fn in_range(number: Option<usize>) -> Option<usize>
+fn in_range(number: Option<usize>) -> Option<Jobs>
     ensures { result ≡ in_range number }
 {
-    let jobs = number?;
-    if 1 <= jobs && jobs <= MOST_JOBS {
-        return Some(jobs);
+    let number = number?;
+    if 1 <= number && number <= MOST_JOBS {
+        return Some(Jobs { number });
     }
     None
 }
 
 /// The number of jobs after `--jobs`: an equals sign, and a number from 1 to 64 in decimal digits
 /// without a leading zero.
-pub(crate) fn jobs_named(following: &[u8]) -> Option<usize>
+pub(crate) fn jobs_named(following: &[u8]) -> Option<Jobs>
     ensures { result ≡ jobs_named following.now }
 {
     match following {

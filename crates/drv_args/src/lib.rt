@@ -15,6 +15,7 @@ mod reading;
 pub use expansion::{expand, expand_within};
 pub use fault::ArgsFault;
 pub use items::{Item, line_of};
+pub use jobs::Jobs;
 pub use judging::stops;
 pub use laws::{items_are_fronts, one_expansion};
 pub use line::{Expanded, Input, Line, Settings, Switch};

@@ -1,5 +1,6 @@
 //! A command line that was read: switches, inputs and settings.
 
+use crate::Jobs;
 use drv_words::{Listing, Word};
 
 /// A switch: the word without its first `-`, and its argument, if it takes the next word as one.
@@ -42,9 +43,8 @@ pub struct Settings {
     pub specs: Listing<Word>,
     /// The prefixes of `-B`, in order.
     pub prefixes: Listing<Word>,
-    /// How many sources may be under way at once, from 1 to 64: the number of the last `--jobs=N`,
-    /// or 1.
-    pub jobs: usize,
+    /// The number of the last `--jobs=N`, or 1.
+    pub jobs: Jobs,
 }
 
 /// A command line that was read.

@@ -251,10 +251,8 @@ fn read_line(alloc: Global, expanded: &Expanded) -> Result<Line, ArgsFault>
 /// offending word; `BadJobs` is for each word that begins with `--jobs` but is not `--jobs=N` with
 /// N from 1 to 64. Then, unless the specs are dumped, the first of `NoInputs`,
 /// `StdinNeedsLanguage`, `OutputWithMany` and `OutputIsInput`.
-#[tactic(auto, using(crate::proofs::JobCounts::jobs_are_few))]
 pub fn read(alloc: Global, expanded: &Expanded) -> Result<Line, ArgsFault>
     ensures line { Gives fault.Memory (λ line. line) result (line_read expanded.now) }
-    ensures jobs { IfOk result (λ line. (1 ≤ line.settings.jobs) × (line.settings.jobs ≤ 64)) }
 {
     read_line(alloc, expanded)
 }
