@@ -11,7 +11,7 @@ ghost use Rattle.drv_args.specs.declared.fault.ArgsFault.TheVariants as fault;
 ghost use Rattle.drv_words.specs.Gives.{Gives};
 ghost use Rattle.std.specs.List.{starts_with};
 ghost use Rattle.std.specs.Option.{option_map};
-ghost use Rattle.std.specs.Prelude.{◌≡◌, ◌≤◌, IfOk, IfSome, IsTrue, None, drop, find, length, map};
+ghost use Rattle.std.specs.Prelude.{◌≡◌, IfSome, IsTrue, None, drop, find, length, map};
 ghost use Rattle.std.specs.Prelude.{nat_eq, true};
 
 use crate::building::{LentItem, LineBuilder};

@@ -3,7 +3,6 @@
 ghost use Rattle.drv_args.specs.declared.fault.ArgsFault.TheVariants as args_fault;
 ghost use Rattle.drv_compile.specs.Code.Working.{IsUnworked, IsWorked};
 ghost use Rattle.drv_compile.specs.Runs.{Stops, Works, line_given, specs_of};
-ghost use Rattle.drv_run.specs.Calls.{IsWindow};
 ghost use Rattle.drv_search.specs.Search.{prefixes_of};
 ghost use Rattle.drv_specs.specs.declared.fault.SpecsFault.TheVariants as specs_fault;
 ghost use Rattle.drv_system.specs.Asking.{Extends};
@@ -12,7 +11,7 @@ ghost use Rattle.drv_system.specs.Facts.{Facts};
 ghost use Rattle.drv_system.specs.Gives.{GivesKnown};
 ghost use Rattle.drv_system.specs.Known.{Is};
 ghost use Rattle.drv_words.specs.Gives.{Gives};
-ghost use Rattle.std.specs.Prelude.{◌≡◌, ◌≤◌, IfOk, MatchResult};
+ghost use Rattle.std.specs.Prelude.{◌≡◌, IfOk, MatchResult};
 
 use crate::sources::refuse_several;
 use drv_args::{ArgsFault, Item, Line, Settings, line_of};
@@ -40,7 +39,6 @@ pub(crate) struct DriverLine {
 /// Its refusal.
 pub(crate) fn line_given(alloc: Global, given: &DriverLine) -> Result<Line, ArgsFault>
     ensures line { Gives args_fault.Memory (λ line. line) result (line_given given.now) }
-    ensures jobs { IfOk result (λ line. (1 ≤ line.settings.jobs) × (line.settings.jobs ≤ 64)) }
 {
     line_of(alloc, given.from_file, given.items.as_slice())
 }
@@ -87,7 +85,6 @@ fn line_work<S: System>(
     prefixes: &Prefixes,
     outside: &mut Outside<'_, S>,
 ) -> Result<Work, Ending>
-    requires { IsWindow given.now.line.now.settings.jobs }
     ensures asks { Asked S.events outside.old outside.new }
     ensures works { (F : Facts) → Extends outside.new.facts.now F
         → prefixes_of F given.now.line.now.settings.prefixes ≡ Is prefixes.now

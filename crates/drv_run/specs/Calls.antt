@@ -19,7 +19,7 @@ use Rattle.drv_words.specs.Lines.{lines_of}
 use Rattle.drv_words.specs.Printed.{lines_text}
 use Rattle.drv_words.specs.declared.plan.Plan.{Plan}
 use Rattle.std.specs.List.{flat_map}
-use Rattle.std.specs.Prelude.{◌≡◌, ◌≤◌, Bool, List, [], ◌∷◌, ◌++◌, codes, false, true, ℕ, ⊤}
+use Rattle.std.specs.Prelude.{◌≡◌, Bool, List, [], ◌∷◌, ◌++◌, codes, false, true, ℕ, ⊤}
 
 -- What a call of the driver does (GCC manual, "Overall Options", -v, -###, -dumpspecs, -pass-exit-codes): what follows its questions in the
 -- journal, and its ending.
@@ -85,10 +85,6 @@ DoesWork name journal journal' work status = (said : List Event) × (journal' �
 -- nothing but texts was said after a journal
 abbrev pub OnlySays : List Event → List Event → Type 0
 OnlySays journal journal' = (said : List Event) × (journal' ≡ journal ++ said) × AreSaid said
-
--- how many sources may be under way at once
-abbrev pub IsWindow : ℕ → Type 0
-IsWindow n = (1 ≤ n) × (n ≤ 64)
 
 -- what follows the questions of a call, by how it ended: its work after `Done`; nothing after a refusal; and nothing was made or started
 -- where memory lacked

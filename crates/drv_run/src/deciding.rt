@@ -2,12 +2,10 @@
 
 // In clauses: `Extends F G` says that G has every answer of F. `Asked` says that a call only asked,
 // and that the table has the answers. `GivesKnown` says that a result is the one defined over the
-// facts, or lack of memory. `IsWindow` says that a number is from 1 to 64. `IsApart` says that lack
-// of memory is no refusal. `Asks` says that a call only asked: it added new questions to the
-// journal, and their answers to the table.
+// facts, or lack of memory. `IsApart` says that lack of memory is no refusal. `Asks` says that a
+// call only asked: it added new questions to the journal, and their answers to the table.
 ghost use Rattle.drv_machine.specs.declared.fault.MachineFault.TheVariants as machine_fault;
 ghost use Rattle.drv_plan.specs.declared.fault.PlanFault.TheVariants as plan_fault;
-ghost use Rattle.drv_run.specs.Calls.{IsWindow};
 ghost use Rattle.drv_run.specs.Drives.{Comes, IsApart, files_loaded, specs_of, specs_over, work_of};
 ghost use Rattle.drv_run.specs.Code.Deciding.{ComesOfLine};
 ghost use Rattle.drv_search.specs.Search.{prefixes_of};
@@ -146,7 +144,6 @@ pub fn work_along<S: System>(
     sys: &mut S,
     facts: &mut FactTable,
 ) -> Result<Work, PlanFault>
-    requires { IsWindow given.now.line.now.settings.jobs }
     ensures asks { Asks (S.events sys.old) (S.events sys.new) facts.old facts.new }
     ensures works { (F : Facts) → Extends facts.new F
         → prefixes_of F given.now.line.now.settings.prefixes ≡ Is prefixes.now
@@ -173,7 +170,6 @@ pub fn work_of<S: System>(
     sys: &mut S,
     facts: &mut FactTable,
 ) -> Result<Work, PlanFault>
-    requires { IsWindow given.now.line.now.settings.jobs }
     ensures asks { Asks (S.events sys.old) (S.events sys.new) facts.old facts.new }
     ensures works { (F : Facts) → Extends facts.new F
         → GivesKnown plan_fault.Memory (λ work. work) result
@@ -196,7 +192,6 @@ pub(crate) fn work_of_line<S: System>(
     seed: u32,
     outside: &mut Outside<'_, S>,
 ) -> Result<Work, Ending>
-    requires { IsWindow line.now.settings.jobs }
     ensures asks { Asked S.events outside.old outside.new }
     ensures comes { (F : Facts) → Extends outside.new.facts.now F → ComesOfLine F line.now seed result }
     ensures apart { IfErr result (λ ending. IsApart ending) }

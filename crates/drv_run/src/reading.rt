@@ -1,15 +1,13 @@
 //! The line of a call.
 
-// In clauses: `Extends F G` says that G has every answer of F. `IsWindow` says that a number is from
-// 1 to 64. `IsApart` says that lack of memory is no refusal. `IsUnread` says that a call ended before
-// it had a line.
-ghost use Rattle.drv_run.specs.Calls.{IsWindow};
+// In clauses: `Extends F G` says that G has every answer of F. `IsApart` says that lack of memory is
+// no refusal. `IsUnread` says that a call ended before it had a line.
 ghost use Rattle.drv_run.specs.Drives.{IsApart};
 ghost use Rattle.drv_run.specs.LineReads.{ComesLine, IsUnread};
 ghost use Rattle.drv_system.specs.Asking.{Asks, Extends};
 ghost use Rattle.drv_system.specs.Code.Asked.{Asked};
 ghost use Rattle.drv_system.specs.Facts.{Facts};
-ghost use Rattle.std.specs.Prelude.{IfErr, IfOk};
+ghost use Rattle.std.specs.Prelude.{IfErr};
 
 use crate::ending::Ending;
 use crate::fronting::words_of;
@@ -30,7 +28,6 @@ pub(crate) fn line_of_args<S: System>(
 ) -> Result<Line, Ending>
     ensures asks { Asked S.events outside.old outside.new }
     ensures comes { (F : Facts) → Extends outside.new.facts.now F → ComesLine F args result }
-    ensures jobs { IfOk result (λ line. IsWindow line.settings.jobs) }
     ensures apart { IfErr result (λ ending. IsApart ending) }
     ensures unread { IfErr result (λ ending. IsUnread ending) }
 {
@@ -52,7 +49,6 @@ pub fn line_of_call<S: System>(
 ) -> Result<Line, Ending>
     ensures asks { Asks (S.events sys.old) (S.events sys.new) facts.old facts.new }
     ensures comes { (F : Facts) → Extends facts.new F → ComesLine F args result }
-    ensures jobs { IfOk result (λ line. IsWindow line.settings.jobs) }
     ensures apart { IfErr result (λ ending. IsApart ending) }
     ensures unread { IfErr result (λ ending. IsUnread ending) }
 {

@@ -1,7 +1,5 @@
 //! What a call does.
 
-// In clauses: `IsWindow` says that a number is from 1 to 64.
-ghost use Rattle.drv_run.specs.Calls.{IsWindow};
 ghost use Rattle.drv_run.specs.Drives.{failure_of, telling_of, work_with};
 ghost use Rattle.std.specs.Prelude.{◌≡◌};
 
@@ -64,7 +62,6 @@ fn failure_of(settings: &Settings) -> FailureStatus
 
 /// What is done with the plan of a line: with `-###` it is shown, and otherwise it is carried out.
 pub(crate) fn work_with(settings: &Settings, plan: Plan) -> Work
-    requires { IsWindow settings.now.jobs }
     ensures { result ≡ work_with settings.now plan }
 {
     if settings.dry {
@@ -73,7 +70,7 @@ pub(crate) fn work_with(settings: &Settings, plan: Plan) -> Work
     let manner = Manner {
         telling: telling_of(settings),
         pass_codes: failure_of(settings),
-        window: Window::new(settings.jobs),
+        window: Window::new(settings.jobs.number()),
     };
     Work::CarryOut { plan, manner }
 }

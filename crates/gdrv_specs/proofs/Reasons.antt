@@ -1,4 +1,3 @@
-use Rattle.drv_args.proofs.JobCounts.{jobs_are_few}
 use Rattle.drv_args.specs.declared.line.Line.{Line}
 use Rattle.drv_funcs.specs.declared.fault.FuncsFault.TheVariants as funcs_fault
 use Rattle.drv_machine.specs.declared.fault.MachineFault.TheVariants as machine_fault
@@ -139,11 +138,6 @@ known_specs F line explained set same has =
     ap (λ found. prefixes_of F found >>= λ prefixes. files_loaded F prefixes builtin_specs line.settings.specs) same.0
     ∙ ap (λ names. prefixes_of F explained.settings.prefixes >>= λ prefixes. files_loaded F prefixes builtin_specs names) same.1
     ∙ has
-
--- with as many sources under way as it says
-pub few_sources : (F : Facts) (args : List (List ℕ)) (line : Line) → ReadsLine F args line
-    → (1 ≤ line.settings.jobs) × (line.settings.jobs ≤ 64)
-few_sources F args line reads = jobs_are_few reads.0 (Ok line) reads.2
 
 -- its work, or the refusal of its plan
 

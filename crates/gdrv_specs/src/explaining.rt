@@ -1,6 +1,5 @@
 //! Prints what each part of a line changes.
 
-ghost use Rattle.drv_run.specs.Calls.{IsWindow};
 ghost use Rattle.drv_run.specs.Code.Deciding.{ComesOfLine, ComesOfSpecs};
 ghost use Rattle.drv_run.specs.Drives.{Comes, work_of as work_given};
 ghost use Rattle.drv_run.specs.LineReads.{ComesLine, ReadsLine};
@@ -90,7 +89,6 @@ pub(crate) fn work_with<S: System>(
     seed: u32,
     outside: &mut Outside<'_, S>,
 ) -> Result<Work, Ending>
-    requires { IsWindow line.now.settings.jobs }
     ensures asks { Asked S.events outside.old outside.new }
     ensures comes { (F : Facts) → Extends outside.new.facts.now F
         → ComesOfSpecs (work_given F line.now set.now seed) result }
@@ -129,7 +127,6 @@ fn work_beside<S: System>(
     line: &Line,
     outside: &mut Outside<'_, S>,
 ) -> Result<Work, Ending>
-    requires { IsWindow line.now.settings.jobs }
     ensures asks { Asked S.events outside.old outside.new }
     ensures comes { (F : Facts) → Extends outside.new.facts.now F
         → HasSpecs F explained.now.line.now explained.now.set.now
@@ -227,7 +224,6 @@ fn reasons_with_specs<S: System>(
     explained: &Explained<'_>,
     outside: &mut Outside<'_, S>,
 ) -> Result<Word, Ending>
-    requires { IsWindow explained.now.line.now.settings.jobs }
     ensures asks { Asked S.events outside.old outside.new }
     ensures gives { (F : Facts) → Extends outside.new.facts.now F
         → HasSpecs F explained.now.line.now explained.now.set.now
@@ -257,7 +253,6 @@ fn reasons_of_line<S: System>(
     line: &Line,
     outside: &mut Outside<'_, S>,
 ) -> Result<Word, Ending>
-    requires { IsWindow line.now.settings.jobs }
     ensures asks { Asked S.events outside.old outside.new }
     ensures gives { (F : Facts) → Extends outside.new.facts.now F → ReadsLine F asked.now.args.now line.now
         → Gives F asked.now.report asked.now.args.now asked.now.seed result }

@@ -1,7 +1,6 @@
 //! Prints where the words of a line's plan are from, alone or with what becomes of its switches.
 
 ghost use Rattle.drv_plan.specs.Languages.{chosen_for};
-ghost use Rattle.drv_run.specs.Calls.{IsWindow};
 ghost use Rattle.drv_run.specs.LineReads.{ReadsLine};
 ghost use Rattle.drv_run.specs.declared.ending.Ending.TheVariants.{OutOfMemory};
 ghost use Rattle.drv_search.specs.Search.{prefixes_of};
@@ -127,7 +126,6 @@ fn marked_found<S: System>(
     text: &[u8],
     outside: &mut Outside<'_, S>,
 ) -> Result<Work, Ending>
-    requires { IsWindow traced.now.line.now.settings.jobs }
     ensures asks { Asked S.events outside.old outside.new }
     ensures comes { (F : Facts) → Extends outside.new.facts.now F
         → IsMarked F traced.now.line.now set.old text.now traced.now.seed result }
@@ -147,7 +145,6 @@ fn marked_work<S: System>(
     text: &[u8],
     outside: &mut Outside<'_, S>,
 ) -> Result<Option<Work>, AllocError>
-    requires { IsWindow traced.now.line.now.settings.jobs }
     ensures asks { Asked S.events outside.old outside.new }
     ensures works { (F : Facts) → Extends outside.new.facts.now F → IfOk result
         (λ work. marked_work F traced.now.line.now set.old text.now traced.now.seed ≡ Is work) }
@@ -238,7 +235,6 @@ fn origins_with<S: System>(
     planned: &Planned<'_>,
     outside: &mut Outside<'_, S>,
 ) -> Result<Word, AllocError>
-    requires { IsWindow traced.now.line.now.settings.jobs }
     ensures asks { Asked S.events outside.old outside.new }
     ensures tells { (F : Facts) → Extends outside.new.facts.now F → IfOk result
         (λ text. origins_with F traced.now.view traced.now.line.now set.old traced.now.seed
@@ -268,7 +264,6 @@ fn origins_of<S: System>(
     plan: &Plan,
     outside: &mut Outside<'_, S>,
 ) -> Result<Word, AllocError>
-    requires { IsWindow traced.now.line.now.settings.jobs }
     ensures asks { Asked S.events outside.old outside.new }
     ensures tells { (F : Facts) → Extends outside.new.facts.now F → IfOk result
         (λ text. origins_of F traced.now.view traced.now.line.now set.old
@@ -291,7 +286,6 @@ fn said_of<S: System>(
     work: &Work,
     outside: &mut Outside<'_, S>,
 ) -> Result<Option<Word>, AllocError>
-    requires { IsWindow traced.now.line.now.settings.jobs }
     ensures asks { Asked S.events outside.old outside.new }
     ensures tells { (F : Facts) → Extends outside.new.facts.now F → IfOk result
         (λ said. said_of F traced.now.view traced.now.line.now set.old
@@ -314,7 +308,6 @@ fn said_with_specs<S: System>(
     set: &mut SpecSet,
     outside: &mut Outside<'_, S>,
 ) -> Result<Option<Word>, Ending>
-    requires { IsWindow traced.now.line.now.settings.jobs }
     ensures asks { Asked S.events outside.old outside.new }
     ensures gives { (F : Facts) (args : List (List ℕ)) → Extends outside.new.facts.now F
         → HasSpecs F traced.now.line.now set.old → ReadsLine F args traced.now.line.now
@@ -337,7 +330,6 @@ fn said_of_line<S: System>(
     traced: &Traced<'_>,
     outside: &mut Outside<'_, S>,
 ) -> Result<Option<Word>, Ending>
-    requires { IsWindow traced.now.line.now.settings.jobs }
     ensures asks { Asked S.events outside.old outside.new }
     ensures gives { (F : Facts) (args : List (List ℕ)) → Extends outside.new.facts.now F
         → ReadsLine F args traced.now.line.now

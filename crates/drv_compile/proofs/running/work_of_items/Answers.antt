@@ -23,6 +23,3 @@ returns-clause-comes g c F e =
     let known = c.in_ok-prefixes.ensures.prefixes F (extends_before c.specs_of.ensures.asks loaded) in
     working_comes F c.args.given.now c.args.seed c.in_ok-line.line c.in_ok-set.set c.line_work-work.result c.in_ok-line.ensures.line
     (c.in_ok-set.ensures.loads F loaded known) (c.line_work-work.ensures.works F e known)
-
-pub line_work-work-requires : goal.line_work-work-requires
-line_work-work-requires g c = c.in_ok-line.ensures.jobs

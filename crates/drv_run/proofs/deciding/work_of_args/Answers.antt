@@ -11,9 +11,6 @@ returns-in_err-line-clause-comes g c F e =
     ended_as F c.args.args c.args.seed c.in_err-line.field-0.0 c.from_residual.result c.from_residual.ensures.1
     (c.in_err-line.ensures.comes F e c.args.seed)
 
-pub work_of_line-requires : goal.work_of_line-requires
-work_of_line-requires g c = c.in_ok-line.ensures.jobs
-
 pub returns-clause-comes : goal.returns-clause-comes
 returns-clause-comes g c =
     line_asks c.line_of_args.new.outside.facts.now c.work_of_line.new.outside.facts.now c.args.args c.args.seed c.in_ok-line.line

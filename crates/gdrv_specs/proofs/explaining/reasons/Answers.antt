@@ -1,13 +1,7 @@
 use Rattle.drv_system.proofs.AskedCalls.{asked_further, extends_before}
-use Rattle.drv_system.proofs.Asking.{extends_refl}
-use Rattle.gdrv_specs.proofs.Reasons.{few_sources}
 use Rattle.gdrv_specs.proofs.explaining.reasons.Goals as goal
 
 -- reasons (src/explaining.rt). The reasons of a line, or its ending in their place.
-
-pub reasons_of_line-requires : goal.reasons_of_line-requires
-reasons_of_line-requires g c = few_sources c.line_of_words.new.outside.facts.now c.args.asked.now.args.now c.in-Ok.line
-    (c.in-Ok.ensures.comes c.line_of_words.new.outside.facts.now (extends_refl c.line_of_words.new.outside.facts.now))
 
 pub returns-in-Ok-clause-asks : goal.returns-in-Ok-clause-asks
 returns-in-Ok-clause-asks g c = asked_further c.line_of_words.ensures.asks c.reasons_of_line.ensures.asks

@@ -1,13 +1,7 @@
 use Rattle.drv_system.proofs.AskedCalls.{asked_further, extends_before}
-use Rattle.drv_system.proofs.Asking.{extends_refl}
-use Rattle.gdrv_specs.proofs.Reasons.{few_sources}
 use Rattle.gdrv_specs.proofs.explaining.work_without.Goals as goal
 
 -- work_without (src/explaining.rt). What words ask for beside a line whose specs are known.
-
-pub work_beside-requires : goal.work_beside-requires
-work_beside-requires g c = few_sources c.read_line.new.outside.facts.now c.args.rest c.in-Ok.line
-    (c.in-Ok.ensures.comes c.read_line.new.outside.facts.now (extends_refl c.read_line.new.outside.facts.now))
 
 pub returns-in-Ok-clause-asks : goal.returns-in-Ok-clause-asks
 returns-in-Ok-clause-asks g c = asked_further c.read_line.ensures.asks c.work_beside.ensures.asks
