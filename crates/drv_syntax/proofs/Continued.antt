@@ -1,42 +1,40 @@
-use Rattle.drv_words.specs.Bytes as ascii
 use Rattle.drv_syntax.proofs.Depth.{descent_is}
-use Rattle.drv_syntax.proofs.GivenParts.{err_same, ok_same}
 use Rattle.drv_syntax.proofs.FlatNodes.{flat_both, items_flat, items_join, join}
-use Rattle.drv_syntax.proofs.ItemsRead.{one}
+use Rattle.drv_syntax.proofs.Here.{here}
+use Rattle.drv_syntax.proofs.ItemsRead.{Inner, item_is}
 use Rattle.drv_syntax.proofs.Leads.{differs, each}
-use Rattle.drv_syntax.proofs.Longer.{brace_longer, call_longer, item_filled, item_longer, place_longer, quoted_longer, run_longer}
 use Rattle.drv_syntax.proofs.MeantWhole.{read_is_spelled}
-use Rattle.drv_syntax.proofs.WholeRead.{top_inner}
-use Rattle.drv_syntax.proofs.Wrote.{labels_both, list_wrote}
+use Rattle.drv_syntax.proofs.Progress.{Has, Takes, items_take, repeated}
+use Rattle.drv_syntax.proofs.Swaps.{brace_moved, call_moved, filled, item_longer, longer, quoted_moved, run_moved, swaps_end}
+use Rattle.drv_syntax.proofs.Taken.{ok_same}
+use Rattle.drv_syntax.proofs.WholeRead.{inner, levels_known, start}
+use Rattle.drv_syntax.proofs.Wrote.{labels_both}
 use Rattle.drv_syntax.specs.Bytes.{is_blank, is_suffix, is_word}
 use Rattle.drv_syntax.specs.Code.Ending.{begins_blank, ending_by, ending_in, goes_on}
-use Rattle.drv_syntax.specs.Code.Left.{Left}
-use Rattle.drv_syntax.specs.Code.Lists.{listed_given, tail_at}
 use Rattle.drv_syntax.specs.Code.Whole.{rest_given, whole_given}
-use Rattle.drv_syntax.specs.Code.Writing.{Parts, Reading, flat, given}
+use Rattle.drv_syntax.specs.Code.Writing.{flat, given}
 use Rattle.drv_syntax.specs.Contexts.{ListContext, top}
-use Rattle.drv_syntax.specs.Descent.{Ends, Read, Stops, Took, item_go, levels, then_read}
+use Rattle.drv_syntax.specs.Descent.{Ends, Read, Stops, Took, after_turn, item_turn, levels, mapped, then_read}
 use Rattle.drv_syntax.specs.Directives.{said}
 use Rattle.drv_syntax.specs.Labels.{Label, inner_nodes, label_of, labels, labels_of, no_node, node, nodes_of}
 use Rattle.drv_syntax.specs.Outcome.{Bad, Cut, Got, Out, descent, judged, outcome}
 use Rattle.drv_syntax.specs.Parsed.{listed}
+use Rattle.drv_syntax.specs.Rest.{Left}
 use Rattle.drv_syntax.specs.Spelling as s
-use Rattle.drv_syntax.specs.Spelling.{AreItems, At, IsDirective, IsItem, IsPattern, IsQuoted, IsRun, IsSuffix, span}
+use Rattle.drv_syntax.specs.Spelling.{AreItems, IsDirective, IsItem, IsPattern, IsQuoted, IsRun, IsSuffix, span}
 use Rattle.drv_syntax.specs.Tokens.{kind_of, tokens_of}
 use Rattle.drv_syntax.specs.Tree.{AddOption, ArgumentsFile, Blank, Braces, BuiltinText, Escape, FailureFile, Function, Hide, Item, Items}
 use Rattle.drv_syntax.specs.Tree.{Leaf, NamedText, Newline, Notice, Pattern, Pipe, Plain, Span, Star, TempName, UserError, more, none}
 use Rattle.drv_syntax.specs.declared.descent.ending.Ending.{Ending}
-use Rattle.drv_syntax.specs.declared.descent.simple.Tail.{Tail}
 use Rattle.drv_syntax.specs.declared.directives.Directive.{Directive}
 use Rattle.drv_syntax.specs.declared.directives.SayKind.TheVariants.{AsError, AsNotice}
 use Rattle.drv_syntax.specs.declared.directives.SayKind.{SayKind}
-use Rattle.drv_syntax.specs.declared.fault.SyntaxFault.TheVariants.{Unclosed}
-use Rattle.drv_syntax.specs.declared.fault.SyntaxFault.{SyntaxFault}
 use Rattle.drv_syntax.specs.declared.token.Token.{Token}
-use Rattle.std.proofs.Common.{◌≡◌, ◌∙◌, ◌+◌, ◌-◌, ◌++◌, Bool, false, true, List, [], ◌∷◌, ap, arith, length, length-append}
-use Rattle.std.proofs.Common.{refl, subst, suc, sym, ℕ}
+use Rattle.drv_words.specs.Bytes as ascii
+use Rattle.std.proofs.Common.{Bool, List, [], ap, arith, false, length, length-append, refl, subst, suc, sym, true, ℕ, ◌++◌, ◌+◌, ◌-◌, ◌∙◌}
+use Rattle.std.proofs.Common.{◌∷◌, ◌≡◌, ◌≤◌}
 use Rattle.std.proofs.lemmas.Bool.Decides.{nat_tests}
-use Rattle.std.specs.Prelude.{◌==◌, Err, None, Ok, Result, Some, slice_get}
+use Rattle.std.specs.Prelude.{None, Ok, Some, slice_get, ◌==◌}
 
 -- A text that has a tree goes on after its end: read with more bytes after it, it gives its own items and then those of the rest, if its
 -- last item can't be longer there. It serves `SpecTree::extended`, which keeps the tokens and labels of the text and reads only what
@@ -163,7 +161,7 @@ pattern_on [] i h = differs (sym h)
 pattern_on (b ∷ q) (s.unstarred i e) h =
     let o = blank_out b h in
     s.unstarred (quoted_on i o.0 o.1) (s.at_byte o.4)
-pattern_on (b ∷ q) (s.starred i) h = s.starred (quoted_longer (b ∷ q) i tt)
+pattern_on (b ∷ q) (s.starred i) h = s.starred (longer (b ∷ q) (quoted_moved [] (b ∷ q) i (filled swaps_end)))
 
 -- nothing fits after %e and %n, so this case can't arise
 said_fits : {A : Type 0} (kind : SayKind) (words q : List ℕ) → Fits (said kind words) q → A
@@ -176,14 +174,14 @@ directive_on : {size : ℕ} {c : ListContext} {f : Directive} {t : List ℕ} {x 
 directive_on q s.whole h = s.whole
 directive_on q s.named h = s.named
 directive_on q (s.temp_name i) h = s.temp_name (suffix_on q i h)
-directive_on q (s.add_option i) h = s.add_option (quoted_longer q i tt)
+directive_on q (s.add_option i) h = s.add_option (longer q (quoted_moved [] q i (filled swaps_end)))
 directive_on q (s.saying {kind = kind} {words = words} i e) h = said_fits kind words q h
-directive_on q (s.named_text i l) h = s.named_text (run_longer q i tt) l
+directive_on q (s.named_text i l) h = s.named_text (longer q (run_moved [] q i (filled swaps_end))) l
 directive_on q (s.hide i) h = s.hide (pattern_on q i h)
 directive_on q (s.star e) h = s.star e
-directive_on q (s.function i) h = s.function (call_longer q i)
-directive_on q (s.braces i) h = s.braces (brace_longer q i)
-directive_on q (s.marked_braces i) h = s.marked_braces (brace_longer q i)
+directive_on q (s.function i) h = s.function (longer q (call_moved [] q (omega arith) i swaps_end))
+directive_on q (s.braces i) h = s.braces (longer q (brace_moved [] q (omega arith) i swaps_end))
+directive_on q (s.marked_braces i) h = s.marked_braces (longer q (brace_moved [] q (omega arith) i swaps_end))
 
 -- an item that the text ends in is the same item before a rest that fits it
 item_on : {size : ℕ} {c : ListContext} {t : List ℕ} {x : Item} (q : List ℕ) → IsItem size c t x [] → Fits x q
@@ -199,7 +197,7 @@ item_on q (s.directive e i) h = s.directive e (directive_on q i h)
 item_goes : {size : ℕ} {c : ListContext} {t mid : List ℕ} (q : List ℕ) (p : Span) (x : Item) (items : Items) → AreItems size c mid items []
     → LastFits (more p x items) q → IsItem size c t x mid → IsItem (size + length q) c (t ++ q) x (mid ++ q)
 item_goes q p x none (s.no_item e) h i = item_on q i h
-item_goes q p x (more r y items) (s.next_item a j b l) h i = item_longer q i (item_filled j)
+item_goes q p x (more r y items) (s.next_item a j b l) h i = item_longer q i j
 
 -- what fits the last of some items fits the last of those after the first
 rest_fits : (p : Span) (x : Item) (items : Items) (q : List ℕ) → LastFits (more p x items) q → LastFits items q
@@ -208,50 +206,54 @@ rest_fits p x (more r y items) q h = h
 
 -- a text with more after it
 
--- what is read after these items, of k bytes: they come before those that are read
-abbrev after : Items → ℕ → Read (Items × ℕ) → Read (Items × ℕ)
-after items k r = then_read r (λ list used. Took (join items list.0, list.1) (k + used))
+-- what is read after these items comes after them
+abbrev behind : Items → Read (Items × ℕ) → Read (Items × ℕ)
+behind items r = mapped (λ list. (join items list.0, list.1)) r
 
 -- no items before what is read change nothing
-after_none : (r : Read (Items × ℕ)) → after none 0 r ≡ r
-after_none (Took list used) = let e : 0 + used ≡ used = omega arith in ap (λ (i : ℕ). Took list i) e
-after_none (Ends at) = refl
-after_none (Stops n fault) = refl
+behind_none : (r : Read (Items × ℕ)) → behind none r ≡ r
+behind_none (Took list end) = refl
+behind_none (Ends at) = refl
+behind_none (Stops n fault) = refl
 
 -- an item before other items, and then what is read, are those items with it before
-after_more : (n m k first : ℕ) (x : Item) (items : Items) (used size : ℕ) (r : Read (Items × ℕ)) → n ≡ first → n + 1 + used ≡ m
-    → 1 + used + k ≡ size → item_go n x used (after items k r) ≡ after (more (span first m) x items) size r
-after_more n m k first x items used size (Took list extra) f e g =
-    let z : 1 + used + (k + extra) ≡ size + extra = omega (arith, g) in
-    cc (e, f, z)
-after_more n m k first x items used size (Ends at) f e g = refl
-after_more n m k first x items used size (Stops i fault) f e g = refl
+behind_more : (p : Span) (x : Item) (items : Items) (r : Read (Items × ℕ)) → mapped (λ list. (more p x list.0, list.1)) (behind items r)
+    ≡ behind (more p x items) r
+behind_more p x items (Took list end) = refl
+behind_more p x items (Ends at) = refl
+behind_more p x items (Stops n fault) = refl
 
 -- a whole text, which may have 64 levels, with more bytes q after it
 module _ (level : ℕ) (is : level ≡ 63) (q : List ℕ) where
   -- what Descent makes of a whole text from here on
-  abbrev reads : ℕ → List ℕ → Read (Items × ℕ)
-  reads n t = (levels (suc level)).0 top n t
+  abbrev reads : Left → Read (Items × ℕ)
+  reads rest = (levels (suc level)).0 top rest
+
+  -- the lists in a whole text are read, where the text has this size
+  known : (size : ℕ) → Inner size (levels level).0 (levels level).1 top
+  known size = inner top (λ e x f. (levels_known size level).0 x (omega (arith, f, is)))
+      (λ e x f. (levels_known size level).1 x (omega (arith, f, is)))
+
+  -- each turn of the list takes a byte, but the last
+  takes : (rest : Left) → Has (Takes (length rest.bytes)) (item_turn (levels level).0 (levels level).1 top rest)
+  takes = subst (λ (n : ℕ). (rest : Left) → Has (Takes (length rest.bytes)) (item_turn (levels n).0 (levels n).1 top rest)) (sym is)
+      (items_take top)
 
   -- a text with a tree and a rest that fits it give its items and then those of the rest
-  items_on : {size : ℕ} {t : List ℕ} (items : Items) (n : ℕ) → AreItems size top t items [] → LastFits items q → At size n t
-      → reads n (t ++ q) ≡ after items (length t) (reads (n + length t) q)
-  items_on none n (s.no_item e) h place =
-      let z : n ≡ n + 0 = omega arith in
-      ap (λ (i : ℕ). reads i q) z ∙ sym (after_none (reads (n + 0) q))
-  items_on {size} {t} (more p x items) n (s.next_item {n = first} {m = m} {mid = mid} a i b l) h place =
-      let known = top_inner level is (size + length q) in
-      let o = one (size + length q) (levels level).0 (levels level).1 top known.args known.xs known.deeper n
-      (item_goes q (span first m) x items l h i) (place_longer q n t place) in
-      let begins : n ≡ first = omega (arith, a, place) in
-      let sizes : length t ≡ 1 + o.used + length mid = omega (arith, o.fits, length-append t q, length-append mid q) in
-      let ends : n + 1 + o.used ≡ m = omega (arith, place, sizes, b) in
-      let there : n + 1 + o.used + length mid ≡ n + length t = omega (arith, sizes) in
-      o.is
-      ∙ ap (λ r. item_go n x o.used r)
-      (items_on items (n + 1 + o.used) l (rest_fits (span first m) x items q h) (omega (arith, place, sizes)))
-      ∙ after_more n m (length mid) first x items o.used (length t) (reads (n + 1 + o.used + length mid) q) begins ends (sym sizes)
-      ∙ ap (λ (k : ℕ). after (more (span first m) x items) (length t) (reads k q)) there
+  items_on : {size : ℕ} {t : List ℕ} (items : Items) → AreItems size top t items [] → LastFits items q → length t ≤ size
+      → reads (here (size + length q) (t ++ q)) ≡ behind items (reads (here (size + length q) q))
+  items_on {size} none (s.no_item e) h k = sym (behind_none (reads (here (size + length q) q)))
+  items_on {size} {t} (more p x items) (s.next_item {n = n} {m = m} {mid = mid} a i b l) h k =
+      let begins : n ≡ size + length q - length (t ++ q) = omega (arith, a, length-append t q) in
+      let ends : m ≡ size + length q - length (mid ++ q) = omega (arith, b, length-append mid q) in
+      let one = item_is (size + length q) (levels level).0 (levels level).1 top (known (size + length q))
+      (item_goes q (span n m) x items l h i) (omega (arith, k, length-append t q)) in
+      let place : Span = span (size + length q - length (t ++ q)) (size + length q - length (mid ++ q)) in
+      rw (begins, ends) (repeated (item_turn (levels level).0 (levels level).1 top) takes (here (size + length q) (t ++ q))
+      ∙ ap (λ r. then_read r (after_turn reads)) one
+      ∙ ap (λ r. mapped (λ list. (more place x list.0, list.1)) r)
+      (items_on items l (rest_fits (span n m) x items q h) (omega (arith, b)))
+      ∙ behind_more place x items (reads (here (size + length q) q)))
 
 -- the tokens of two lists, one after the other, are those of both
 tokens_joined : (items list : Items) → tokens_of (join items list) ≡ tokens_of items ++ flat (length (tokens_of items)) (nodes_of list)
@@ -273,13 +275,13 @@ pub rest_is : (text rest : List ℕ) (tokens : List Token) (names : List Label) 
     → goes_on (ending_in (length text) tokens) rest ≡ true → whole_given (text ++ rest) ≡ rest_given (length text) rest tokens names
 rest_is text rest tokens names h g = by (descent text) refl h
   where
-    joined : (items : Items) (k : ℕ) (r : Read (Items × ℕ))
-        → listed (judged (outcome (after items k r))) ≡ given None (record { at = length text; bytes = rest })
-        (λ list others. (tokens_of items ++ flat (length (tokens_of items)) (nodes_of list.0), labels_of items ++ labels (nodes_of list.0)))
-        r
-    joined items k (Took l size) = cc (tokens_joined items l.0, labels_joined items l.0)
-    joined items k (Ends at) = refl
-    joined items k (Stops n fault) = refl
+    joined : (items : Items) (r : Read (Items × ℕ))
+        → listed (judged (outcome (behind items r)))
+        ≡ given None
+        (λ list end. (tokens_of items ++ flat (length (tokens_of items)) (nodes_of list.0), labels_of items ++ labels (nodes_of list.0))) r
+    joined items (Took l end) = cc (tokens_joined items l.0, labels_joined items l.0)
+    joined items (Ends at) = refl
+    joined items (Stops n fault) = refl
 
     by : (o : Out) → descent text ≡ o → listed (judged o) ≡ Ok (tokens, names) → whole_given (text ++ rest)
         ≡ rest_given (length text) rest tokens names
@@ -291,60 +293,11 @@ rest_is text rest tokens names h g = by (descent text) refl h
         ap (λ (z : List Token × List Label). goes_on (ending_in (length text) z.0) rest) p
         ∙ g in
         let tree = read_is_spelled text items e in
-        let start : 0 + length text ≡ length text = omega arith in
+        let there : length text + length rest - length rest ≡ length text = omega arith in
         ap (λ o. listed (judged o)) (descent_is (text ++ rest))
-        ∙ ap (λ r. listed (judged (outcome r))) (items_on 63 refl rest items 0 tree (last_fits rest items none tree ends) (omega arith))
-        ∙ ap (λ (i : ℕ). listed (judged (outcome (after items (length text) ((levels 64).0 top i rest))))) start
-        ∙ joined items (length text) ((levels 64).0 top (length text) rest)
+        ∙ ap (λ (l : Left). listed (judged (outcome ((levels 64).0 top l))))
+        (start (text ++ rest) ∙ ap (λ (n : ℕ). here n (text ++ rest)) (length-append text rest))
+        ∙ ap (λ r. listed (judged (outcome r))) (items_on 63 refl rest items tree (last_fits rest items none tree ends) (omega arith))
+        ∙ ap (λ (i : ℕ). listed (judged (outcome (behind items ((levels 64).0 top (record { at = i; bytes = rest })))))) there
+        ∙ joined items ((levels 64).0 top (record { at = length text; bytes = rest }))
         ∙ ap (λ (z : List Token × List Label). rest_given (length text) rest z.0 z.1) p
-
--- the code's list of the rest
-
--- the bytes after a text, at the place n, which the code reads on from what it kept
-module _ (n : ℕ) (bytes : List ℕ) (v : Reading) (here : v.rest ≡ record { at = n; bytes = bytes }) where
-  -- what the code's `items` returns for the rest of a whole text
-  abbrev lists : Reading → Result (Tail × Reading) SyntaxFault
-  lists w = listed_given None (tail_at w) w ((levels 64).0 top w.rest.at w.rest.bytes)
-
-  -- the reading at the rest, with these parts
-  abbrev begun : Reading
-  begun = record { rest = record { at = n; bytes = bytes }; parts = v.parts }
-
-  -- the code's reading of the rest begins at this place, with the parts of the first text
-  begun_is : v ≡ begun
-  begun_is = ap (λ (r : Left). record { rest = r; parts = v.parts }) here
-
-  -- the tokens and labels that the code's list of the rest leaves are those of the whole
-  pub rest_done : (tail : Tail) (u : Reading) → lists v ≡ Ok (tail, u)
-      → rest_given n bytes v.parts.tokens v.parts.labels ≡ Ok (u.parts.tokens, u.parts.labels)
-  rest_done tail u h = by ((levels 64).0 top n bytes) (ap (λ (w : Reading). lists w) (sym begun_is) ∙ h)
-    where
-      by : (r : Read (Items × ℕ)) → listed_given None (tail_at begun) begun r ≡ Ok (tail, u)
-          → given {Y = List Token × List Label} None (record { at = n; bytes = bytes })
-          (λ list others. (
-            v.parts.tokens ++ flat (length v.parts.tokens) (nodes_of list.0),
-            v.parts.labels ++ labels (nodes_of list.0),
-          )) r ≡ Ok (u.parts.tokens, u.parts.labels)
-      by (Took list size) g =
-          ap (λ (z : Parts). Ok (z.tokens, z.labels)) (sym (list_wrote list.0 v.parts))
-          ∙ ap (λ (z : Tail × Reading). Ok (z.1.parts.tokens, z.1.parts.labels)) (ok_same g)
-      by (Ends at) g = absurd cc
-      by (Stops m fault) g = absurd cc
-
-  -- the fault of the code's list of the rest is that of the whole
-  pub rest_stops : (fault : SyntaxFault) → lists v ≡ Err fault → rest_given n bytes v.parts.tokens v.parts.labels ≡ Err fault
-  rest_stops fault h = by ((levels 64).0 top n bytes) (ap (λ (w : Reading). lists w) (sym begun_is) ∙ h)
-    where
-      by : (r : Read (Items × ℕ)) → listed_given None (tail_at begun) begun r ≡ Err fault
-          → given {Y = List Token × List Label} None (record { at = n; bytes = bytes })
-          (λ list others. (
-            v.parts.tokens ++ flat (length v.parts.tokens) (nodes_of list.0),
-            v.parts.labels ++ labels (nodes_of list.0),
-          )) r ≡ Err fault
-      by (Took list size) g = absurd cc
-      by (Ends at) g =
-          let p : Unclosed at ≡ fault = err_same g in
-          ap (λ x. Err x) p
-      by (Stops m f) g =
-          let p : f ≡ fault = err_same g in
-          ap (λ x. Err x) p

@@ -1,7 +1,8 @@
-use Rattle.drv_syntax.specs.Contexts.{top}
-use Rattle.drv_syntax.specs.Descent.{Lists, items_with, levels, no_lists}
+use Rattle.drv_syntax.specs.Contexts.{ListContext, top}
+use Rattle.drv_syntax.specs.Descent.{Lists, items, levels, no_lists}
 use Rattle.drv_syntax.specs.Outcome.{depth, descent, outcome}
-use Rattle.std.proofs.Common.{◌≡◌, ◌-◌, false, List, [], ◌∷◌, ap, arith, refl, subst, suc, zero, ℕ}
+use Rattle.std.proofs.Common.{◌≡◌, ◌+◌, ◌-◌, false, List, [], ◌∷◌, ap, arith, refl, suc, zero, ℕ}
+use Rattle.std.proofs.lemmas.Bool.Decides.{nat_tests}
 use Rattle.std.specs.Prelude.{◌==◌}
 
 -- Each text may have 64 levels of braces and arguments within one another: the definition computes that number from the text, and it is
@@ -14,22 +15,24 @@ depth_is [] = refl
 depth_is (b ∷ text) = depth_is text
 
 -- what Descent makes of a text is what lists with 64 levels make of it
-pub descent_is : (text : List ℕ) → descent text ≡ outcome ((levels 64).0 top 0 text)
-descent_is text = ap (λ (level : ℕ). outcome ((levels level).0 top 0 text)) (depth_is text)
+pub descent_is : (text : List ℕ) → descent text ≡ outcome ((levels 64).0 top (record { at = 0; bytes = text }))
+descent_is text = ap (λ (level : ℕ). outcome ((levels level).0 top (record { at = 0; bytes = text }))) (depth_is text)
 
--- a property of the lists with so many levels that they have if those with fewer levels, which are in them, have it
-module _ (P : ℕ → Lists → Type 0) (step : (level : ℕ) (lists deep : Lists) → ((level == 0) ≡ false → P (level - 1) lists)
-    → ((level - 1 == 0) ≡ false → P (level - 1 - 1) deep) → P level (λ c n text. items_with lists deep c n 0 text)) where
+-- a property of lists by their context, which they have if the lists in them, which have fewer levels, have it
+module _ (Q : Lists → ListContext → Type 0) (step : (lists deep : Lists) (c : ListContext)
+    → ((c.levels == 0) ≡ false → (inner : ListContext) → inner.levels ≡ c.levels - 1 → Q lists inner)
+    → ((c.levels - 1 == 0) ≡ false → (inner : ListContext) → inner.levels ≡ c.levels - 1 - 1 → Q deep inner)
+    → Q (λ c rest. items lists deep c rest) c) where
   -- lists with any number of levels have the property, by induction over the levels
-  pub all_levels : (level : ℕ) → P level (levels level).0 × P (level - 1) (levels level).1
+  pub all_levels : (level : ℕ) → ((c : ListContext) → c.levels ≡ level → Q (levels level).0 c)
+      × ((c : ListContext) → c.levels + 1 ≡ level → Q (levels level).1 c)
   all_levels zero = (
-    step 0 no_lists no_lists (λ h. absurd cc) (λ h. absurd cc),
-    step 0 no_lists no_lists (λ h. absurd cc) (λ h. absurd cc),
+    λ c e. step no_lists no_lists c (λ h. absurd (grind (arith, nat_tests, e, h))) (λ h. absurd (grind (arith, nat_tests, e, h))),
+    λ c e. absurd (omega (arith, e)),
   )
   all_levels (suc level) =
-      let m = all_levels level in
-      let one_less : level ≡ suc level - 1 = omega arith in (
-        step (suc level) (levels level).0 (levels level).1 (λ h. subst (λ (l : ℕ). P l (levels level).0) one_less m.0)
-            (λ h. subst (λ (l : ℕ). P (l - 1) (levels level).1) one_less m.1),
-        subst (λ (l : ℕ). P l (levels level).0) one_less m.0,
+      let m = all_levels level in (
+        λ c e. step (levels level).0 (levels level).1 c (λ h inner f. m.0 inner (omega (arith, e, f)))
+            (λ h inner f. m.1 inner (grind (arith, nat_tests, e, f, h))),
+        λ c e. m.0 c (omega (arith, e)),
       )

@@ -1,306 +1,229 @@
-use Rattle.drv_syntax.proofs.Depth.{all_levels}
 use Rattle.drv_words.specs.Bytes as ascii
-use Rattle.drv_syntax.proofs.CallsRead.{ListReads, first_of}
-use Rattle.drv_syntax.proofs.DirectivesRead.{cut_place, directive_out, directive_reads}
-use Rattle.drv_syntax.proofs.Leads.{AllOf, differs, each, not_of, other}
-use Rattle.drv_syntax.proofs.PartsRead.{Reads, reads_as, reads_past, skipped}
-use Rattle.drv_syntax.proofs.TestsEnd.{ListEnds}
-use Rattle.drv_syntax.specs.Bytes.{is_of, is_plain}
-use Rattle.drv_syntax.specs.Contexts.{InArguments, InX, Kind, ListContext, Top, bar_in, in_arguments, in_braces, in_x, is_end, newline_in}
+use Rattle.drv_syntax.proofs.Leads.{asked_head, no_colon, no_white, sign_head, other}
+use Rattle.drv_syntax.proofs.Here.{begins_not, here, one, spaces_on, spaces_shorter, named_is, option_is, pattern_is, saying_is, suffix_is}
+use Rattle.drv_syntax.proofs.Here.{two}
+use Rattle.drv_syntax.proofs.Shorter.{Loops, items_shorter, loop_ends, loop_goes, patterns_shorter, tests_shorter, item_shorter}
+use Rattle.drv_syntax.proofs.TestsRead.{emits_are, ListReads, tests_are, byte_of, call_is, call_level}
+use Rattle.drv_syntax.specs.Bytes.{is_white, is_blank, is_plain}
+use Rattle.drv_syntax.specs.Contexts.{ListContext, in_arguments, in_braces, in_x, Kind, InArguments, InX, Top, is_end}
 use Rattle.drv_syntax.specs.Descent as d
-use Rattle.drv_syntax.specs.Descent.{Ends, Lists, Read, Took, past, then_read}
+use Rattle.drv_syntax.specs.Descent.{Lists, Read, Took, Turn, mapped, then_read, within, Last, More}
 use Rattle.drv_syntax.specs.Directives.{directive_of, is_allowed}
-use Rattle.drv_syntax.specs.Fronts as cuts
-use Rattle.drv_syntax.specs.Fronts.{AreFrontItems, CutsItem}
+use Rattle.drv_syntax.specs.Refusals.{AtFront, AtNext}
+use Rattle.drv_syntax.specs.Rest.{Left, after, begins_with, past_white, by_byte, first_of}
 use Rattle.drv_syntax.specs.Spelling as s
-use Rattle.drv_syntax.specs.Spelling.{AreItems, At, IsItem, span}
-use Rattle.drv_syntax.specs.Tree.{Blank, Item, Items, Plain, Tests, more, none}
-use Rattle.std.proofs.Common.{◌≡◌, ◌∙◌, ◌+◌, ◌-◌, ◌⊎◌, Bool, false, true, if◌then◌else◌, List, [], ◌∷◌, ap, arith, drop, drop-drop, inl}
-use Rattle.std.proofs.Common.{inr, length, refl, subst, sym, ℕ}
-use Rattle.std.specs.Prelude.{◌==◌}
+use Rattle.drv_syntax.specs.Spelling.{AreChoices, AreItems, AreLater, AreSpaces, AreTests, IsBrace, IsDirective, IsItem, span}
+use Rattle.drv_syntax.specs.Tree.{Brace, Choices, Choose, Items, Tests, alternative, no_choice, no_test, Function, Item, more, none}
+use Rattle.drv_syntax.specs.declared.directives.Directive.{Directive}
+use Rattle.drv_syntax.specs.declared.fault.SyntaxFault.TheVariants.{EmptyTest}
+use Rattle.std.proofs.Common.{◌≡◌, ◌≤◌, ◌∙◌, false, if◌then◌else◌, List, ◌∷◌, ap, arith, length, refl, suc, ℕ, Bool, true}
+use Rattle.std.specs.Prelude.{◌-◌, ◌==◌}
 
--- What the grammar says of an item and of a list of them, Descent makes of it, by induction over the levels of lists. It serves the laws
--- `spelled_is_read` and `front_is_unrefused`. `Reads r text x rest` says that the result r took x from the text and left this rest
--- (PartsRead). `ListReads` and `ListEnds` say of all lists with a context that they are read, and that a text that ends in them is not
--- closed. `At size n t` says that t is the rest at the place n of a text of this size. The numbers in the statements are bytes: 10 is a
--- newline, 32 a space, 9 a tab, 37 %, 92 a backslash, 124 |. Descent is the grammar as functions (specs/Descent). The grammar itself has
--- cases (specs/Spelling, Fronts, Refusals).
+-- What the grammar says of alternatives and braces, Descent makes of it. It serves the laws `spelled_is_read`, `front_is_unrefused` and
+-- `refusal_kinds`. The numbers in the statements are bytes: 58 is :, 59 ;, 125 }.
 
--- bytes that end no list
+-- a text of this size, in braces whose directive's % has the place `at`, in a list with the context c
+module _ (size : ℕ) (lists deep : Lists) (c : ListContext) (at : ℕ) where
+  -- what Descent makes of the X of an alternative with these tests, after its colon
+  abbrev pub x_from : Tests → List ℕ → Read (Items × ℕ)
+  x_from tests mid = within at (lists (in_x (in_braces c) tests) (here size mid))
 
--- a space, a tab, a newline, a bar, a backslash and a percent sign end no list
-unending : (kind : Kind) → AllOf (λ b. is_end kind b ≡ false) (32 ∷ 9 ∷ 10 ∷ 124 ∷ 92 ∷ 37 ∷ [])
-unending Top = (refl, (refl, (refl, (refl, (refl, (refl, tt))))))
-unending InX = (refl, (refl, (refl, (refl, (refl, (refl, tt))))))
-unending InArguments = (refl, (refl, (refl, (refl, (refl, (refl, tt))))))
+  -- one turn of the loop over alternatives after the first
+  abbrev pub later_turn : Left → Read (Turn Choices)
+  later_turn mid = if begins_with ascii.colon (past_white mid).bytes then d.default lists c at (past_white mid)
+      else then_read (d.form deep c at AtNext mid) (λ f end. d.later_by lists c at f end)
 
--- a byte that by the grammar doesn't end a list doesn't end it in Descent
-pub goes_on : (kind : Kind) (b : ℕ) → is_end kind b ≡ false → d.ends_list kind b ≡ false
-goes_on kind b e = by (b == ascii.backslash) (b == ascii.percent)
-  where
-    by : (x y : Bool) → (if x then false else if y then false else is_end kind b) ≡ false
-    by true y = refl
-    by false true = refl
-    by false false = e
+  -- white space and what is no colon begin no default
+  pub no_default : {t u : List ℕ} → AreSpaces t u → s.Stops is_white u → s.Stops (λ b. b == ascii.colon) u → length t ≤ size
+      → later_turn (here size t) ≡ then_read (d.form deep c at AtNext (here size t)) (λ f end. d.later_by lists c at f end)
+  no_default {t} sp w g h = let e : begins_with ascii.colon (past_white (here size t)).bytes
+      ≡ false = ap (λ (u : List ℕ). begins_with ascii.colon u) (spaces_on size sp w h).0 ∙ begins_not 58 g in rw e refl
 
--- a byte that by the grammar ends a list ends it in Descent
+  -- after white space and a colon, Descent goes on with the X of the default
+  pub default_on : {t mid : List ℕ} → AreSpaces t (58 ∷ mid) → length t ≤ size → later_turn (here size t)
+      ≡ then_read (x_from no_test mid) (λ x end.
+      if x.1 == ascii.closing_brace then Took (d.Last (alternative (size - suc (length mid)) no_test x.0 no_choice)) (after 1 end)
+      else d.Stops end.at (EmptyTest at))
+  default_on {mid = mid} sp h =
+      let m = spaces_on size sp (s.at_byte refl) h in rw (m.0, m.1, one size mid (omega (arith, spaces_shorter sp, h))) refl
+
+  -- arguments of tests are read
+  module _ (deeper : (c.levels - 1 == 0) ≡ false → ListReads size deep (in_arguments (in_braces c))) where
+    -- after the tests of an alternative after the first, Descent goes on with its X
+    pub later_on : {t mid : List ℕ} {tests : Tests} → AreTests size (in_braces c) t tests (58 ∷ mid) → length t ≤ size
+        → later_turn (here size t) ≡ then_read (x_from tests mid) (λ x end. d.choice_turn (size - suc (length mid)) tests x end)
+    later_on {t} {mid} {tests} i h =
+        rw (goes i, (tests_are size deep c at deeper i h).0 AtNext, one size mid (omega (arith, tests_shorter i, h))) refl
+      where
+        goes : {q : List ℕ} {tests : Tests} → AreTests size (in_braces c) t tests q
+            → later_turn (here size t) ≡ then_read (d.form deep c at AtNext (here size t)) (λ f end. d.later_by lists c at f end)
+        goes (s.last_test sp x sign i y z) =
+            no_default sp (sign_head sign (asked_head no_white refl i) refl) (sign_head sign (asked_head no_colon refl i) refl) h
+        goes (s.next_test sp x sign i y z o) =
+            no_default sp (sign_head sign (asked_head no_white refl i) refl) (sign_head sign (asked_head no_colon refl i) refl) h
+
+    -- after the tests of the first alternative, Descent goes on with its X
+    pub first_on : {t mid : List ℕ} {tests : Tests} → AreTests size (in_braces c) t tests (58 ∷ mid) → length t ≤ size
+        → d.choices lists deep c at (here size t) ≡ then_read (x_from tests mid) (λ x end. mapped Choose
+        (then_read (d.choice_turn (size - suc (length mid)) tests x end) (d.after_turn (d.later lists deep c at))))
+    first_on {mid = mid} i h = rw ((tests_are size deep c at deeper i h).0 AtFront, one size mid (omega (arith, tests_shorter i, h))) refl
+
+    -- Xs are read
+    module _ (xs : (tests : Tests) → ListReads size lists (in_x (in_braces c) tests)) where
+      -- the X of an alternative by the grammar is read
+      pub x_is : (tests : Tests) {mid q : List ℕ} {items : Items} {b : ℕ} → AreItems size (in_x (in_braces c) tests) mid items (b ∷ q)
+          → length mid ≤ size → x_from tests mid ≡ Took (items, b) (here size (b ∷ q))
+      x_is tests {mid} {q} {items} {b} i h = rw (xs tests mid (b ∷ q) items i h) refl
+
+      -- alternatives give this: from the first one on, and after a semicolon
+      abbrev pub GiveChoices : List ℕ → Read Choices → Type 0
+      GiveChoices t r = (d.choices lists deep c at (here size t) ≡ mapped Choose r) × Loops later_turn (here size t) r
+
+      -- after an alternative and a semicolon, Descent goes on with the alternatives after that
+      pub next_on : {t mid next : List ℕ} {tests : Tests} {items : Items} {r : Read Choices}
+          → AreTests size (in_braces c) t tests (58 ∷ mid) → AreItems size (in_x (in_braces c) tests) mid items (59 ∷ next)
+          → length t ≤ size → Loops later_turn (here size next) r
+          → GiveChoices t (mapped (λ others. alternative (size - suc (length mid)) tests items others) r)
+      next_on {t} {mid} {next} i l h k =
+          let f : length mid ≤ size = omega (arith, tests_shorter i, h) in
+          let e : suc (length next) ≤ length t = omega (arith, tests_shorter i, items_shorter l) in
+          let g : suc (length next) ≤ size = omega (arith, e, h) in let n : length next ≤ length next = omega arith in (
+            rw (first_on i h, x_is _ l f, one size next g, k.gives next n) refl,
+            loop_goes {end = here size next} (rw (later_on i h, x_is _ l f, one size next g) refl) e k,
+          )
+
+      mutual
+        -- alternatives after the first by the grammar are read
+        later_are : {t q : List ℕ} {choices : Choices} → AreLater size (in_braces c) t choices q → length t ≤ size
+            → Loops later_turn (here size t) (Took choices (here size q))
+        later_are (s.with_tests o) h = (choices_are o h).1
+        later_are {q = q} (s.default colon {mid = mid} sp a l) h =
+            let e : colon ≡ size - suc (length mid) = omega (arith, a) in let f : length mid ≤ size = omega (arith, spaces_shorter sp, h) in
+            rw e (loop_ends (λ goes. rw (default_on sp h, x_is _ l f, one size q (omega (arith, items_shorter l, f))) refl))
+
+        -- alternatives with tests by the grammar are read
+        choices_are : {t q : List ℕ} {choices : Choices} → AreChoices size (in_braces c) t choices q → length t ≤ size
+            → GiveChoices t (Took choices (here size q))
+        choices_are {q = q} (s.last_choice colon {mid = mid} i a l) h =
+            let e : colon ≡ size - suc (length mid) = omega (arith, a) in let f : length mid ≤ size = omega (arith, tests_shorter i, h) in
+            let g : suc (length q) ≤ size = omega (arith, items_shorter l, f) in
+            rw e (rw (first_on i h, x_is _ l f, one size q g) refl, loop_ends (λ goes. rw (later_on i h, x_is _ l f, one size q g) refl))
+        choices_are (s.next_choice colon {mid = mid} {next = next} i a l o) h =
+            let e : colon ≡ size - suc (length mid) = omega (arith, a) in
+            rw e (next_on i l h (later_are o (omega (arith, tests_shorter i, items_shorter l, h))))
+
+      -- the inside of braces by the grammar is read
+      pub brace_is : {t q : List ℕ} {brace : Brace} → IsBrace size c t brace q → length t ≤ size
+          → d.choices lists deep c at (here size t) ≡ Took brace (here size q)
+      brace_is {q = q} (s.emits e o) h = rw ((emits_are size at deep c o h).0, one size q (omega (arith, patterns_shorter o, h))) refl
+      brace_is (s.chooses e o) h = (choices_are o h).0
+
+-- What the grammar says of directives, items and lists, Descent makes of it. It serves the laws `spelled_is_read`, `front_is_unrefused` and
+-- `refusal_kinds`. The numbers in the statements are bytes: 37 is %, 92 a backslash.
+
+-- a byte of a class that has no byte at which a list ends doesn't end one
+pub ends_no_list : (f : ℕ → Bool) (kind : Kind) (b : ℕ) → f b ≡ true → f 59 ≡ false → f 125 ≡ false → f 41 ≡ false → is_end kind b ≡ false
+ends_no_list f Top b e g h k = refl
+ends_no_list f InX b e g h k = rw (other f b 59 e g, other f b 125 e h) refl
+ends_no_list f InArguments b e g h k = other f b 41 e k
+
+-- a byte at which a list ends is no backslash and no percent sign
 ends_here : (kind : Kind) (b : ℕ) → is_end kind b ≡ true → d.ends_list kind b ≡ true
-ends_here kind b e =
-    let u = unending kind in
-    rw (other (is_end kind) b 92 e u.1.1.1.1.0, other (is_end kind) b 37 e u.1.1.1.1.1.0) e
-
--- a list that may end where the text ends is read there as one without items
-pub list_ends : {kind : Kind} (n : ℕ) → s.EndsList kind [] → d.list_end kind n ≡ Took (none, 0) 0
-list_ends n s.text_ends = refl
-
--- a list that ends before a byte ends by this byte
-ends_by : {kind : Kind} {b : ℕ} {rest : List ℕ} → s.EndsList kind (b ∷ rest) → is_end kind b ≡ true
-ends_by (s.list_ends e) = e
-
--- a plain byte is no backslash, percent sign, bar or white space
-plain_not : (b : ℕ) → is_plain b ≡ true → is_of (92 ∷ 37 ∷ 124 ∷ 32 ∷ 9 ∷ 10 ∷ []) b ≡ false
-plain_not b h = by (is_of (92 ∷ 37 ∷ 124 ∷ 32 ∷ 9 ∷ 10 ∷ []) b) refl h
+ends_here kind b e = rw (other (is_end kind) b 92 e (ends kind).0, other (is_end kind) b 37 e (ends kind).1) e
   where
-    by : (z : Bool) → is_of (92 ∷ 37 ∷ 124 ∷ 32 ∷ 9 ∷ 10 ∷ []) b ≡ z → (if z then false else true) ≡ true → z ≡ false
-    by true e k = differs (sym k)
-    by false e k = refl
+    ends : (kind : Kind) → (is_end kind 92 ≡ false) × (is_end kind 37 ≡ false)
+    ends Top = (refl, refl)
+    ends InX = (refl, refl)
+    ends InArguments = (refl, refl)
 
--- the lists in a list with the context c are read: arguments, Xs, and the arguments of tests
-module _ (size : ℕ) (lists deep : Lists) (c : ListContext) (args : (c.levels == 0) ≡ false → ListReads size lists (in_arguments c))
-    (xs : (c.levels == 0) ≡ false → (asks : Tests) → ListReads size lists (in_x (in_braces c) asks))
-    (deeper : (c.levels - 1 == 0) ≡ false → ListReads size deep (in_arguments (in_braces c))) where
-  -- what Descent makes of a list from here on
-  abbrev pub items : ℕ → List ℕ → Read (Items × ℕ)
-  items n t = d.items_with lists deep c n 0 t
+-- a list that may end here, by what would be made of a byte that doesn't end it, is read as one without items
+ended : (size : ℕ) {kind : Kind} {q : List ℕ} (goes : ℕ → Read (Turn (Items × ℕ))) → s.EndsList kind q → (next : Left → Read (Items × ℕ))
+    → then_read (by_byte (first_of q) (d.list_end kind (here size q)) (λ b.
+    if d.ends_list kind b then Took (Last (none, b)) (here size q) else goes b)) (d.after_turn next) ≡ Took (none, byte_of q) (here size q)
+ended size goes s.text_ends next = refl
+ended size goes (s.list_ends {kind = kind} {b = b} e) next = rw (ends_here kind b e) refl
 
-  -- the item that a text begins with
-  abbrev pub Begins : ℕ → List ℕ → Item → List ℕ → Type 0
-  Begins n t x mid = (b : ℕ) × (u : List ℕ) × (t ≡ b ∷ u) × (d.ends_list c.kind b ≡ false) × Reads (d.item lists deep c n b u) u x mid
+-- braces by the grammar have a level left for what is in them
+pub brace_level : {size : ℕ} {c : ListContext} {t q : List ℕ} {brace : Brace} → IsBrace size c t brace q → (c.levels == 0) ≡ false
+brace_level (s.emits e o) = e
+brace_level (s.chooses e o) = e
 
-  -- an item that is its first byte alone is read
-  alone : (n b : ℕ) (u : List ℕ) (x : Item) → is_end c.kind b ≡ false → d.item lists deep c n b u ≡ Took x 0 → Begins n (b ∷ u) x u
-  alone n b u x e h = (b, u, refl, goes_on c.kind b e, record { size = 0; is = h; left = refl; fits = omega arith })
-
-  -- a plain byte is read as one
-  plain_reads : (n b : ℕ) (u : List ℕ) → is_plain b ≡ true → d.item lists deep c n b u ≡ Took (Plain b) 0
-  plain_reads n b u h =
-      let v = not_of 92 (37 ∷ 124 ∷ 32 ∷ 9 ∷ 10 ∷ []) b (plain_not b h) in
-      let w = not_of 37 (124 ∷ 32 ∷ 9 ∷ 10 ∷ []) b v.1 in
-      let x = not_of 124 (32 ∷ 9 ∷ 10 ∷ []) b w.1 in
-      let y = not_of 32 (9 ∷ 10 ∷ []) b x.1 in
-      let z = not_of 9 (10 ∷ []) b y.1 in
-      rw (v.0, w.0, x.0, y.0, z.0, (not_of 10 [] b z.1).0) refl
-
-  -- an item by the grammar is read, from its first byte on, which doesn't end the list
-  pub item_begins : {t mid : List ℕ} {x : Item} (n : ℕ) → IsItem size c t x mid → At size n t → Begins n t x mid
-  item_begins n (s.plain {b = b} {rest = u} h e) place = alone n b u (Plain b) e (plain_reads n b u h)
-  item_begins n (s.escape {b = b} {rest = u}) place =
-      (92, b ∷ u, refl, refl, record { size = 1; is = refl; left = refl; fits = omega arith })
-  item_begins n (s.blank {b = b} {rest = u} h) place =
-      let e = unending c.kind in
-      each (λ b. Begins n (b ∷ u) Blank u) (32 ∷ 9 ∷ []) b h (alone n 32 u Blank e.0 refl, (alone n 9 u Blank e.1.0 refl, tt))
-  item_begins n (s.newline {rest = u}) place = alone n 10 u (newline_in c.in_arguments) (unending c.kind).1.1.0 refl
-  item_begins n (s.pipe {rest = u}) place = alone n 124 u (bar_in c.in_arguments) (unending c.kind).1.1.1.0 refl
-  item_begins n (s.directive {b = b} {text = u} al i) place = (
-    37,
-    b ∷ u,
-    refl,
-    refl,
-    reads_as (percent_is n b u al) (reads_past 1 (b ∷ u) refl (omega arith)
-        (directive_reads lists deep c n (n + 1) size args xs deeper i (omega (arith, place)))),
-  )
-    where
-      percent_is : (n b : ℕ) (u : List ℕ) → is_allowed c.in_arguments b ≡ true
-          → d.item lists deep c n 37 (b ∷ u) ≡ past 1 (d.directive_by lists deep c n (n + 1) (directive_of b) u)
-      percent_is n b u al = rw al refl
-
-  -- Descent reads this item and goes on with the list after it, and so many bytes follow the item's first
-  pub record One (n : ℕ) (t : List ℕ) (x : Item) (mid : List ℕ) : Type 0 where
-    pub used : ℕ
-    pub left : drop (1 + used) t ≡ mid
-    pub fits : length t ≡ 1 + used + length mid
-    pub is : items n t ≡ d.item_go n x used (items (n + 1 + used) mid)
-
-  -- once an item is read from its first byte on, the list goes on after it
-  one_of : {t mid : List ℕ} {x : Item} (n : ℕ) → Begins n t x mid → One n t x mid
-  one_of {t} {mid} {x} n (b, u, same, e, m) =
-      subst (λ (v : List ℕ). One n v x mid) (sym same) (record {
-        used = m.size;
-        left = sym (drop-drop m.size 1 (b ∷ u)) ∙ m.left;
-        fits = omega (arith, m.fits);
-        is = ap (λ (z : Bool). if z then Took (none, b) 0 else then_read (d.item lists deep c n b u)
-            (λ one k. d.item_go n one k (d.items_with lists deep c (n + 1) k u))) e
-            ∙ ap (λ r. then_read r (λ one k. d.item_go n one k (d.items_with lists deep c (n + 1) k u))) m.is
-            ∙ ap (λ r. d.item_go n x m.size r) (skipped (λ (i k : ℕ) (v : List ℕ). d.items_with lists deep c i k v)
-            (λ i k y v. refl) (n + 1)
-            m.size u mid m.left m.fits);
-      })
-
-  -- after an item by the grammar, Descent goes on with the list after it
-  pub one : {t mid : List ℕ} {x : Item} (n : ℕ) → IsItem size c t x mid → At size n t → One n t x mid
-  one n i place = one_of n (item_begins n i place)
-
-  -- a list of items by the grammar is read, up to what ends it
-  pub items_read : {t rest : List ℕ} {list : Items} (n : ℕ) → AreItems size c t list rest → At size n t
-      → Reads (items n t) t (list, first_of rest) rest
-  items_read n (s.no_item {rest = rest} e) place = ended rest e
-    where
-      ended : (rest : List ℕ) → s.EndsList c.kind rest → Reads (items n rest) rest (none, first_of rest) rest
-      ended [] e = record { size = 0; is = list_ends n e; left = refl; fits = omega arith }
-      ended (b ∷ rest) e = record { size = 0; is = rw (ends_here c.kind b (ends_by e)) refl; left = refl; fits = omega arith }
-  items_read {t} {rest} n (s.next_item {n = first} {m = second} {item = x} {items = list} a i b l) place =
-      let o = one n i place in
-      let m = items_read (n + 1 + o.used) l (omega (arith, place, o.fits)) in
-      let begins : n ≡ first = omega (arith, place, a) in
-      let ends : n + 1 + o.used ≡ second = omega (arith, place, o.fits, b) in
-      rw (← begins, ← ends) (record {
-        size = 1 + o.used + m.size;
-        is = o.is ∙ ap (λ r. d.item_go n x o.used r) m.is;
-        left = sym (drop-drop m.size (1 + o.used) t) ∙ ap (λ (u : List ℕ). drop m.size u) o.left ∙ m.left;
-        fits = omega (arith, o.fits, m.fits);
-      })
-
-  -- where the text ends
-
-  -- the place of what an item leaves open
-  abbrev pub open_place : {t : List ℕ} → ℕ → CutsItem size c t → ℕ
-  open_place n cuts.cut_escape = n
-  open_place n cuts.cut_percent = n
-  open_place n (cuts.cut_directive {b = b} al i) = cut_place size n (directive_of b)
-
-  -- the lists inside end where the text does: arguments, Xs, and the arguments of tests
-  module _ (args_end : (c.levels == 0) ≡ false → ListEnds size lists (in_arguments c))
-      (x_ends : (c.levels == 0) ≡ false → (asks : Tests) → ListEnds size lists (in_x (in_braces c) asks))
-      (deeper_end : (c.levels - 1 == 0) ≡ false → ListEnds size deep (in_arguments (in_braces c))) where
-    -- how a list ends at the end of a text: it isn't closed, or the text is a list
-    abbrev pub Out : ℕ → List ℕ → ℕ → Type 0
-    Out n t at = (items n t ≡ Ends at) ⊎ ((list : Items) × (c.kind ≡ Top) × Reads (items n t) t (list, 0) [])
-
-    -- at the end of a text, a list isn't closed or is the whole text
-    pub nothing_out : (n : ℕ) (kind : Kind) → c.kind ≡ kind → (at : ℕ) × Out n [] at
-    nothing_out n Top e = (n, inr (none, e, record { size = 0; is = ap (λ (k : Kind). d.list_end k n) e; left = refl; fits = omega arith }))
-    nothing_out n InX e = (n, inl (ap (λ (k : Kind). d.list_end k n) e))
-    nothing_out n InArguments e = (n, inl (ap (λ (k : Kind). d.list_end k n) e))
-
-    -- a list that goes on after an item ends as the list after that item does
-    pub after_one : {n at : ℕ} {t mid : List ℕ} {x : Item} (o : One n t x mid) → Out (n + 1 + o.used) mid at → Out n t at
-    after_one {n} {t = t} {x = x} o (inl e) = inl (o.is ∙ ap (λ r. d.item_go n x o.used r) e)
-    after_one {n} {t = t} {x = x} o (inr (list, e, m)) = inr (
-      more (span n (n + 1 + o.used)) x list,
-      e,
-      record {
-        size = 1 + o.used + m.size;
-        is = o.is ∙ ap (λ r. d.item_go n x o.used r) m.is;
-        left = sym (drop-drop m.size (1 + o.used) t) ∙ ap (λ (u : List ℕ). drop m.size u) o.left ∙ m.left;
-        fits = omega (arith, o.fits, m.fits);
-      },
-    )
-
-    -- the text ends in an item that isn't closed, or the item is read up to the end
-    abbrev pub ItemOut : ℕ → List ℕ → ℕ → Type 0
-    ItemOut n t at = (items n t ≡ Ends at) ⊎ ((x : Item) × One n t x [])
-
-    -- where by the grammar the text ends in an item, Descent says that it isn't closed, or reads it up to the end
-    pub item_out : {t : List ℕ} (n : ℕ) (i : CutsItem size c t) → At size n t → ItemOut n t (open_place n i)
-    item_out n cuts.cut_escape place = inl refl
-    item_out n cuts.cut_percent place = inl refl
-    item_out n (cuts.cut_directive {b = b} {text = u} al i) place =
-        by (directive_out lists deep c n (n + 1) size args xs deeper args_end x_ends deeper_end i (omega (arith, place)))
-      where
-        goes : (d.directive lists deep c n (b ∷ u) ≡ past 1 (d.directive_by lists deep c n (n + 1) (directive_of b) u))
-        goes = cc (al)
-
-        by : (d.directive_by lists deep c n (n + 1) (directive_of b) u ≡ Ends (cut_place size n (directive_of b)))
-            ⊎ ((x : Item) × Reads (d.directive_by lists deep c n (n + 1) (directive_of b) u) u x [])
-            → ItemOut n (37 ∷ b ∷ u) (cut_place size n (directive_of b))
-        by (inl e) =
-            inl (ap (λ r. then_read r (λ one k. d.item_go n one k (d.items_with lists deep c (n + 1) k (b ∷ u))))
-            (goes ∙ ap (λ r. past 1 r) e))
-        by (inr (x, m)) = inr (x, one_of n (37, b ∷ u, refl, refl, reads_as goes (reads_past 1 (b ∷ u) refl (omega arith) m)))
-
-    -- where by the grammar the text ends in a list, Descent says that it isn't closed, or reads it as a whole text
-    pub items_out : {t : List ℕ} (n : ℕ) → AreFrontItems size c t → At size n t → (at : ℕ) × Out n t at
-    items_out n cuts.items_end place = nothing_out n c.kind refl
-    items_out n (cuts.whole_item i l) place =
-        let o = one n i place in
-        let z = items_out (n + 1 + o.used) l (omega (arith, place, o.fits)) in
-        (z.0, after_one o z.1)
-    items_out {t} n (cuts.cut_item i) place = by (item_out n i place)
-      where
-        by : ItemOut n t (open_place n i) → (at : ℕ) × Out n t at
-        by (inl e) = (open_place n i, inl e)
-        by (inr (x, o)) =
-            let z = nothing_out (n + 1 + o.used) c.kind refl in
-            (z.0, after_one o z.1)
-
--- lists with so many levels
-
--- all lists with so many levels are read as the grammar says
-abbrev pub AllRead : ℕ → ℕ → Lists → Type 0
-AllRead size level lists = (c : ListContext) → c.levels ≡ level → ListReads size lists c
-
--- in all lists with so many levels but a whole text, Descent says of a text that ends in them that it isn't closed
-abbrev pub AllEnd : ℕ → ℕ → Lists → Type 0
-AllEnd size level lists = (c : ListContext) → c.levels ≡ level → (c.kind ≡ Top → ⊥) → ListEnds size lists c
-
--- all lists with so many levels are read and end as the grammar says
-abbrev pub Both : ℕ → ℕ → Lists → Type 0
-Both size level lists = AllRead size level lists × AllEnd size level lists
-
--- what is known of the lists in a list with this context: in arguments, in an X, and in a test's arguments
+-- what is known of the lists in a list with this context: arguments, Xs, and arguments of tests are read
 pub record Inner (size : ℕ) (lists deep : Lists) (c : ListContext) : Type 0 where
-  pub args : (c.levels == 0) ≡ false → ListReads size lists (in_arguments c)
-  pub xs : (c.levels == 0) ≡ false → (asks : Tests) → ListReads size lists (in_x (in_braces c) asks)
+  pub arguments : (c.levels == 0) ≡ false → ListReads size lists (in_arguments c)
+  pub xs : (c.levels == 0) ≡ false → (tests : Tests) → ListReads size lists (in_x (in_braces c) tests)
   pub deeper : (c.levels - 1 == 0) ≡ false → ListReads size deep (in_arguments (in_braces c))
-  pub args_end : (c.levels == 0) ≡ false → ListEnds size lists (in_arguments c)
-  pub x_ends : (c.levels == 0) ≡ false → (asks : Tests) → ListEnds size lists (in_x (in_braces c) asks)
-  pub deeper_end : (c.levels - 1 == 0) ≡ false → ListEnds size deep (in_arguments (in_braces c))
 
--- arguments are no whole text, so this case can't arise
-in_no_text : {A : Type 0} → InArguments ≡ Top → A
-in_no_text e = absurd cc
+-- a list with the context c in a text of this size
+module _ (size : ℕ) (lists deep : Lists) (c : ListContext) where
+  -- one turn of the loop over items
+  abbrev pub turn : Left → Read (Turn (Items × ℕ))
+  turn rest = d.item_turn lists deep c rest
 
--- an X is no whole text, so this case can't arise
-x_no_text : {A : Type 0} → InX ≡ Top → A
-x_no_text e = absurd cc
+  -- what Descent makes of an item that begins a list here, once it is read
+  abbrev pub item_then : List ℕ → Read Item → Read (Turn (Items × ℕ))
+  item_then t r = then_read r (λ item end. Took (More (λ list. (more (span (size - length t) end.at) item list.0, list.1))) end)
 
--- what holds of the lists with fewer levels holds of the lists in one with this context
-pub inner : {size : ℕ} {lists deep : Lists} (c : ListContext) → ((c.levels == 0) ≡ false → Both size (c.levels - 1) lists)
-    → ((c.levels - 1 == 0) ≡ false → Both size (c.levels - 1 - 1) deep) → Inner size lists deep c
-inner c near far = record {
-  args = λ e. (near e).0 (in_arguments c) refl;
-  xs = λ e asks. (near e).0 (in_x (in_braces c) asks) refl;
-  deeper = λ e. (far e).0 (in_arguments (in_braces c)) refl;
-  args_end = λ e. (near e).1 (in_arguments c) refl (λ z. in_no_text z);
-  x_ends = λ e asks. (near e).1 (in_x (in_braces c) asks) refl (λ z. x_no_text z);
-  deeper_end = λ e. (far e).1 (in_arguments (in_braces c)) refl (λ z. in_no_text z);
-}
+  -- after a percent sign and the byte of a directive, Descent goes on with that directive
+  pub directive_on : (b : ℕ) (t : List ℕ) → is_allowed c.in_arguments b ≡ true → suc (suc (length t)) ≤ size
+      → turn (here size (37 ∷ b ∷ t)) ≡ item_then (37 ∷ b ∷ t)
+      (d.directive_by lists deep c (size - suc (suc (length t))) (size - suc (length t)) (directive_of b) (here size t))
+  directive_on b t e h = rw (one size (b ∷ t) h, e, one size t (omega (arith, h))) refl
 
--- lists are read and end as the grammar says, if the lists with fewer levels in them do
-pub with_both : (size level : ℕ) (lists deep : Lists) → ((level == 0) ≡ false → Both size (level - 1) lists)
-    → ((level - 1 == 0) ≡ false → Both size (level - 1 - 1) deep) → Both size level (λ c n text. d.items_with lists deep c n 0 text)
-with_both size level lists deep near far = (reads, ends)
-  where
-    known : (c : ListContext) → c.levels ≡ level → Inner size lists deep c
-    known c e = inner c (subst (λ (l : ℕ). (l == 0) ≡ false → Both size (l - 1) lists) (sym e) near)
-        (subst (λ (l : ℕ). (l - 1 == 0) ≡ false → Both size (l - 1 - 1) deep) (sym e) far)
+  -- lists inside are read
+  module _ (known : Inner size lists deep c) where
+    -- a directive by the grammar is read
+    pub directive_is : {f : Directive} {t q : List ℕ} {item : Item} (at n : ℕ) → IsDirective size c f t item q → length t ≤ size
+        → d.directive_by lists deep c at n f (here size t) ≡ Took item (here size q)
+    directive_is at n s.whole h = refl
+    directive_is at n s.named h = refl
+    directive_is at n (s.temp_name {kind = kind} i) h = suffix_is size kind i h
+    directive_is at n (s.add_option i) h = option_is size at i h
+    directive_is at n (s.saying {kind = kind} i e) h = saying_is size c.kind kind i e h
+    directive_is at n (s.named_text i l) h = named_is size at i l h
+    directive_is at n (s.hide i) h = rw (pattern_is size at i h) refl
+    directive_is at n (s.star e) h = rw e refl
+    directive_is at n (s.function i) h = rw (call_level i) (call_is size Function lists at at known.arguments i h)
+    directive_is at n (s.braces i) h = let e = brace_level i in rw (e, brace_is size lists deep c at known.deeper (known.xs e) i h) refl
+    directive_is at n (s.marked_braces {text = t} i) h =
+        let e = brace_level i in rw (e, one size t h, brace_is size lists deep c at known.deeper (known.xs e) i (omega (arith, h))) refl
 
-    reads : AllRead size level (λ c n text. d.items_with lists deep c n 0 text)
-    reads c e n text rest list i place =
-        let k = known c e in
-        items_read size lists deep c k.args k.xs k.deeper n i place
+    -- an item by the grammar is read
+    pub item_is : {t q : List ℕ} {item : Item} → IsItem size c t item q → length t ≤ size
+        → turn (here size t) ≡ Took (More (λ list. (more (span (size - length t) (size - length q)) item list.0, list.1))) (here size q)
+    item_is (s.plain {b = b} {rest = t} e g) h = rw (
+      other is_plain b 92 e refl,
+      other is_plain b 37 e refl,
+      g,
+      other is_plain b 32 e refl,
+      other is_plain b 9 e refl,
+      other is_plain b 10 e refl,
+      other is_plain b 124 e refl,
+      one size t h,
+    ) refl
+    item_is (s.escape {rest = t}) h = rw (two size t h) refl
+    item_is (s.blank {b = b} {rest = t} e) h = rw (
+      other is_blank b 92 e refl,
+      other is_blank b 37 e refl,
+      ends_no_list is_blank c.kind b e refl refl refl,
+      e,
+      one size t h,
+    ) refl
+    item_is (s.newline {rest = t}) h = rw (ends_no_list (λ b. b == 10) c.kind 10 refl refl refl refl, one size t h) refl
+    item_is (s.pipe {rest = t}) h = rw (ends_no_list (λ b. b == 124) c.kind 124 refl refl refl refl, one size t h) refl
+    item_is (s.directive {b = b} {text = t} e i) h =
+        rw (directive_on b t e h, directive_is (size - suc (suc (length t))) (size - suc (length t)) i (omega (arith, h))) refl
 
-    ends : AllEnd size level (λ c n text. d.items_with lists deep c n 0 text)
-    ends c e nested n text i place =
-        let k = known c e in
-        by (items_out size lists deep c k.args k.xs k.deeper k.args_end k.x_ends k.deeper_end n i place)
-      where
-        by : (at : ℕ) × ((d.items_with lists deep c n 0 text ≡ Ends at)
-            ⊎ ((list : Items) × (c.kind ≡ Top) × Reads (d.items_with lists deep c n 0 text) text (list, 0) []))
-            → (inner : ℕ) × (d.items_with lists deep c n 0 text ≡ Ends inner)
-        by (at, inl e) = (at, e)
-        by (at, inr (list, e, m)) = absurd (nested e)
+    -- after an item, Descent goes on with the list after it
+    pub item_on : {t mid : List ℕ} {item : Item} {r : Read (Items × ℕ)} → IsItem size c t item mid → length t ≤ size
+        → Loops turn (here size mid) r → Loops turn (here size t)
+        (d.mapped (λ list. (more (span (size - length t) (size - length mid)) item list.0, list.1)) r)
+    item_on i h k = loop_goes (item_is i h) (item_shorter i) k
 
--- lists with any number of levels are read and end as the grammar says, by induction over the levels
-pub levels_both : (size level : ℕ) → Both size level (d.levels level).0 × Both size (level - 1) (d.levels level).1
-levels_both size level = all_levels (λ l lists. Both size l lists) (with_both size) level
+    -- the items of a list by the grammar are read
+    pub items_are : {t q : List ℕ} {items : Items} → AreItems size c t items q → length t ≤ size
+        → Loops turn (here size t) (Took (items, byte_of q) (here size q))
+    items_are (s.no_item {rest = q} e) h = loop_ends (ended size (λ b. item_then q (d.item lists deep c b (here size q))) e)
+    items_are (s.next_item {n = n} {m} {text = t} {mid = mid} a i b l) h =
+        let e : n ≡ size - length t = omega (arith, a) in let f : m ≡ size - length mid = omega (arith, b) in
+        rw (e, f) (item_on i h (items_are l (omega (arith, item_shorter i, h))))

@@ -4,6 +4,7 @@ use Rattle.drv_syntax.proofs.ParsedGrammar.{allowed, parsed_refused, parsed_spel
 use Rattle.drv_syntax.specs.Code.Ending.{ending_in, goes_on}
 use Rattle.drv_syntax.specs.Code.Parts.{IsKept, IsRead}
 use Rattle.drv_syntax.specs.Code.Whole.{rest_given, whole_given}
+use Rattle.drv_syntax.specs.Descent.{items}
 use Rattle.drv_syntax.specs.Faults.{MemoryOrRefused, Refused}
 use Rattle.drv_syntax.specs.Labels.{Label}
 use Rattle.drv_syntax.specs.Marks.{marked_labels}

@@ -48,8 +48,7 @@ within_get n (x ∷ marks) (suc place) d w h = within_get n marks place d w.1 (o
 pub within_at : (words : List ℕ) (marks : List LabelMark) (now : List Label) (place : ℕ) (d : LabelMark) → marked_labels words marks ≡ now
     → Within (length words) marks → place < length now
     → ((get_or marks place d).start ≤ (get_or marks place d).end) × ((get_or marks place d).end ≤ length words)
-within_at words marks now place d e w h =
-    within_get (length words) marks place d w (subst (λ (n : ℕ). place < n)
+within_at words marks now place d e w h = within_get (length words) marks place d w (subst (λ (n : ℕ). place < n)
     (sym (ap (λ ls. length ls) e) ∙ length-map marks (λ x. marked_label words x)) h)
 
 -- a word within the words stays what it is when words are added
@@ -72,75 +71,46 @@ last_part words more a b h k = cc (h, drop-append_seam words more, size, take-le
     size : b - length words ≡ length more
     size = omega (arith, length-append words more)
 
--- a word added to the words, with a mark for it, is one label more
-pub labels_push : (words more : List ℕ) (marks : List LabelMark) (start end : ℕ) (starred negated : Bool) (asks : TestKind)
-    → Within (length words) marks
-    → start ≡ length words → end ≡ length (words ++ more)
-    → marked_labels (words ++ more) (marks ++ record {
-      start = start;
-      end = end;
-      starred = starred;
-      negated = negated;
-      asks =
-          asks;
-      holds_star = false;
-    } ∷ [])
-    ≡ marked_labels words marks ++ part_label more starred negated asks ∷ []
-labels_push words more marks start end starred negated asks w h k =
-    map-append (λ m. marked_label (words ++ more) m) marks (record {
-      start = start;
-      end = end;
-      starred = starred;
-      negated = negated;
-      asks =
-          asks;
-      holds_star = false;
-    } ∷ [])
-    ∙ ap (λ ls. ls ++ part_label (take (end - start) (drop start (words ++ more))) starred negated asks ∷ [])
-    (labels_kept words more marks w)
-    ∙ ap (λ word. marked_labels words marks ++ part_label word starred negated asks ∷ []) (last_part words more start end h k)
+-- the mark of a word that lies between these places
+abbrev mark_of : ℕ → ℕ → Bool → Bool → TestKind → LabelMark
+mark_of start end starred negated asks =
+    record { start = start; end = end; starred = starred; negated = negated; asks = asks; holds_star = false }
 
--- a word that is added in two parts, with a mark for both, is one label more
-pub labels_pushed : (words first second front word : List ℕ) (marks all : List LabelMark) (now : List Label) (start end : ℕ)
-    (starred negated : Bool) (asks : TestKind)
-    → now ≡ marked_labels words marks → Within (length words) marks → first ≡ words ++ front → second ≡ first ++ word → start ≡ length words
-    → end ≡ length second
-    → all ≡ marks ++ record { start = start; end = end; starred = starred; negated = negated; asks = asks; holds_star = false } ∷ []
-    → now ++ part_label (front ++ word) starred negated asks ∷ [] ≡ marked_labels second all
-labels_pushed words first second front word marks all now start end starred negated asks e w f g h k a =
-    cc (e, labels_push words (front ++ word) marks start end starred negated asks w h (k ∙ ap (λ ws. length ws) whole), whole, a)
-  where
-    whole : second ≡ words ++ (front ++ word)
-    whole = g ∙ ap (λ ws. ws ++ word) f ∙ append_assoc words front word
+-- the mark that says no more than where a word lies
+abbrev plain_mark : ℕ → ℕ → LabelMark
+plain_mark start end = mark_of start end false false asking.Switch
 
--- a byte and then a word that are added, with a mark for both, are one label more (`push_marked`)
-pub labels_marked : (words first second word : List ℕ) (mark : ℕ) (marks all : List LabelMark) (now : List Label) (start end : ℕ)
-    (starred negated : Bool) (asks : TestKind)
-    → now ≡ marked_labels words marks → Within (length words) marks → first ≡ words ++ mark ∷ [] → second ≡ first ++ word
-    → start ≡ length words → end ≡ length second
-    → all ≡ marks ++ record { start = start; end = end; starred = starred; negated = negated; asks = asks; holds_star = false } ∷ []
-    → now ++ part_label (mark ∷ word) starred negated asks ∷ [] ≡ marked_labels second all
-labels_marked words first second word mark marks all now start end starred negated asks e w f g h k a =
-    labels_pushed words first second (mark ∷ []) word marks all now start end starred negated asks e w f g h k a
+-- where words and marks are added, the labels are those that were there, and those of the new marks
+labels_more : (words second more : List ℕ) (marks all others : List LabelMark) (now added : List Label) → now ≡ marked_labels words marks
+    → Within (length words) marks → second ≡ words ++ more → all ≡ marks ++ others → marked_labels second others ≡ added
+    → now ++ added ≡ marked_labels second all
+labels_more words second more marks all others now added e w f a h =
+    rw (e, a, ← h, f) (ap (λ ls. ls ++ marked_labels (words ++ more) others) (sym (labels_kept words more marks w))
+    ∙ sym (map-append (λ m. marked_label (words ++ more) m) marks others))
 
 -- a word that is added, with a mark for it, is one label more (`push`, `push_byte`)
 pub labels_added : (words second word : List ℕ) (marks all : List LabelMark) (now : List Label) (start end : ℕ) (starred negated : Bool)
-    (asks : TestKind)
-    → now ≡ marked_labels words marks → Within (length words) marks → second ≡ words ++ word → start ≡ length words → end ≡ length second
-    → all ≡ marks ++ record { start = start; end = end; starred = starred; negated = negated; asks = asks; holds_star = false } ∷ []
+    (asks : TestKind) → now ≡ marked_labels words marks → Within (length words) marks → second ≡ words ++ word → start ≡ length words
+    → end ≡ length second → all ≡ marks ++ mark_of start end starred negated asks ∷ []
     → now ++ part_label word starred negated asks ∷ [] ≡ marked_labels second all
 labels_added words second word marks all now start end starred negated asks e w f h k a =
-    cc (e, labels_push words word marks start end starred negated asks w h (k ∙ ap (λ ws. length ws) f), f, a)
+    labels_more words second word marks all (mark_of start end starred negated asks ∷ []) now (part_label word starred negated asks ∷ []) e
+    w f a (ap (λ x. part_label x starred negated asks ∷ [])
+    (rw f (last_part words word start end h (k ∙ ap (λ (ws : List ℕ). length ws) f))))
+
+-- a byte and then a word that are added, with a mark for both, are one label more (`push_marked`)
+pub labels_marked : (words first second word : List ℕ) (mark : ℕ) (marks all : List LabelMark) (now : List Label) (start end : ℕ)
+    (starred negated : Bool) (asks : TestKind) → now ≡ marked_labels words marks → Within (length words) marks → first ≡ words ++ mark ∷ []
+    → second ≡ first ++ word → start ≡ length words → end ≡ length second → all ≡ marks ++ mark_of start end starred negated asks ∷ []
+    → now ++ part_label (mark ∷ word) starred negated asks ∷ [] ≡ marked_labels second all
+labels_marked words first second word mark marks all now start end starred negated asks e w f g h k a =
+    labels_added words second (mark ∷ word) marks all now start end starred negated asks e w
+    (g ∙ ap (λ (ws : List ℕ). ws ++ word) f ∙ append_assoc words (mark ∷ []) word) h k a
 
 -- a mark for no bytes is one label more that names nothing (`push_none`)
 pub labels_none : (words : List ℕ) (marks all : List LabelMark) (now : List Label) → now ≡ marked_labels words marks
-    → all ≡ marks ++ record { start = 0; end = 0; starred = false; negated = false; asks = asking.Switch; holds_star = false } ∷ []
-    → now ++ no_label ∷ [] ≡ marked_labels words all
-labels_none words marks all now e a =
-    ap (λ ls. ls ++ no_label ∷ []) e
-    ∙ sym (map-append (λ m. marked_label words m) marks
-    (record { start = 0; end = 0; starred = false; negated = false; asks = asking.Switch; holds_star = false } ∷ []))
-    ∙ ap (λ ms. marked_labels words ms) (sym a)
+    → all ≡ marks ++ plain_mark 0 0 ∷ [] → now ++ no_label ∷ [] ≡ marked_labels words all
+labels_none words marks all now e a = rw (e, a) (sym (map-append (λ m. marked_label words m) marks (plain_mark 0 0 ∷ [])))
 
 -- the first n marks are the first n labels (`truncate`)
 pub labels_take : (words : List ℕ) (n : ℕ) (marks : List LabelMark) → marked_labels words (take n marks)
@@ -148,8 +118,7 @@ pub labels_take : (words : List ℕ) (n : ℕ) (marks : List LabelMark) → mark
 labels_take words n marks = sym (take-map (λ m. marked_label words m) n marks)
 
 -- a mark for an alternative in the place of another is its label in that place (`hold`)
-pub labels_set : (words : List ℕ) (place : ℕ) (holds : Bool) (marks : List LabelMark)
-    → marked_labels words
+pub labels_set : (words : List ℕ) (place : ℕ) (holds : Bool) (marks : List LabelMark) → marked_labels words
     (set marks place (record { start = 0; end = 0; starred = false; negated = false; asks = asking.Switch; holds_star = holds }))
     ≡ set (marked_labels words marks) place (star_label holds)
 labels_set words place holds marks = map-set (λ m. marked_label words m) marks place
@@ -167,10 +136,8 @@ within_both n (m ∷ marks) others w h = (w.0, within_both n marks others w.1 h)
 
 -- where bytes are added with a mark for each, all marks lie within the words
 pub within_run : (words second run : List ℕ) (start : ℕ) (marks all : List LabelMark) → second ≡ words ++ run → start ≡ length words
-    → all ≡ marks ++ byte_marks start run → Within (length words) marks
-    → Within (length second) all
-within_run words second run start marks all e f a w =
-    subst (λ (ms : List LabelMark). Within (length second) ms) (sym a)
+    → all ≡ marks ++ byte_marks start run → Within (length words) marks → Within (length second) all
+within_run words second run start marks all e f a w = subst (λ (ms : List LabelMark). Within (length second) ms) (sym a)
     (within_both (length second) marks (byte_marks start run) (within_more (length words) (length second) marks (omega (arith, size)) w)
     (within_on (length second) start run (omega (arith, size, f))))
   where
@@ -180,8 +147,7 @@ within_run words second run start marks all e f a w =
 -- bytes at the end of the words, with a mark for each, are their labels
 run_at : (words run : List ℕ) (start : ℕ) → start ≡ length words → marked_labels (words ++ run) (byte_marks start run) ≡ byte_labels run
 run_at words [] start h = refl
-run_at words (b ∷ run) start h =
-    ap (λ word. word_label word ∷ marked_labels (words ++ b ∷ run) (byte_marks (start + 1) run)) first
+run_at words (b ∷ run) start h = ap (λ word. word_label word ∷ marked_labels (words ++ b ∷ run) (byte_marks (start + 1) run)) first
     ∙ ap (λ ls. word_label (b ∷ []) ∷ ls) (ap (λ ws. marked_labels ws (byte_marks (start + 1) run)) (sym (append_assoc words (b ∷ []) run))
     ∙ run_at (words ++ b ∷ []) run (start + 1) (omega (arith, h, length-append words (b ∷ []))))
   where
@@ -196,28 +162,12 @@ pub labels_run : (words second run : List ℕ) (start : ℕ) (marks all : List L
     → Within (length words) marks → second ≡ words ++ run → start ≡ length words
     → all ≡ marks ++ byte_marks start run → now ++ byte_labels run ≡ marked_labels second all
 labels_run words second run start marks all now e w f h a =
-    ap (λ ls. ls ++ byte_labels run) e
-    ∙ ap (λ ls. ls ++ byte_labels run) (sym (labels_kept words run marks w))
-    ∙ ap (λ ls. marked_labels (words ++ run) marks ++ ls) (sym (run_at words run start h))
-    ∙ sym (map-append (λ m. marked_label (words ++ run) m) marks (byte_marks start run))
-    ∙ ap (λ ws. marked_labels ws (marks ++ byte_marks start run)) (sym f)
-    ∙ ap (λ ms. marked_labels second ms) (sym a)
+    labels_more words second run marks all (byte_marks start run) now (byte_labels run) e w f a (rw f (run_at words run start h))
 
 -- a step of the loop of `push_marks` keeps the list of marks that the loop leads to
 pub marks_step : (old new all : List LabelMark) (place i : ℕ) (run : List ℕ) → i < length run
-    → new ≡ old ++ record { start = place; end = place + 1; starred = false; negated = false; asks = asking.Switch; holds_star = false }
-    ∷ []
-    → old ++ byte_marks place (drop i run) ≡ all → new ++ byte_marks (place + 1) (drop (i + 1) run) ≡ all
-marks_step old new all place i run h e f =
-    ap (λ ms. ms ++ byte_marks (place + 1) (drop (i + 1) run)) e
-    ∙ append_assoc old (record {
-      start = place;
-      end = place + 1;
-      starred = false;
-      negated = false;
-      asks = asking.Switch;
-      holds_star =
-          false;
-    } ∷ []) (byte_marks (place + 1) (drop (i + 1) run))
-    ∙ ap (λ bs. old ++ byte_marks place bs) (sym (drop_more run i 0 h))
-    ∙ f
+    → new ≡ old ++ plain_mark place (place + 1) ∷ [] → old ++ byte_marks place (drop i run) ≡ all
+    → new ++ byte_marks (place + 1) (drop (i + 1) run) ≡ all
+marks_step old new all place i run h e f = ap (λ ms. ms ++ byte_marks (place + 1) (drop (i + 1) run)) e
+    ∙ append_assoc old (plain_mark place (place + 1) ∷ []) (byte_marks (place + 1) (drop (i + 1) run))
+    ∙ ap (λ bs. old ++ byte_marks place bs) (sym (drop_more run i 0 h)) ∙ f

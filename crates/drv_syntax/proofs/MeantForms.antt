@@ -1,444 +1,595 @@
 use Rattle.drv_words.specs.Bytes as ascii
-use Rattle.drv_syntax.proofs.Leads.{differs, same}
-use Rattle.drv_syntax.proofs.Meant.{AtByte, Meant, Takes, breaks_after, choose, meant_ends, meant_stops, meant_then, meant_took}
-use Rattle.drv_syntax.proofs.MeantCalls.{ListMeant, past_then}
-use Rattle.drv_syntax.proofs.MeantPatterns.{PatternsBad, PatternsMeant, at_rest, at_start, meant_byte, patterns_meant}
-use Rattle.drv_syntax.proofs.MeantTests.{Bared, IsOperand, IsTried, TestBad, TestCuts, asked_marked, by_bare, by_mark, by_result, by_star}
-use Rattle.drv_syntax.proofs.MeantTests.{by_switch, cut_pattern, cut_test, emit_bad, emits_at, is_tried, mark_plain, mark_word, near_head}
-use Rattle.drv_syntax.proofs.MeantTests.{one_test_meant, test_bad, tried_from, unsigned}
-use Rattle.drv_syntax.proofs.Steps.{Near, near_self, same_byte}
-use Rattle.drv_syntax.specs.Bytes.{is_mark, is_of, is_white}
+use Rattle.drv_syntax.proofs.Here.{pattern_shorter, spaces_shorter}
+use Rattle.drv_syntax.proofs.Leads.{mark_word, differs, other, same}
+use Rattle.drv_syntax.proofs.Meant.{refuses_byte, Meant, RefusesAt, unfit, left, meant_as, meant_byte, meant_ends, meant_if, meant_stops}
+use Rattle.drv_syntax.proofs.Meant.{refuses_at, Turned, up_byte, up_more, up_place, meant_then, meant_took, Unfit, choose, unfit_in}
+use Rattle.drv_syntax.proofs.Meant.{repeat_meant, Leads}
+use Rattle.drv_syntax.proofs.MeantWords.{CallBad, CallIs, Reads, call_is, call_meant, in_list, no_function, PatternBad, meant_white}
+use Rattle.drv_syntax.proofs.MeantWords.{meant_word, name_bad, no_pattern, pattern_meant, run_size, run_stops, runs, runs_out, spaces}
+use Rattle.drv_syntax.proofs.Shorter.{asked_shorter, sign_shorter}
+use Rattle.drv_syntax.specs.Bytes.{is_mark, is_of, is_white, is_word}
 use Rattle.drv_syntax.specs.Contexts.{ListContext, in_arguments, in_braces}
 use Rattle.drv_syntax.specs.Descent as d
-use Rattle.drv_syntax.specs.Descent.{After, Alternative, Asks, Bars, Emits, Form, Joins, Lists, Operand, Patterns, Read, Stops, Took, Tried}
-use Rattle.drv_syntax.specs.Descent.{then_read}
+use Rattle.drv_syntax.specs.Descent.{Ends, Lists, Operand, Read, Stops, Took, Tried, After, Alternative, Asks, Bars, Emits, Fails, Form}
+use Rattle.drv_syntax.specs.Descent.{Joins, Last, More, Patterns, Turn, then_read}
 use Rattle.drv_syntax.specs.Fronts as cuts
-use Rattle.drv_syntax.specs.Fronts.{CutsPatterns, CutsTests}
+use Rattle.drv_syntax.specs.Fronts.{CutsAsked, CutsPatterns, CutsTests}
 use Rattle.drv_syntax.specs.Refusals as r
-use Rattle.drv_syntax.specs.Refusals.{AnEnd, AtBar, AtFront, AtNext, Due, Order, ReachesAsked, ReachesEmits, ReachesPatterns, ReachesTests}
-use Rattle.drv_syntax.specs.Refusals.{Refuses, ends_either, ends_pattern, ends_test, is_default, may_emit}
+use Rattle.drv_syntax.specs.Refusals.{AtBar, AtFront, AtNext, Due, Order, ReachesAsked, ReachesEmits, ReachesTests, Refuses, ends_pattern}
+use Rattle.drv_syntax.specs.Refusals.{is_default, may_emit, AnEnd, PastMark, ReachesPatterns, ends_either, ends_test}
+use Rattle.drv_syntax.specs.Rest.{by_byte, first_of, past_white}
 use Rattle.drv_syntax.specs.Spelling as s
-use Rattle.drv_syntax.specs.Spelling.{ArePatterns, AreSpaces, AreTests, At, IsAsked, IsPattern, IsSign, span}
-use Rattle.drv_syntax.specs.Tree.{Asked, Pattern, Span, Tests, no_test, pattern, test}
-use Rattle.drv_syntax.specs.declared.fault.SyntaxFault.TheVariants.{BadDirective, EmptyTest}
+use Rattle.drv_syntax.specs.Spelling.{AreSpaces, At, IsAsked, IsCall, IsPattern, IsQuoted, IsSign, span, ArePatterns, AreTests}
+use Rattle.drv_syntax.specs.Tree.{Asked, HasLanguage, HasResult, HasSuffix, HasSwitch, Items, Pattern, pattern, Span, Tests, no_test, test}
+use Rattle.drv_syntax.specs.declared.fault.SyntaxFault.TheVariants.{EmptyTest, BadDirective}
 use Rattle.drv_syntax.specs.declared.fault.SyntaxFault.{SyntaxFault}
-use Rattle.std.proofs.Common.{◌≡◌, ◌∙◌, ◌+◌, ◌⊎◌, Bool, false, true, if◌then◌else◌, List, [], ◌∷◌, ap, arith, drop, inl, inr, length, refl}
-use Rattle.std.proofs.Common.{subst, suc, sym, zero, ℕ}
+use Rattle.std.proofs.Common.{◌≡◌, ◌+◌, ◌⊎◌, Bool, false, true, if◌then◌else◌, List, [], ◌∷◌, arith, drop, inl, inr, refl, subst, sym, ℕ}
+use Rattle.std.proofs.Common.{◌≤◌, ◌∙◌, None, Option, Some, length, suc}
 use Rattle.std.specs.List.{prefix_len}
-use Rattle.std.specs.Prelude.{◌-◌, ◌==◌, None, Option, Some}
+use Rattle.std.specs.Prelude.{◌-◌, ◌==◌}
 
--- What braces or an alternative begin with, patterns or tests: what Descent makes of them is what the grammar says. It serves MeantChoices.
--- `Meant l n text Is Cuts Bad r` (Meant) says so of the result r for the text at the place n. What was taken `Is` the part, whatever rest
--- that begins alike follows. Or the text ends in the part (`Cuts`), or in a byte that doesn't fit where something else is due (`Bad`). The
--- relations take the size `total` of a text, what is left of it from the part on, and for `Is` also the part and what is left after it.
--- `Tried` is a test that may still be a pattern, with the byte after it. The numbers in the statements are bytes: 38 is &, 58 :, 124 |, 125
--- }. Descent is the grammar as functions (specs/Descent). The grammar itself has cases (specs/Spelling, Fronts, Refusals).
+-- What a test asks, and a whole test with the byte after it: what Descent makes of them is what the grammar says. A mark is the `.` or `,`
+-- of a test. `Tried` is a test that may still be a pattern, with the byte after it. Descent is the grammar as functions (specs/Descent).
+-- The grammar itself has cases (specs/Spelling, Fronts, Refusals).
 
--- patterns, or the tests of an alternative
-pub data IsForm (total : ℕ) (g : ListContext) (order : Order) : List ℕ → Form → List ℕ → Type 0 where
-  form_patterns : {t rest : List ℕ} {ps : List (Span × Pattern)} → order ≡ AtFront → ArePatterns total t ps rest
-      → IsForm total g order t (Patterns ps) (ascii.closing_brace ∷ rest)
-  form_tests : {t mid : List ℕ} {place : Span} {negated : Bool} {a : Asked} {others : Tests}
-      → AreTests total g t (test place negated a others) (ascii.colon ∷ mid)
-      → IsForm total g order t (Alternative place negated a others) (ascii.colon ∷ mid)
+-- right after a mark alone: white space, or the end of a pattern
+pub data Bared : List ℕ → Type 0 where
+  by_white : {b : ℕ} {rest : List ℕ} → is_white b ≡ true → Bared (b ∷ rest)
+  by_end : {b : ℕ} {rest : List ℕ} → is_of ends_pattern b ≡ true → Bared (b ∷ rest)
 
--- a test that is a pattern, and one that asks
+-- what was taken for a test or a pattern, which it may still be
+pub data IsOperand (size : ℕ) (g : ListContext) (emits : Bool) : List ℕ → Operand → List ℕ → Type 0 where
+  by_switch : {t q : List ℕ} {p : Pattern} → s.Stops is_mark t → IsPattern t p q → IsOperand size g emits t (d.switch_operand p) q
+  by_mark : {mark b : ℕ} {t word q : List ℕ} → is_mark mark ≡ true → IsQuoted is_word t (b ∷ word) q → s.Stops (λ x. x == ascii.asterisk) q
+      → IsOperand size g emits (mark ∷ t) (d.marked_operand mark (b ∷ word)) q
+  by_star : {mark : ℕ} {t word q : List ℕ} → emits ≡ true → is_mark mark ≡ true → IsQuoted is_word t word (ascii.asterisk ∷ q)
+      → IsOperand size g emits (mark ∷ t) (d.starred_operand mark word) q
+  by_bare : {mark : ℕ} {q : List ℕ} → emits ≡ true → is_mark mark ≡ true → IsPattern (mark ∷ q) (pattern (mark ∷ []) false) q → Bared q
+      → IsOperand size g emits (mark ∷ q) (d.bare_operand mark) q
+  by_result : {t name q : List ℕ} {items : Items} → IsCall size g t name items q
+      → IsOperand size g emits (ascii.percent ∷ ascii.colon ∷ t) (d.result_operand name items) q
+
+-- the byte that doesn't fit is in what is asked
+pub data AskedBad (at size : ℕ) (g : ListContext) (order : Order) (negated : Bool) : List ℕ → ℕ → SyntaxFault → Type 0 where
+  asked_bad : {t last : List ℕ} {due : Due} {k : ℕ} {fault : SyntaxFault} → ReachesAsked size g at order negated t due last
+      → RefusesAt size k due last fault → AskedBad at size g order negated t k fault
+  mark_bad : {mark b k : ℕ} {text : List ℕ} → At size k (b ∷ text) → may_emit order negated ≡ true → is_mark mark ≡ true
+      → IsPattern (mark ∷ b ∷ text) (pattern (mark ∷ []) false) (b ∷ text)
+      → is_white b ≡ false → is_of ends_pattern b ≡ false → AskedBad at size g order negated (mark ∷ b ∷ text) k (EmptyTest at)
+
+-- bytes
+
+-- a mark is no backslash
+pub mark_plain : (mark : ℕ) → is_mark mark ≡ true → (mark == ascii.backslash) ≡ false
+mark_plain mark e = other is_mark mark 92 e refl
+
+-- a mark and a word after it ask for a suffix or a language
+pub asked_marked : {size : ℕ} (mark b : ℕ) {g : ListContext} {t : List ℕ} (word : List ℕ) {q : List ℕ} → is_mark mark ≡ true
+    → IsQuoted is_word t (b ∷ word) q → IsAsked size g (mark ∷ t) (d.marked mark (b ∷ word)) q
+asked_marked {size} mark b {g} {t} word {q} e i = by (mark == 46) (mark == 44) refl refl e
+  where
+    by : (x y : Bool) → (mark == 46) ≡ x → (mark == 44) ≡ y → (if x then true else if y then true else false) ≡ true
+        → IsAsked size g (mark ∷ t) (if x then HasSuffix (b ∷ word) else HasLanguage (b ∷ word)) q
+    by true y h k f = rw (same mark 46 h) (s.suffix i)
+    by false true h k f = rw (same mark 44 k) (s.language i)
+    by false false h k f = differs (sym f)
+
+-- a mark is a pattern where neither a word, an escape nor a star follows it
+mark_pattern : {mark b : ℕ} {q : List ℕ} → is_mark mark ≡ true → (b == ascii.backslash) ≡ false → is_word b ≡ false
+    → (b == ascii.asterisk) ≡ false → IsPattern (mark ∷ b ∷ q) (pattern (mark ∷ []) false) (b ∷ q)
+mark_pattern {mark} e f g h = s.unstarred (s.quoted_byte (mark_plain mark e) (mark_word mark e) (s.quoted_stop f g)) (s.at_byte h)
+
+-- what may follow a mark alone is white space or the end of a pattern
+bared : (b : ℕ) (rest : List ℕ) → d.ends_bare b ≡ true → Bared (b ∷ rest)
+bared b rest e = by (b == 125) (b == 38) refl refl
+  where
+    by : (x y : Bool) → (b == 125) ≡ x → (b == 38) ≡ y → Bared (b ∷ rest)
+    by true y f g = by_end (rw f refl)
+    by false true f g = by_end (rw (f, g) refl)
+    by false false f g = by_white (rw (f, g) at e)
+
+-- what may not follow a mark alone is neither white space nor the end of a pattern
+not_bared : (b : ℕ) → d.ends_bare b ≡ false → (is_white b ≡ false) × (is_of ends_pattern b ≡ false)
+not_bared b e = by (b == 125) (b == 38) refl refl
+  where
+    by : (x y : Bool) → (b == 125) ≡ x → (b == 38) ≡ y → (is_white b ≡ false) × (is_of ends_pattern b ≡ false)
+    by true y f g = differs (rw f at e)
+    by false true f g = differs (rw (f, g) at e)
+    by false false f g = (rw (f, g) at e, rw (f, g) refl)
+
+-- the arguments of tests in braces are what the grammar says
+module _ (size : ℕ) (deep : Lists) (c : ListContext) (meets : (c.levels - 1 == 0) ≡ false → Reads size (in_arguments (in_braces c)) deep)
+    (at : ℕ) (order : Order) (negated : Bool) where
+  -- what Descent makes of what a test asks is what the grammar says
+  abbrev AskedMeant : List ℕ → Read Operand → Type 0
+  AskedMeant text x = Meant size (λ o q. IsOperand size (in_braces c) (may_emit order negated) text o q) (CutsAsked size (in_braces c) text)
+      (AskedBad at size (in_braces c) order negated text) x
+
+  -- after a mark and the run after it, what Descent takes is what the grammar says
+  mark_end_meant : (mark : ℕ) → is_mark mark ≡ true → (m : ℕ) {text : List ℕ} (word rest : List ℕ) → At size m rest
+      → IsQuoted is_word text word rest → (emits : Bool) → may_emit order negated ≡ emits
+      → AskedMeant (mark ∷ text) (if d.is_empty word then by_byte (first_of rest) (Ends at) (λ b. d.bare_end at emits mark (left m rest) b)
+      else d.marked_end at emits mark word (left m rest))
+  mark_end_meant mark is m [] [] place i emits h = meant_ends (cuts.cut_marked is (runs_out i))
+  mark_end_meant mark is m [] (b ∷ rest) place (s.quoted_stop e g) true h =
+      meant_byte b 42 (λ f. meant_took (omega (arith, place)) (rw f (by_star h is (s.quoted_stop refl refl))))
+      (λ f. meant_if (d.ends_bare b) (λ k. meant_took place (by_bare h is (mark_pattern is e g f) (bared b rest k)))
+      (λ k. meant_stops (mark_bad place h is (mark_pattern is e g f) (not_bared b k).0 (not_bared b k).1)))
+  mark_end_meant mark is m [] (b ∷ rest) place (s.quoted_stop e g) false h =
+      meant_stops (asked_bad (r.word_due h is) (refuses_byte (r.no_word e g) place))
+  mark_end_meant mark is m (x ∷ word) [] place i emits h = meant_took place (by_mark is i s.at_end)
+  mark_end_meant mark is m (x ∷ word) (b ∷ rest) place i true h =
+      meant_byte b 42 (λ e. meant_took (omega (arith, place)) (by_star h is (rw e at i))) (λ e. meant_took place (by_mark is i
+      (s.at_byte e)))
+  mark_end_meant mark is m (x ∷ word) (b ∷ rest) place i false h =
+      meant_byte b 42 (λ e. meant_stops (asked_bad (r.test_ends {rest = 42 ∷ rest} h (asked_marked mark x word is (rw e at i)) s.no_space)
+      (refuses_byte (r.no_end refl refl) place))) (λ e. meant_took place (by_mark is i (s.at_byte e)))
+
+  -- a byte that doesn't fit in the call of a test doesn't fit in the test
+  call_asked : (n : ℕ) {t : List ℕ} {k : ℕ} {fault : SyntaxFault} → (c.levels - 1 == 0) ≡ false → At size n (37 ∷ 58 ∷ t)
+      → CallBad (in_braces c) n size t k fault → AskedBad at size (in_braces c) order negated (37 ∷ 58 ∷ t) k fault
+  call_asked n e place (no_function (name_bad i h)) =
+      let f = up_more (37 ∷ 58 ∷ []) h in asked_bad r.asked_due (refuses_at (r.test_no_function (up_place n place f) e i) f)
+  call_asked n e place (in_list name is (unfit reaches refuses)) = asked_bad (r.in_function name e is reaches) refuses
+
+  -- the call of a function that a test asks for is what the grammar says
+  result_meant : (n : ℕ) (text : List ℕ) → At size n (37 ∷ text) → (c.levels - 1 == 0) ≡ false
+      → AskedMeant (37 ∷ text) (d.result deep c at n (left (n + 1) text))
+  result_meant n [] place e = meant_ends (cuts.cut_call e)
+  result_meant n (b ∷ text) place e =
+      meant_byte b 58 (λ f. rw f (meant_as (call_meant d.result_operand (in_braces c) e deep size (meets e) at n (n + 1 + 1) text
+      (omega (arith, place))) (λ x q i. result i) (λ o. cuts.cut_result o) (λ j fault o. call_asked n e (omega (arith, place)) o)))
+      (λ f. meant_stops (asked_bad r.asked_due (refuses_at (r.no_call (omega arith) e f)
+      (up_more (37 ∷ []) (let p : At size (n + 1) (b ∷ text) = omega (arith, place) in up_byte p)))))
+    where
+      result : {t q : List ℕ} {x : Operand} → CallIs d.result_operand size (in_braces c) t x q
+          → IsOperand size (in_braces c) (may_emit order negated) (37 ∷ 58 ∷ t) x q
+      result (call_is i) = by_result i
+
+  -- what a test asks, after its white space and `!`, is what the grammar says
+  asked_meant : (n : ℕ) (text : List ℕ) → At size n text → s.Stops is_white text → s.Stops (is_default order negated) text
+      → AskedMeant text (d.asked deep c at (may_emit order negated) (left n text))
+  asked_meant n [] place w f = meant_ends (cuts.cut_switch s.at_end cuts.out_end)
+  asked_meant n (b ∷ text) place (s.at_byte w) (s.at_byte f) =
+      meant_if (is_mark b) (λ e. meant_word is_word (n + 1) text (omega (arith, place)) (λ end. Ends at) (λ word end.
+      if d.is_empty word then by_byte (first_of end.bytes) (Ends at) (λ x. d.bare_end at (may_emit order negated) b end x)
+      else d.marked_end at (may_emit order negated) b word end) (λ end o. meant_ends (cuts.cut_marked e o))
+      (λ word rest there i. mark_end_meant b e rest.at word rest.bytes there i (may_emit order negated) refl))
+      (λ e. meant_byte b 37 (λ g. rw g (meant_if (c.levels - 1 == 0)
+      (λ h. meant_stops (asked_bad r.asked_due (refuses_byte (r.test_within_all (omega arith) h) place)))
+      (λ h. result_meant n text place h))) (λ g. meant_then (λ p rest. Took (d.switch_operand p) rest) (pattern_meant at n (b ∷ text) place)
+      (λ p rest there i. meant_took there (by_switch (s.at_byte e) i)) (λ o. cuts.cut_switch (s.at_byte e) o) (λ j fault i. none text g i)))
+    where
+      none : (t : List ℕ) {k : ℕ} {fault : SyntaxFault} → (b == 37) ≡ false → PatternBad size at (b ∷ t) k fault
+          → AskedBad at size (in_braces c) order negated (b ∷ t) k fault
+      none t g (no_pattern i h) = asked_bad r.asked_due (refuses_byte (r.no_test_there i w g f) h)
+
+-- a whole test
+
+-- a whole test by the grammar: white space, a sign, what it asks, white space, and the byte after it
+pub data IsTried (size : ℕ) (g : ListContext) (order : Order) : List ℕ → Tried → List ℕ → Type 0 where
+  is_tried : {n m b : ℕ} {t u v w q : List ℕ} {negated : Bool} {o : Operand} → AreSpaces t u → At size n u → IsSign u negated v
+      → IsOperand size g (may_emit order negated) v o w → At size m w → AreSpaces w (b ∷ q) → is_white b ≡ false
+      → IsTried size g order t (record { place = span n m; negated = negated; operand = o; byte = b }) (b ∷ q)
+
+-- the text ends in tests, or in patterns where the braces may hold these
+pub data TestCuts (size : ℕ) (g : ListContext) (order : Order) : List ℕ → Type 0 where
+  cut_test : {t : List ℕ} → CutsTests size g t → TestCuts size g order t
+  cut_pattern : {t : List ℕ} → order ≡ AtFront → CutsPatterns t → TestCuts size g order t
+
+-- the text ends in a byte that doesn't fit in tests, or in patterns where the braces may hold these
+pub data TestBad (at size : ℕ) (g : ListContext) (order : Order) : List ℕ → ℕ → SyntaxFault → Type 0 where
+  test_bad : {t last : List ℕ} {due : Due} {k : ℕ} {fault : SyntaxFault} → ReachesTests size g at order t due last
+      → RefusesAt size k due last fault → TestBad at size g order t k fault
+  emit_bad : {t last : List ℕ} {due : Due} {k : ℕ} {fault : SyntaxFault} → order ≡ AtFront → ReachesEmits at t due last
+      → RefusesAt size k due last fault → TestBad at size g order t k fault
+
+-- braces may still hold patterns only at their front and without a `!`
+pub emits_at : (order : Order) (negated : Bool) → may_emit order negated ≡ true → (order ≡ AtFront) × (negated ≡ false)
+emits_at AtFront false e = (refl, refl)
+emits_at AtFront true e = differs (sym e)
+emits_at AtNext negated e = differs (sym e)
+emits_at AtBar negated e = differs (sym e)
+
+-- a sign that is no `!` takes no byte
+pub unsigned : {u v : List ℕ} {negated : Bool} → IsSign u negated v → negated ≡ false → u ≡ v
+unsigned (s.plain_sign h) e = refl
+unsigned (s.not_sign sp) e = differs e
+
+-- what Descent took for a test or a pattern is a test by the grammar, or a pattern where the braces may still hold these
+operand_is : {size : ℕ} {g : ListContext} {emits : Bool} {t q : List ℕ} {o : Operand} → IsOperand size g emits t o q
+    → ((a : Asked) × IsAsked size g t a q) ⊎ ((emits ≡ true) × ((p : Pattern) × IsPattern t p q))
+operand_is (by_switch {p = p} h i) = inl (HasSwitch p, s.switch h i)
+operand_is (by_mark {mark} {b} {word = word} e i h) = inl (d.marked mark (b ∷ word), asked_marked mark b word e i)
+operand_is (by_star {mark} {word = word} e is i) =
+    inr (e, (pattern (mark ∷ word) true, s.starred (s.quoted_byte (mark_plain mark is) (mark_word mark is) i)))
+operand_is (by_bare {mark} e is i h) = inr (e, (pattern (mark ∷ []) false, i))
+operand_is (by_result {name = name} {items = items} i) = inl (HasResult name items, s.result i)
+
+-- a text that ends in white space after a test ends in a test or a pattern
+test_cuts : {size : ℕ} {g : ListContext} {order : Order} {t u v w : List ℕ} {negated : Bool} {o : Operand} → AreSpaces t u
+    → IsSign u negated v → IsOperand size g (may_emit order negated) v o w → AreSpaces w [] → TestCuts size g order t
+test_cuts {size} {g} {order} {t} {u} {v} {w} {negated} sp sign o end = by (operand_is o)
+  where
+    by : ((a : Asked) × IsAsked size g v a w) ⊎ ((may_emit order negated ≡ true) × ((p : Pattern) × IsPattern v p w))
+        → TestCuts size g order t
+    by (inl a) = cut_test (cuts.after_asked sp sign a.1 end)
+    by (inr i) =
+        let e = emits_at order negated i.0 in
+        cut_pattern e.0 (cuts.after_pattern sp (subst (λ (x : List ℕ). IsPattern x i.1.0 w) (sym (unsigned sign e.1)) i.1.1) end)
+
+-- a byte that doesn't fit in what a test asks doesn't fit in the test
+asked_test : {at size : ℕ} {g : ListContext} {order : Order} {t u v : List ℕ} {negated : Bool} {k : ℕ} {fault : SyntaxFault} → AreSpaces t u
+    → IsSign u negated v → AskedBad at size g order negated v k fault → TestBad at size g order t k fault
+asked_test sp sign (asked_bad reaches refuses) = test_bad (r.in_test sp sign reaches) refuses
+asked_test {order = order} {t} {negated = negated} sp sign (mark_bad place e is p w h) =
+    let f = emits_at order negated e in
+    emit_bad f.0 (r.after_mark (subst (λ (x : List ℕ). AreSpaces t x) (unsigned sign f.1) sp) is p) (refuses_byte (r.mark_alone w h) place)
+
+-- after a `!` a colon is never that of a default
+no_default : (order : Order) (text : List ℕ) → s.Stops (is_default order true) text
+no_default order [] = s.at_end
+no_default AtFront (b ∷ text) = s.at_byte refl
+no_default AtNext (b ∷ text) = s.at_byte refl
+no_default AtBar (b ∷ text) = s.at_byte refl
+
+-- the arguments of tests in braces are what the grammar says
+module _ (size : ℕ) (deep : Lists) (c : ListContext) (meets : (c.levels - 1 == 0) ≡ false → Reads size (in_arguments (in_braces c)) deep)
+    (at : ℕ) (order : Order) where
+  -- what Descent makes of a whole test, with the byte after it, is what the grammar says
+  abbrev pub TestMeant : List ℕ → Read Tried → Type 0
+  TestMeant text x = Meant size (λ tr q. IsTried size (in_braces c) order text tr q) (TestCuts size (in_braces c) order text)
+      (TestBad at size (in_braces c) order text) x
+
+  -- a test after its sign, with the byte after it, is what the grammar says
+  from_meant : (n m : ℕ) (negated : Bool) {t u : List ℕ} (v : List ℕ) → AreSpaces t u → At size n u → IsSign u negated v → At size m v
+      → s.Stops is_white v → s.Stops (is_default order negated) v → TestMeant t (d.asked_from deep c at order n negated (left m v))
+  from_meant n m negated {t} v sp start sign place w f =
+      meant_then (λ operand end. d.ended at (span n end.at) negated operand (past_white end))
+      (asked_meant size deep c meets at order negated m v place w f) (λ o end there i.
+      meant_white (λ mid. d.ended at (span n end.at) negated o mid) end.at end.bytes there
+      (λ k u here z x. by o end.at end.bytes there i k u here z x)) (λ o. cut_test (cuts.in_asked sp sign o))
+      (λ j fault o. asked_test sp sign o)
+    where
+      by : (o : Operand) (k : ℕ) (w : List ℕ) → At size k w → IsOperand size (in_braces c) (may_emit order negated) v o w → (j : ℕ)
+          (u : List ℕ) → At size j u → AreSpaces w u → s.Stops is_white u → TestMeant t (d.ended at (span n k) negated o (left j u))
+      by o k w there i j [] here z x = meant_ends (test_cuts sp sign i z)
+      by o k w there i j (b ∷ u) here z (s.at_byte x) = meant_took here (is_tried sp start sign i there z x)
+
+  -- a test with a `!` or without, after its white space, is what the grammar says
+  signed_meant : (n : ℕ) {t : List ℕ} (u : List ℕ) → AreSpaces t u → At size n u → s.Stops is_white u → s.Stops (is_default order false) u
+      → TestMeant t (d.signed deep c at order (left n u))
+  signed_meant n [] sp place w f = from_meant n n false [] sp place (s.plain_sign s.at_end) place w f
+  signed_meant n (b ∷ u) sp place w f =
+      meant_byte b 33 (λ e. meant_white (λ mid. d.asked_from deep c at order n true mid) (n + 1) u (omega (arith, place))
+      (λ m v there z x. from_meant n m true v (rw e at sp) place (s.not_sign z) there x (no_default order v)))
+      (λ e. from_meant n n false (b ∷ u) sp place (s.plain_sign (s.at_byte e)) place w f)
+
+  -- a whole test with the byte after it is what the grammar says, unless it is the colon of a default
+  pub one_test_meant : (n : ℕ) (text : List ℕ) → At size n text → s.Stops (is_default order false) (past_white (left n text)).bytes
+      → TestMeant text (d.one_test deep c at order (left n text))
+  one_test_meant n text place f =
+      let i = runs is_white text in signed_meant (n + prefix_len is_white text) (drop (prefix_len is_white text) text) (spaces i.0)
+      (omega (arith, place, run_size i.0, i.1)) (run_stops i.0) f
+
+-- What braces or an alternative begin with, patterns or tests: what Descent makes of them is what the grammar says. The numbers in the
+-- statements are bytes: 38 is &, 58 :, 124 |, 125 }.
+
+-- patterns
+
+-- patterns up to the brace that closes them, which is left
+pub data ToBrace (size : ℕ) (t : List ℕ) (ps : List (Span × Pattern)) : List ℕ → Type 0 where
+  to_brace : {rest : List ℕ} → ArePatterns size t ps rest → ToBrace size t ps (ascii.closing_brace ∷ rest)
+
+-- patterns after an ampersand, in braces whose % has the place `at`, lead to a byte that doesn't fit where something is due
+abbrev pub PatternsBad : ℕ → ℕ → List ℕ → ℕ → SyntaxFault → Type 0
+PatternsBad at size t = Unfit size (λ due last. ReachesPatterns at t due last)
+
+-- the braces of a directive whose % has the place `at`
+module _ (at size : ℕ) where
+  -- what one turn of the patterns after an ampersand makes of a text is what the grammar says
+  abbrev pub OneMeant : List ℕ → Read (Turn (List (Span × Pattern))) → Type 0
+  OneMeant text x = Meant size (Turned (ToBrace size) CutsPatterns (PatternsBad at size) text) (CutsPatterns text)
+      (PatternsBad at size text) x
+
+  -- after a pattern and white space, a brace ends the patterns, an ampersand leads to more, and no other byte fits, as the grammar says
+  turn_meant : {t u v : List ℕ} {p : Pattern} (n m k : ℕ) (w : List ℕ) → AreSpaces t u → At size n u → IsPattern u p v → At size m v
+      → At size k w → AreSpaces v w → s.Stops is_white w → OneMeant t (d.pattern_turn at (span n m, p) (left k w))
+  turn_meant n m k [] sp a i b place z x = meant_ends (cuts.after_pattern sp i z)
+  turn_meant {t} {u} {v} {p} n m k (y ∷ w) sp a i b place z (s.at_byte x) =
+      meant_byte y 125 (λ e. meant_took place (rw e (to_brace (s.last_pattern sp a i b (rw e at z)))))
+      (λ e. meant_byte y 38 (λ f. meant_took (omega (arith, place)) (goes (rw f at z)))
+      (λ f. meant_stops (unfit (r.pattern_ends sp i z) (refuses_byte (r.no_end x (rw (e, f) refl)) place))))
+    where
+      goes : AreSpaces v (38 ∷ w) → Leads (ToBrace size) CutsPatterns (PatternsBad at size) t (λ ps. (span n m, p) ∷ ps) w
+      goes z = record {
+        is = λ ps q o. next z o;
+        cut = λ o. cuts.after_and sp i z o;
+        bad = λ j fault o. unfit_in o (λ due last j. r.after_and sp i z j);
+        shorter = omega (arith, spaces_shorter sp, pattern_shorter i, spaces_shorter z);
+      }
+        where
+          next : AreSpaces v (38 ∷ w) → {ps : List (Span × Pattern)} {q : List ℕ} → ToBrace size w ps q
+              → ToBrace size t ((span n m, p) ∷ ps) q
+          next z (to_brace o) = to_brace (s.next_pattern sp a i b z o)
+
+  -- one turn of the patterns after an ampersand is what the grammar says
+  pub one_meant : (n : ℕ) (text : List ℕ) → At size n text → OneMeant text (d.pattern_from at (past_white (left n text)))
+  one_meant n text place = meant_white (λ mid. then_read (d.pattern_at at mid)
+      (λ p end. d.pattern_turn at (span mid.at end.at, p) (past_white end))) n text place
+      (λ m u there sp w. meant_then (λ p end. d.pattern_turn at (span m end.at, p) (past_white end)) (pattern_meant at m u there)
+      (λ p end here i. meant_white (λ mid. d.pattern_turn at (span m end.at, p) mid) end.at end.bytes here
+      (λ k v last z x. turn_meant m end.at k v sp there i here last z x)) (λ o. cuts.in_pattern sp o) (λ j fault o. bad sp o w))
+    where
+      bad : {t u : List ℕ} {k : ℕ} {fault : SyntaxFault} → AreSpaces t u → PatternBad size at u k fault → s.Stops is_white u
+          → PatternsBad at size t k fault
+      bad sp (no_pattern i h) (s.at_byte x) = unfit (r.pattern_due sp) (refuses_byte (r.no_pattern i x) h)
+
+  -- the patterns after an ampersand, up to the brace that closes them, are what the grammar says
+  pub patterns_meant : (n : ℕ) (text : List ℕ) → At size n text
+      → Meant size (ToBrace size text) (CutsPatterns text) (PatternsBad at size text) (d.patterns at (left n text))
+  patterns_meant n text place = repeat_meant (λ mid. d.pattern_from at (past_white mid)) one_meant n text place
+
+-- what the byte after a test decides
 
 -- a test that is a pattern, with white space around it
-data Emitted (total : ℕ) : List ℕ → Span → Pattern → List ℕ → Type 0 where
-  emitted : {i m : ℕ} {t u v q : List ℕ} {p : Pattern} → AreSpaces t u → At total i u → IsPattern u p v → At total m v → AreSpaces v q
-      → Emitted total t (span i m) p q
+pub data Emitted (size : ℕ) : List ℕ → Span → Pattern → List ℕ → Type 0 where
+  emitted : {n m : ℕ} {t u v q : List ℕ} {p : Pattern} → AreSpaces t u → At size n u → IsPattern u p v → At size m v → AreSpaces v q
+      → Emitted size t (span n m) p q
 
 -- a test that asks, with white space around it and a `!` or none
-data Questioned (total : ℕ) (g : ListContext) : List ℕ → Span → Bool → Asked → List ℕ → Type 0 where
-  questioned : {i m : ℕ} {t u v w q : List ℕ} {negated : Bool} {a : Asked} → AreSpaces t u → At total i u → IsSign u negated v
-      → IsAsked total g v a w → At total m w → AreSpaces w q → Questioned total g t (span i m) negated a q
+pub data Questioned (size : ℕ) (g : ListContext) : List ℕ → Span → Bool → Asked → List ℕ → Type 0 where
+  questioned : {n m : ℕ} {t u v w q : List ℕ} {negated : Bool} {a : Asked} → AreSpaces t u → At size n u → IsSign u negated v
+      → IsAsked size g v a w → At size m w → AreSpaces w q → Questioned size g t (span n m) negated a q
 
--- options with equal values have the same value
-some_is : {X : Type 0} (a b : X) → Some a ≡ Some b → a ≡ b
-some_is a b e = cc
-
--- no value is not some value, so this case can't arise
-none_some : {X A : Type 0} (a : X) → ◌≡◌ {A = Option X} None (Some a) → A
-none_some a e = absurd cc
-
--- some value is not no value, so this case can't arise
-some_none : {X A : Type 0} (a : X) → ◌≡◌ {A = Option X} (Some a) None → A
-some_none a e = absurd cc
-
--- what Descent took for a pattern is a pattern by the grammar
-operand_pattern : {total : ℕ} {g : ListContext} {emits : Bool} {t q : List ℕ} {o : Operand} {p : Pattern} → IsOperand total g emits t o q
-    → o.as_pattern ≡ Some p → IsPattern t p q
-operand_pattern {p = p} (by_switch {t} {q} {p = x} h i) e = subst (λ (y : Pattern). IsPattern t y q) (some_is x p e) i
-operand_pattern {p = p} (by_mark {mark} {b} {t} {word} {q} is i h) e =
-    subst (λ (y : Pattern). IsPattern (mark ∷ t) y q) (some_is (pattern (mark ∷ b ∷ word) false) p e)
-    (s.unstarred (s.quoted_byte (mark_plain mark is) (mark_word mark is) i) h)
-operand_pattern {p = p} (by_star {mark} {t} {word} {q} f is i) e =
-    subst (λ (y : Pattern). IsPattern (mark ∷ t) y q) (some_is (pattern (mark ∷ word) true) p e)
-    (s.starred (s.quoted_byte (mark_plain mark is) (mark_word mark is) i))
-operand_pattern {p = p} (by_bare {mark} {q} f is i h) e =
-    subst (λ (y : Pattern). IsPattern (mark ∷ q) y q) (some_is (pattern (mark ∷ []) false) p e) i
-operand_pattern {p = p} (by_result i) e = none_some p e
-
--- what Descent took for a test is a test by the grammar
-operand_asked : {total : ℕ} {g : ListContext} {emits : Bool} {t q : List ℕ} {o : Operand} {a : Asked} → IsOperand total g emits t o q
-    → o.as_test ≡ Some a → IsAsked total g t a q
-operand_asked {total} {g} {a = a} (by_switch {t} {q} {p = x} h i) e = subst (λ (y : Asked). IsAsked total g t y q) (some_is _ a e)
-    (s.switch h i)
-operand_asked {total} {g} {a = a} (by_mark {mark} {b} {t} {word} {q} is i h) e =
-    subst (λ (y : Asked). IsAsked total g (mark ∷ t) y q) (some_is (d.marked mark (b ∷ word)) a e) (asked_marked is i)
-operand_asked {a = a} (by_star f is i) e = none_some a e
-operand_asked {a = a} (by_bare f is i h) e = none_some a e
-operand_asked {total} {g} {a = a} (by_result {t} {q = q} i) e =
-    subst (λ (y : Asked). IsAsked total g (37 ∷ 58 ∷ t) y q) (some_is _ a e) (s.result i)
-
--- after a test comes the byte that Descent names
-tried_byte : {total : ℕ} {g : ListContext} {order : Order} {t q : List ℕ} {tr : Tried} → IsTried total g order t tr q
-    → (rest : List ℕ) × (q ≡ tr.byte ∷ rest)
-tried_byte (is_tried sp a sign (tried_from {q = q} o b z w)) = (q, refl)
-
--- a test that may be a pattern is one by the grammar, with white space around it
-tried_pattern : {total : ℕ} {g : ListContext} {order : Order} {t q : List ℕ} {tr : Tried} {p : Pattern} → IsTried total g order t tr q
-    → may_emit order tr.negated ≡ true → tr.operand.as_pattern ≡ Some p → Emitted total t tr.place p q
-tried_pattern {order = order} {p = p} (is_tried {negated = negated} sp a sign (tried_from {w = v} o b z w)) h e =
-    let f = emits_at order negated h in
-    emitted sp a (subst (λ (x : List ℕ). IsPattern x p v) (sym (unsigned sign f.1)) (operand_pattern o e)) b z
-
--- a test that asks is one by the grammar, with white space around it
-tried_asked : {total : ℕ} {g : ListContext} {order : Order} {t q : List ℕ} {tr : Tried} {a : Asked} → IsTried total g order t tr q
-    → tr.operand.as_test ≡ Some a → Questioned total g t tr.place tr.negated a q
-tried_asked (is_tried sp a sign (tried_from o b z w)) e = questioned sp a sign (operand_asked o e) b z
-
--- the byte after it doesn't fit
+-- what the byte after a test decides is what the grammar says: patterns end or go on, tests end or go on, or the byte doesn't fit
+pub data Decided (at size : ℕ) (g : ListContext) (order : Order) (t : List ℕ) : After → List ℕ → Type 0 where
+  is_emits : {place : Span} {p : Pattern} {q : List ℕ} → order ≡ AtFront → Emitted size t place p (125 ∷ q)
+      → Decided at size g order t (Emits (place, p)) (125 ∷ q)
+  is_joins : {place : Span} {p : Pattern} {q : List ℕ} → order ≡ AtFront → Emitted size t place p (38 ∷ q)
+      → Decided at size g order t (Joins (place, p)) (38 ∷ q)
+  is_asks : {place : Span} {negated : Bool} {a : Asked} {q : List ℕ} → Questioned size g t place negated a (58 ∷ q)
+      → Decided at size g order t (Asks place negated a) (58 ∷ q)
+  is_bars : {place : Span} {negated : Bool} {a : Asked} {q : List ℕ} → Questioned size g t place negated a (124 ∷ q)
+      → Decided at size g order t (Bars place negated a) (124 ∷ q)
+  is_fails : {fault : SyntaxFault} {b : ℕ} {q : List ℕ} → ((k : ℕ) → At size k (b ∷ q) → TestBad at size g order t k fault)
+      → Decided at size g order t (Fails fault) (b ∷ q)
 
 -- after a test that can be no pattern, a colon or a bar is due
-asked_ends : {at total : ℕ} {g : ListContext} (order : Order) (negated : Bool) {t q rest : List ℕ} {o : Operand}
-    → IsOperand total g (may_emit order negated) t o q → AreSpaces q rest → (may_emit order negated ≡ false) ⊎ (o.as_pattern ≡ None)
-    → ReachesAsked total g at order negated t (AnEnd at ends_test) rest
-asked_ends order negated (by_switch h i) z (inl f) = r.test_ends f (s.switch h i) z
-asked_ends order negated (by_switch h i) z (inr f) = some_none _ f
-asked_ends order negated (by_mark e i h) z (inl f) = r.test_ends f (asked_marked e i) z
-asked_ends order negated (by_mark e i h) z (inr f) = some_none _ f
-asked_ends order negated (by_star e is i) z (inl f) = differs (sym e ∙ f)
-asked_ends order negated (by_star e is i) z (inr f) = some_none _ f
-asked_ends order negated (by_bare e is i h) z (inl f) = differs (sym e ∙ f)
-asked_ends order negated (by_bare e is i h) z (inr f) = some_none _ f
-asked_ends order negated (by_result i) z f = r.call_ends (s.result i) z
+asked_ends : {at size : ℕ} {g : ListContext} {order : Order} {negated : Bool} {t q rest : List ℕ} {o : Operand}
+    → may_emit order negated ≡ false → IsOperand size g (may_emit order negated) t o q → AreSpaces q rest
+    → ReachesAsked size g at order negated t (AnEnd at ends_test) rest
+asked_ends f (by_switch h i) z = r.test_ends f (s.switch h i) z
+asked_ends f (by_mark {mark} {b} {word = word} e i h) z = r.test_ends f (asked_marked mark b word e i) z
+asked_ends f (by_star e is i) z = differs (sym e ∙ f)
+asked_ends f (by_bare e is i h) z = differs (sym e ∙ f)
+asked_ends f (by_result i) z = r.call_ends (s.result i) z
 
--- where white space and a byte that ends no pattern follow a mark alone, the white space isn't empty
-bared_white : {x : ℕ} {q : List ℕ} → is_white x ≡ false → is_of ends_pattern x ≡ false → Bared q → AreSpaces q (x ∷ [])
-    → (b : ℕ) × (u : List ℕ) × (q ≡ b ∷ u) × (is_white b ≡ true) × AreSpaces u (x ∷ [])
-bared_white {x} w g (b, rest, e, h) s.no_space = by h
-  where
-    is : b ≡ x
-    is = cc
+-- what may be a pattern is one by the grammar; what may be none is a call, after which a colon or a bar is due
+abbrev AsPattern : ℕ → ℕ → ListContext → Order → Bool → List ℕ → Option Pattern → List ℕ → Type 0
+AsPattern at size g order negated t (Some p) q = IsPattern t p q
+AsPattern at size g order negated t None q = (rest : List ℕ) → AreSpaces q rest
+    → ReachesAsked size g at order negated t (AnEnd at ends_test) rest
 
-    by : (is_white b ≡ true) ⊎ (is_of ends_pattern b ≡ true)
-        → (b : ℕ) × (u : List ℕ) × (x ∷ [] ≡ b ∷ u) × (is_white b ≡ true) × AreSpaces u (x ∷ [])
-    by (inl i) = differs (sym i ∙ ap is_white is ∙ w)
-    by (inr i) = differs (sym i ∙ ap (λ (y : ℕ). is_of ends_pattern y) is ∙ g)
-bared_white w g h (s.space {b} {text} e sp) = (b, text, refl, e, sp)
-
--- a starred . or , and word, and a . or , alone
+-- what Descent took for a pattern, or for none, is what the grammar says
+pattern_of : {size : ℕ} {g : ListContext} (at : ℕ) (order : Order) (negated : Bool) {t q : List ℕ} {o : Operand}
+    → IsOperand size g (may_emit order negated) t o q → AsPattern at size g order negated t o.as_pattern q
+pattern_of at order negated (by_switch h i) = i
+pattern_of at order negated (by_mark {mark} is i h) = s.unstarred (s.quoted_byte (mark_plain mark is) (mark_word mark is) i) h
+pattern_of at order negated (by_star {mark} f is i) = s.starred (s.quoted_byte (mark_plain mark is) (mark_word mark is) i)
+pattern_of at order negated (by_bare f is i h) = i
+pattern_of at order negated (by_result i) = λ rest z. r.call_ends (s.result i) z
 
 -- after a starred pattern that begins with a mark, and white space, no byte but } or & fits
-star_bad : {at total x : ℕ} {g : ListContext} {order : Order} {negated : Bool} {t u v q : List ℕ} {mark : ℕ} {word : List ℕ}
+star_bad : {at size x k mark : ℕ} {g : ListContext} {order : Order} {negated : Bool} {t u v q word rest : List ℕ} → At size k (x ∷ rest)
     → AreSpaces t u → IsSign u negated (mark ∷ v) → may_emit order negated ≡ true → is_mark mark ≡ true
-    → IsPattern (mark ∷ v) (pattern word true) q → AreSpaces q (x ∷ []) → is_white x ≡ false → is_of ends_pattern x ≡ false
-    → TestBad at total g order t (BadDirective at)
-star_bad {order = order} {negated} {t} sp sign e is p z w h =
+    → IsPattern (mark ∷ v) (pattern word true) q
+    → AreSpaces q (x ∷ rest) → is_white x ≡ false → is_of ends_pattern x ≡ false → TestBad at size g order t k (BadDirective at)
+star_bad {order = order} {negated} {t} place sp sign e is p z w h =
     let f = emits_at order negated e in
-    emit_bad f.0 (r.starred_ends (subst (λ (y : List ℕ). AreSpaces t y) (unsigned sign f.1) sp) is p z) (r.no_end w h)
+    emit_bad f.0 (r.starred_ends (subst (λ (y : List ℕ). AreSpaces t y) (unsigned sign f.1) sp) is p z) (refuses_byte (r.no_end w h) place)
 
 -- after a mark alone and white space, the byte that is refused there doesn't fit
-bare_bad : {at total x : ℕ} {g : ListContext} {order : Order} {negated : Bool} {t u q : List ℕ} {mark : ℕ} {fault : SyntaxFault}
-    → AreSpaces t u → IsSign u negated (mark ∷ q) → may_emit order negated ≡ true → is_mark mark ≡ true → Bared q → AreSpaces q (x ∷ [])
-    → is_white x ≡ false → is_of ends_pattern x ≡ false → Refuses total (r.PastMark at) (x ∷ []) fault
-    → TestBad at total g order t fault
-bare_bad {order = order} {negated} {t} {mark = mark} sp sign e is h z w g refuses =
+bare_bad : {at size x k mark : ℕ} {g : ListContext} {order : Order} {negated : Bool} {t u q rest : List ℕ} {fault : SyntaxFault}
+    → At size k (x ∷ rest) → AreSpaces t u → IsSign u negated (mark ∷ q) → may_emit order negated ≡ true → is_mark mark ≡ true → Bared q
+    → AreSpaces q (x ∷ rest) → is_white x ≡ false → is_of ends_pattern x ≡ false → Refuses (k + 1) (PastMark at) (x ∷ []) fault
+    → TestBad at size g order t k fault
+bare_bad place sp sign e is (by_white h) s.no_space w g refuses = differs (sym h ∙ w)
+bare_bad place sp sign e is (by_end h) s.no_space w g refuses = differs (sym h ∙ g)
+bare_bad {order = order} {negated} {t} place sp sign e is h (s.space y z) w g refuses =
     let f = emits_at order negated e in
-    let b = bared_white w g h z in
-    emit_bad f.0 (r.past_mark (subst (λ (y : List ℕ). AreSpaces t y) (unsigned sign f.1
-    ∙ ap (λ (y : List ℕ). mark ∷ y) b.2) sp) is b.3 b.4) refuses
+    emit_bad f.0 (r.past_mark (subst (λ (y : List ℕ). AreSpaces t y) (unsigned sign f.1) sp) is y z) (refuses_byte refuses place)
 
--- after what can be no pattern, and white space, a byte that ends no test doesn't fit
-no_pattern_bad : {at total x : ℕ} {g : ListContext} {order : Order} {t : List ℕ} {tr : Tried} → IsTried total g order t tr (x ∷ [])
-    → (may_emit order tr.negated ≡ false) ⊎ (tr.operand.as_pattern ≡ None) → is_of ends_test x ≡ false
-    → TestBad at total g order t (BadDirective at)
-no_pattern_bad {order = order} (is_tried {negated = negated} sp a sign (tried_from o b z w)) h e =
-    test_bad (r.in_test sp sign (asked_ends order negated o z h)) (r.no_end w e)
+-- what asks is a test by the grammar; what doesn't makes the byte after it not fit
+abbrev AsTest : ℕ → ℕ → ListContext → Order → Bool → List ℕ → Bool → Option Asked → List ℕ → Type 0
+AsTest at size g order negated v bare (Some a) q = IsAsked size g v a q
+AsTest at size g order negated v bare None q = (t u rest : List ℕ) (x k : ℕ) → At size k (x ∷ rest) → AreSpaces t u → IsSign u negated v
+    → AreSpaces q (x ∷ rest) → is_white x ≡ false → is_of ends_test x ≡ true → is_of ends_pattern x ≡ false
+    → TestBad at size g order t k (if bare then EmptyTest at else BadDirective at)
 
--- after what is no test, and white space, a : or | doesn't fit
-no_test_bad : {at total x : ℕ} {g : ListContext} {order : Order} {t : List ℕ} {tr : Tried} → IsTried total g order t tr (x ∷ [])
-    → tr.operand.as_test ≡ None → is_of ends_test x ≡ true → is_of ends_pattern x ≡ false
-    → TestBad at total g order t (if tr.operand.bare then EmptyTest at else BadDirective at)
-no_test_bad (is_tried sp a sign (tried_from (by_switch h i) b z w)) e f g = some_none _ e
-no_test_bad (is_tried sp a sign (tried_from (by_mark is i h) b z w)) e f g = some_none _ e
-no_test_bad (is_tried sp a sign (tried_from (by_star {mark} h is i) b z w)) e f g =
-    star_bad sp sign h is (s.starred (s.quoted_byte (mark_plain mark is) (mark_word mark is) i)) z w g
-no_test_bad (is_tried sp a sign (tried_from (by_bare h is i k) b z w)) e f g = bare_bad sp sign h is k z w g (r.mark_is_no_test f)
-no_test_bad (is_tried sp a sign (tried_from (by_result i) b z w)) e f g = some_none _ e
-
--- another byte
+-- what Descent took for a test, or for none, is what the grammar says
+test_of : {size : ℕ} {g : ListContext} (at : ℕ) (order : Order) (negated : Bool) {v q : List ℕ} {o : Operand}
+    → IsOperand size g (may_emit order negated) v o q → AsTest at size g order negated v o.bare o.as_test q
+test_of at order negated (by_switch h i) = s.switch h i
+test_of at order negated (by_mark {mark} {b} {word = word} is i h) = asked_marked mark b word is i
+test_of at order negated (by_star {mark} h is i) = λ t u rest x j place sp sign z w f g.
+    star_bad place sp sign h is (s.starred (s.quoted_byte (mark_plain mark is) (mark_word mark is) i)) z w g
+test_of at order negated (by_bare h is i k) = λ t u rest x j place sp sign z w f g.
+    bare_bad place sp sign h is k z w g (r.mark_is_no_test f)
+test_of at order negated (by_result i) = s.result i
 
 -- after a first test that may be a pattern, and white space, no byte fits but : | } and &
-first_bad : {at total x : ℕ} {g : ListContext} {t u v q : List ℕ} {o : Operand} → AreSpaces t u → IsSign u false v
-    → IsOperand total g true v o q → AreSpaces q (x ∷ []) → is_white x ≡ false → is_of ends_test x ≡ false
-    → is_of ends_pattern x ≡ false → is_of ends_either x ≡ false → TestBad at total g AtFront t (BadDirective at)
-first_bad sp sign (by_switch h i) z w e f g = test_bad (r.in_test sp sign (r.switch_ends h i z)) (r.no_end w g)
-first_bad sp sign (by_mark is i h) z w e f g = test_bad (r.in_test sp sign (r.marked_ends is i h z)) (r.no_end w g)
-first_bad sp sign (by_star {mark} h is i) z w e f g =
-    star_bad sp sign h is (s.starred (s.quoted_byte (mark_plain mark is) (mark_word mark is) i)) z w f
-first_bad sp sign (by_bare h is i k) z w e f g = bare_bad sp sign h is k z w f (r.no_end_past_mark w g)
-first_bad sp sign (by_result i) z w e f g = test_bad (r.in_test sp sign (r.call_ends (s.result i) z)) (r.no_end w e)
+first_bad : {at size x k : ℕ} {g : ListContext} {t u v q rest : List ℕ} {o : Operand} → At size k (x ∷ rest) → AreSpaces t u
+    → IsSign u false v → IsOperand size g true v o q → AreSpaces q (x ∷ rest) → is_white x ≡ false → is_of ends_test x ≡ false
+    → is_of ends_pattern x ≡ false → is_of ends_either x ≡ false → TestBad at size g AtFront t k (BadDirective at)
+first_bad place sp sign (by_switch h i) z w e f g = test_bad (r.in_test sp sign (r.switch_ends h i z)) (refuses_byte (r.no_end w g) place)
+first_bad place sp sign (by_mark is i h) z w e f g = test_bad (r.in_test sp sign (r.marked_ends is i h z)) (refuses_byte
+    (r.no_end w g) place)
+first_bad place sp sign (by_star {mark} h is i) z w e f g =
+    star_bad place sp sign h is (s.starred (s.quoted_byte (mark_plain mark is) (mark_word mark is) i)) z w f
+first_bad place sp sign (by_bare h is i k) z w e f g = bare_bad place sp sign h is k z w f (r.no_end_past_mark w g)
+first_bad place sp sign (by_result i) z w e f g = test_bad (r.in_test sp sign (r.call_ends (s.result i) z)) (refuses_byte
+    (r.no_end w e) place)
 
 -- after a test at any place, and white space, no byte fits but : | } and &
-order_bad : {at total x : ℕ} {g : ListContext} (order : Order) (negated : Bool) {t u v q : List ℕ} {o : Operand} → AreSpaces t u
-    → IsSign u negated v → IsOperand total g (may_emit order negated) v o q → AreSpaces q (x ∷ []) → is_white x ≡ false
-    → is_of ends_test x ≡ false → is_of ends_pattern x ≡ false → is_of ends_either x ≡ false → TestBad at total g order t (BadDirective at)
-order_bad AtFront false sp sign o z w e f g = first_bad sp sign o z w e f g
-order_bad AtFront true sp sign o z w e f g = test_bad (r.in_test sp sign (asked_ends AtFront true o z (inl refl))) (r.no_end w e)
-order_bad AtNext negated sp sign o z w e f g = test_bad (r.in_test sp sign (asked_ends AtNext negated o z (inl refl))) (r.no_end w e)
-order_bad AtBar negated sp sign o z w e f g = test_bad (r.in_test sp sign (asked_ends AtBar negated o z (inl refl))) (r.no_end w e)
+order_bad : {at size x k : ℕ} {g : ListContext} (order : Order) (negated : Bool) {t u v q rest : List ℕ} {o : Operand}
+    → At size k (x ∷ rest) → AreSpaces t u → IsSign u negated v → IsOperand size g (may_emit order negated) v o q
+    → AreSpaces q (x ∷ rest) → is_white x ≡ false
+    → is_of ends_test x ≡ false → is_of ends_pattern x ≡ false → is_of ends_either x ≡ false → TestBad at size g order t k (BadDirective at)
+order_bad AtFront false place sp sign o z w e f g = first_bad place sp sign o z w e f g
+order_bad AtFront true place sp sign o z w e f g = test_bad (r.in_test sp sign (asked_ends refl o z)) (refuses_byte (r.no_end w e) place)
+order_bad AtNext negated place sp sign o z w e f g = test_bad (r.in_test sp sign (asked_ends refl o z)) (refuses_byte (r.no_end w e) place)
+order_bad AtBar negated place sp sign o z w e f g = test_bad (r.in_test sp sign (asked_ends refl o z)) (refuses_byte (r.no_end w e) place)
 
--- after a test that Descent took, and white space, no byte fits but : | } and &
-other_bad : {at total x : ℕ} {g : ListContext} {order : Order} {t : List ℕ} {tr : Tried} → IsTried total g order t tr (x ∷ [])
-    → is_of ends_test x ≡ false → is_of ends_pattern x ≡ false → is_of ends_either x ≡ false → TestBad at total g order t (BadDirective at)
-other_bad {order = order} (is_tried {negated = negated} sp a sign (tried_from o b z w)) e f g = order_bad order negated sp sign o z w e f g
+-- what the byte after a test decides is what the grammar says
+decided_is : {at size : ℕ} {g : ListContext} {order : Order} {t q : List ℕ} {tr : Tried} → IsTried size g order t tr q
+    → Decided at size g order t (d.decided at order tr) q
+decided_is {at} {size} {g} {order} {t} (is_tried {n} {m} {b} {u = u} {v = v} {w = w} {q = q} {negated} {o} sp start sign i end z white) =
+    choose (λ a. Decided at size g order t a (b ∷ q)) (b == 125) _ _ (λ e. pattern_case Emits (rw (same b 125 e) refl) (λ p f j. rw
+    (same b 125 e) (is_emits f (rw (same b 125 e) at j)))) (λ f. choose (λ a. Decided at size g order t a (b ∷ q)) (b == 38) _ _
+    (λ e. pattern_case Joins (rw (same b 38 e) refl) (λ p f j. rw (same b 38 e) (is_joins f (rw (same b 38 e) at j))))
+    (λ h. choose (λ a. Decided at size g order t a (b ∷ q)) (b == 58) _ _ (λ e. test_case (Asks (span n m) negated) (rw
+    (same b 58 e) refl) (rw (same b 58 e) refl) (λ a j. rw (same b 58 e) (is_asks (rw (same b 58 e) at j))))
+    (λ k. choose (λ a. Decided at size g order t a (b ∷ q)) (b == 124) _ _ (λ e. test_case (Bars (span n m) negated) (rw
+    (same b 124 e) refl) (rw (same b 124 e) refl) (λ a j. rw (same b 124 e) (is_bars (rw (same b 124 e) at j))))
+    (λ l. is_fails (λ j here. order_bad order negated here sp sign i z white (rw (k, l) refl) (rw (f, h) refl) (rw (k, l, f, h) refl))))))
+  where
+    pattern_case : (goes : Span × Pattern → After) → is_of ends_test b ≡ false
+        → ((p : Pattern) → order ≡ AtFront → Emitted size t (span n m) p (b ∷ q) → Decided at size g order t (goes (span n m, p)) (b ∷ q))
+        → Decided at size g order t (d.as_pattern at (span n m) (may_emit order negated) o.as_pattern goes) (b ∷ q)
+    pattern_case goes h f = by (may_emit order negated) refl o.as_pattern (pattern_of at order negated i)
+      where
+        by : (e : Bool) → may_emit order negated ≡ e → (p : Option Pattern) → AsPattern at size g order negated v p w
+            → Decided at size g order t (d.as_pattern at (span n m) e p goes) (b ∷ q)
+        by true e (Some p) j =
+            let a = emits_at order negated e in
+            f p a.0 (emitted sp start (subst (λ (y : List ℕ). IsPattern y p w) (sym (unsigned sign a.1)) j) end z)
+        by true e None j = is_fails (λ k here. test_bad (r.in_test sp sign (j (b ∷ q) z)) (refuses_byte (r.no_end white h) here))
+        by false e p j = is_fails (λ k here. test_bad (r.in_test sp sign (asked_ends e i z)) (refuses_byte (r.no_end white h) here))
 
--- patterns and tests that are more
+    test_case : (goes : Asked → After) → is_of ends_test b ≡ true → is_of ends_pattern b ≡ false
+        → ((a : Asked) → Questioned size g t (span n m) negated a (b ∷ q) → Decided at size g order t (goes a) (b ∷ q))
+        → Decided at size g order t (d.as_test at o.bare o.as_test goes) (b ∷ q)
+    test_case goes h k f = by o.as_test (test_of at order negated i)
+      where
+        by : (a : Option Asked) → AsTest at size g order negated v o.bare a w → Decided at size g order t (d.as_test at o.bare a goes)
+            (b ∷ q)
+        by (Some a) j = f a (questioned sp start sign j end z)
+        by None j = is_fails (λ i here. j t u q b i here sp sign z white h k)
 
--- a pattern before the closing brace is patterns by itself
-emitted_last : {total : ℕ} {t q : List ℕ} {place : Span} {p : Pattern} → Emitted total t place p (125 ∷ q)
-    → ArePatterns total t ((place, p) ∷ []) q
-emitted_last (emitted sp a i b z) = s.last_pattern sp a i b z
+-- tests after a bar
 
--- a pattern, an & and the patterns after it are patterns
-emitted_next : {total : ℕ} {t u q : List ℕ} {place : Span} {p : Pattern} {ps : List (Span × Pattern)} → Emitted total t place p (38 ∷ u)
-    → ArePatterns total u ps q → ArePatterns total t ((place, p) ∷ ps) q
-emitted_next (emitted sp a i b z) o = s.next_pattern sp a i b z o
-
--- where the text ends in the patterns after an &, it ends in patterns
-emitted_cut : {total : ℕ} {t u : List ℕ} {place : Span} {p : Pattern} → Emitted total t place p (38 ∷ u) → CutsPatterns u → CutsPatterns t
-emitted_cut (emitted sp a i b z) o = cuts.after_and sp i z o
-
--- what is due in the patterns after an & is due in the braces
-emitted_reach : {at total : ℕ} {t u last : List ℕ} {due : Due} {place : Span} {p : Pattern} → Emitted total t place p (38 ∷ u)
-    → ReachesPatterns at u due last → ReachesEmits at t due last
-emitted_reach (emitted sp a i b z) o = r.after_first sp i z o
-
--- a test before a colon is the tests of an alternative by itself
-asked_last : {total : ℕ} {g : ListContext} {t q : List ℕ} {place : Span} {negated : Bool} {a : Asked}
-    → Questioned total g t place negated a (58 ∷ q) → AreTests total g t (test place negated a no_test) (58 ∷ q)
-asked_last (questioned sp a sign i b z) = s.last_test sp a sign i b z
-
--- a test, a bar and the tests after it are tests
-asked_next : {total : ℕ} {g : ListContext} {t u q : List ℕ} {place : Span} {negated : Bool} {a : Asked} {others : Tests}
-    → Questioned total g t place negated a (124 ∷ u) → AreTests total g u others q → AreTests total g t (test place negated a others) q
-asked_next (questioned sp a sign i b z) o = s.next_test sp a sign i b z o
-
--- where the text ends in the tests after a bar, it ends in tests
-asked_cut : {total : ℕ} {g : ListContext} {t u : List ℕ} {place : Span} {negated : Bool} {a : Asked}
-    → Questioned total g t place negated a (124 ∷ u) → CutsTests total g u → CutsTests total g t
-asked_cut (questioned sp a sign i b z) o = cuts.after_bar sp sign i z o
-
--- what is due in the tests after a bar is due in the tests
-asked_reach : {at total : ℕ} {g : ListContext} {order : Order} {t u last : List ℕ} {due : Due} {place : Span} {negated : Bool} {a : Asked}
-    → Questioned total g t place negated a (124 ∷ u) → ReachesTests total g at AtBar u due last → ReachesTests total g at order t due last
-asked_reach (questioned sp a sign i b z) o = r.after_bar sp sign i z o
+-- patterns, or the tests of an alternative
+pub data IsForm (size : ℕ) (g : ListContext) (order : Order) (t : List ℕ) : Form → List ℕ → Type 0 where
+  form_patterns : {rest : List ℕ} {ps : List (Span × Pattern)} → order ≡ AtFront → ArePatterns size t ps rest
+      → IsForm size g order t (Patterns ps) (ascii.closing_brace ∷ rest)
+  form_tests : {mid : List ℕ} {asks : Tests} → AreTests size g t asks (ascii.colon ∷ mid)
+      → IsForm size g order t (Alternative asks) (ascii.colon ∷ mid)
 
 -- a test after a bar is not at the front of the braces, so this case can't arise
 not_front : {A : Type 0} → AtBar ≡ AtFront → A
 not_front e = absurd cc
 
--- a test, a bar and what follows are the tests of one alternative
-with_more : {total : ℕ} {g : ListContext} {order : Order} {t u q : List ℕ} {place : Span} {negated : Bool} {a : Asked} {form : Form}
-    → Questioned total g t place negated a (124 ∷ u) → IsForm total g AtBar u form q
-    → IsForm total g order t (d.with_test place negated a form) q
-with_more i (form_patterns e o) = not_front e
-with_more i (form_tests o) = form_tests (asked_next i o)
+-- a test and a bar lead to the tests after it
+module _ {size : ℕ} {g : ListContext} {t u : List ℕ} {place : Span} {negated : Bool} {a : Asked} where
+  -- a test, a bar and the tests after it are tests
+  bar_is : {order : Order} {asks : Tests} {q : List ℕ} → Questioned size g t place negated a (124 ∷ u)
+      → IsForm size g AtBar u (Alternative asks) q → IsForm size g order t (Alternative (test place negated a asks)) q
+  bar_is (questioned sp b sign i c z) (form_tests o) = form_tests (s.next_test sp b sign i c z o)
 
--- where the text ends in a test after a bar, it ends in the tests
-cut_more : {total : ℕ} {g : ListContext} {order : Order} {t u : List ℕ} {place : Span} {negated : Bool} {a : Asked}
-    → Questioned total g t place negated a (124 ∷ u) → TestCuts total g AtBar u → TestCuts total g order t
-cut_more i (cut_test o) = cut_test (asked_cut i o)
-cut_more i (cut_pattern e o) = not_front e
+  -- where the text ends in the tests after a bar, it ends in tests
+  bar_cut : {order : Order} → Questioned size g t place negated a (124 ∷ u) → TestCuts size g AtBar u → TestCuts size g order t
+  bar_cut (questioned sp b sign i c z) (cut_test o) = cut_test (cuts.after_bar sp sign i z o)
+  bar_cut i (cut_pattern e o) = not_front e
 
--- a byte that doesn't fit in a test after a bar doesn't fit in the tests
-bad_more : {at total : ℕ} {g : ListContext} {order : Order} {t u : List ℕ} {place : Span} {negated : Bool} {a : Asked} {fault : SyntaxFault}
-    → Questioned total g t place negated a (124 ∷ u) → TestBad at total g AtBar u fault → TestBad at total g order t fault
-bad_more i (test_bad o h) = test_bad (asked_reach i o) h
-bad_more i (emit_bad e o h) = not_front e
+  -- a byte that doesn't fit in the tests after a bar doesn't fit in the tests
+  bar_bad : {at k : ℕ} {order : Order} {fault : SyntaxFault} → Questioned size g t place negated a (124 ∷ u)
+      → TestBad at size g AtBar u k fault → TestBad at size g order t k fault
+  bar_bad (questioned sp b sign i c z) (test_bad o h) = test_bad (r.after_bar sp sign i z o) h
+  bar_bad i (emit_bad e o h) = not_front e
 
--- the braces of a directive whose % has the place `at`, with the context g inside them
-module _ (at : ℕ) (g : ListContext) where
-  -- what Descent makes of patterns, or of the tests of an alternative, is what the grammar says
-  abbrev pub FormMeant : Order → ℕ → List ℕ → Read Form → Type 0
-  FormMeant order n text x = Meant AtByte n text (λ total t form q. IsForm total g order t form q) (λ total t. TestCuts total g order t)
-      (λ total t fault. TestBad at total g order t fault) x
+  -- a test and a bar take bytes of the text
+  bar_shorter : Questioned size g t place negated a (124 ∷ u) → suc (length u) ≤ length t
+  bar_shorter (questioned sp b sign i c z) = omega (arith, spaces_shorter sp, sign_shorter sign, asked_shorter i, spaces_shorter z)
 
-  -- a test that was read with k bytes after its first, and what Descent makes of the patterns and tests after it
-  module _ (order : Order) (n b k : ℕ) (text : List ℕ) (tr : Tried)
-      (t : Takes AtByte n (b ∷ text) (λ total u tr q. IsTried total g order u tr q) tr k) (ps : Read (List (Span × Pattern)))
-      (i : PatternsMeant at (n + 1 + k) (drop k text) ps) (others : Read Form) (j : FormMeant AtBar (n + 1 + k) (drop k text) others) where
-    -- what Descent goes on with after the test is what the grammar says
-    abbrev Goes : After → Type 0
-    Goes a = FormMeant order n (b ∷ text) (d.test_go a n k ps others)
+-- a test before its colon is the tests of an alternative by itself
+one_asked : {size : ℕ} {g : ListContext} {t q : List ℕ} {place : Span} {negated : Bool} {a : Asked}
+    → Questioned size g t place negated a (58 ∷ q) → AreTests size g t (test place negated a no_test) (58 ∷ q)
+one_asked (questioned sp b sign i c z) = s.last_test sp b sign i c z
 
-    -- after the test comes the byte that decides what it makes of the braces
-    end : (rest : List ℕ) × (drop k (b ∷ text) ≡ tr.byte ∷ rest)
-    end = tried_byte (t.is (n + length (t.step.front (drop k (b ∷ text)))) (drop k (b ∷ text)) (near_self (drop k (b ∷ text))) refl)
-
-    -- where the byte after the test is x, any rest that begins like the text's begins with x
-    ended : (x : ℕ) → tr.byte ≡ x → (q : List ℕ) → Near (drop k (b ∷ text)) q → (rest : List ℕ) × (q ≡ x ∷ rest)
-    ended x e q near =
-        let u = near_head (subst (λ (y : List ℕ). Near y q) end.1 near) in
-        (u.0, u.1 ∙ ap (λ (y : ℕ). y ∷ u.0) e)
-
-    -- the byte after the test follows it in the text
-    there : (x : ℕ) → tr.byte ≡ x → drop k (b ∷ text) ≡ x ∷ end.0
-    there x e = end.1 ∙ ap (λ (y : ℕ). y ∷ end.0) e
-
-    -- the byte after the test doesn't fit, if by the grammar it doesn't
-    bad_at : (fault : SyntaxFault) → ((total : ℕ) → IsTried total g order (t.step.front (tr.byte ∷ [])) tr (tr.byte ∷ [])
-        → TestBad at total g order (t.step.front (tr.byte ∷ [])) fault) → FormMeant order n (b ∷ text) (Stops (n + k) fault)
-    bad_at fault f = meant_stops (breaks_after n k (b ∷ text) t.step tr.byte end.0 end.1
-        (λ total u fault. TestBad at total g order u fault) fault
-        (f (n + k + 1) (t.is (n + k + 1) (tr.byte ∷ []) (subst (λ (u : List ℕ). Near u (tr.byte ∷ [])) (sym end.1) same_byte)
-        (omega (arith, t.step.sized (tr.byte ∷ []))))))
-
-    -- at a byte that ends a pattern, what follows is as the grammar says if the test is a pattern, and else the byte doesn't fit
-    pattern_case : (goes : Span × Pattern → After) → is_of ends_test tr.byte ≡ false
-        → ((p : Pattern) → may_emit order tr.negated ≡ true → tr.operand.as_pattern ≡ Some p → Goes (goes (tr.place, p)))
-        → Goes (d.as_pattern at tr.place (may_emit order tr.negated) tr.operand.as_pattern goes)
-    pattern_case goes h f = by (may_emit order tr.negated) refl tr.operand.as_pattern refl
-      where
-        by : (e : Bool) → may_emit order tr.negated ≡ e → (p : Option Pattern) → tr.operand.as_pattern ≡ p
-            → Goes (d.as_pattern at tr.place e p goes)
-        by true e (Some p) z = f p e z
-        by true e None z = bad_at (BadDirective at) (λ total y. no_pattern_bad y (inr z) h)
-        by false e p z = bad_at (BadDirective at) (λ total y. no_pattern_bad y (inl e) h)
-
-    -- at a byte that ends a test, what follows is as the grammar says if it asks, and else the byte doesn't fit
-    test_case : (goes : Asked → After) → is_of ends_test tr.byte ≡ true → is_of ends_pattern tr.byte ≡ false
-        → ((a : Asked) → tr.operand.as_test ≡ Some a → Goes (goes a)) → Goes (d.as_test at tr.operand.bare tr.operand.as_test goes)
-    test_case goes h g f = by tr.operand.as_test refl
-      where
-        by : (a : Option Asked) → tr.operand.as_test ≡ a → Goes (d.as_test at tr.operand.bare a goes)
-        by (Some a) z = f a z
-        by None z = bad_at (if tr.operand.bare then EmptyTest at else BadDirective at) (λ total y. no_test_bad y z h g)
-
-    -- a pattern with the closing brace after it is patterns, as the grammar says
-    emits : tr.byte ≡ 125 → (p : Pattern) → may_emit order tr.negated ≡ true → tr.operand.as_pattern ≡ Some p → Goes (Emits (tr.place, p))
-    emits e p h f = meant_took (record {
-      step = t.step;
-      is = λ total q near place. form (ended 125 e q near) (tried_pattern (t.is total q near place) h f);
-    })
-      where
-        form : {total : ℕ} {u q : List ℕ} → (rest : List ℕ) × (q ≡ 125 ∷ rest) → Emitted total u tr.place p q
-            → IsForm total g order u (Patterns ((tr.place, p) ∷ [])) q
-        form {total} {u} {q} rest z = subst (λ (v : List ℕ). IsForm total g order u (Patterns ((tr.place, p) ∷ [])) v) (sym rest.1)
-            (form_patterns (emits_at order tr.negated h).0 (emitted_last (subst (λ (v : List ℕ). Emitted total u tr.place p v) rest.1 z)))
-
-    -- after a pattern and an &, what Descent makes of the patterns is what the grammar says
-    joins : tr.byte ≡ 38 → (p : Pattern) → may_emit order tr.negated ≡ true → tr.operand.as_pattern ≡ Some p → Goes (Joins (tr.place, p))
-    joins e p h f =
-        subst (λ (z : Read Form). FormMeant order n (b ∷ text) z)
-        (past_then (k + 1) ps (λ rest size. Took (Patterns ((tr.place, p) ∷ rest)) size))
-        (meant_byte AtByte n b k text end.0 38 t.step (there 38 e) _ _ _ joined
-        (λ total u form q near place z. subst (λ (y : Form). IsForm total g order (t.step.front (38 ∷ u)) y q) (sym z.1)
-        (subst (λ (y : List ℕ). IsForm total g order (t.step.front (38 ∷ u)) (Patterns ((tr.place, p) ∷ z.0)) y) (sym z.3)
-        (form_patterns front (emitted_next (tried_pattern (t.is total (38 ∷ u) near place) h f) z.4))))
-        (λ total u near place z. cut_pattern front (emitted_cut (tried_pattern (t.is total (38 ∷ u) near place) h f) z))
-        (λ total u fault near place z. emit_bad front (emitted_reach (tried_pattern (t.is total (38 ∷ u) near place) h f) z.2) z.3))
-      where
-        front : order ≡ AtFront
-        front = (emits_at order tr.negated h).0
-
-        joined : Meant AtByte (n + 1 + k) (drop k text)
-            (λ total u form q. (rest : List (Span × Pattern)) × (form ≡ Patterns ((tr.place, p) ∷ rest)) × (v : List ℕ) × (q ≡ 125 ∷ v)
-            × ArePatterns total u rest v) (λ total u. CutsPatterns u) (PatternsBad at)
-            (then_read ps (λ rest size. Took (Patterns ((tr.place, p) ∷ rest)) size))
-        joined = meant_then (λ rest size. Took (Patterns ((tr.place, p) ∷ rest)) size) i (λ rest size z. meant_took (record {
-          step = z.step;
-          is = λ total q near place. (let y = z.is total q near place in (rest, refl, y.0, y.1, y.2));
-        })) (λ total u place near y. y) (λ total u fault place near y. y)
-
-    -- a test with a colon after it is the tests of an alternative, as the grammar says
-    asks : tr.byte ≡ 58 → (a : Asked) → tr.operand.as_test ≡ Some a → Goes (Asks tr.place tr.negated a)
-    asks e a f = meant_took (record {
-      step = t.step;
-      is = λ total q near place. form (ended 58 e q near) (tried_asked (t.is total q near place) f);
-    })
-      where
-        form : {total : ℕ} {u q : List ℕ} → (rest : List ℕ) × (q ≡ 58 ∷ rest) → Questioned total g u tr.place tr.negated a q
-            → IsForm total g order u (Alternative tr.place tr.negated a no_test) q
-        form {total} {u} {q} rest z = subst (λ (v : List ℕ). IsForm total g order u (Alternative tr.place tr.negated a no_test) v)
-            (sym rest.1)
-            (form_tests (asked_last (subst (λ (v : List ℕ). Questioned total g u tr.place tr.negated a v) rest.1 z)))
-
-    -- after a test and a bar, what Descent makes of the tests is what the grammar says
-    bars : tr.byte ≡ 124 → (a : Asked) → tr.operand.as_test ≡ Some a → Goes (Bars tr.place tr.negated a)
-    bars e a f =
-        subst (λ (z : Read Form). FormMeant order n (b ∷ text) z)
-        (past_then (k + 1) others (λ form size. Took (d.with_test tr.place tr.negated a form) size))
-        (meant_byte AtByte n b k text end.0 124 t.step (there 124 e) _ _ _ barred
-        (λ total u form q near place z. subst (λ (y : Form). IsForm total g order (t.step.front (124 ∷ u)) y q) (sym z.1)
-        (with_more (tried_asked (t.is total (124 ∷ u) near place) f) z.2))
-        (λ total u near place z. cut_more (tried_asked (t.is total (124 ∷ u) near place) f) z)
-        (λ total u fault near place z. bad_more (tried_asked (t.is total (124 ∷ u) near place) f) z))
-      where
-        barred : Meant AtByte (n + 1 + k) (drop k text)
-            (λ total u form q. (others : Form) × (form ≡ d.with_test tr.place tr.negated a others) × IsForm total g AtBar u others q)
-            (λ total u. TestCuts total g AtBar u) (λ total u fault. TestBad at total g AtBar u fault)
-            (then_read others (λ form size. Took (d.with_test tr.place tr.negated a form) size))
-        barred = meant_then (λ form size. Took (d.with_test tr.place tr.negated a form) size) j (λ form size z. meant_took (record {
-          step = z.step;
-          is = λ total q near place. (form, refl, z.is total q near place);
-        })) (λ total u place near y. y) (λ total u fault place near y. y)
-
-    -- after a test, what Descent goes on with is what the grammar says, by the byte after it
-    go_meant : FormMeant order n (b ∷ text) (d.test_go (d.after at order tr) n k ps others)
-    go_meant =
-        choose Goes (tr.byte == ascii.closing_brace) _ _
-        (λ e. pattern_case Emits (ap (λ (y : ℕ). is_of ends_test y) (same tr.byte 125 e)) (emits (same tr.byte 125 e)))
-        (λ f. choose Goes (tr.byte == ascii.ampersand) _ _
-        (λ e. pattern_case Joins (ap (λ (y : ℕ). is_of ends_test y) (same tr.byte 38 e)) (joins (same tr.byte 38 e)))
-        (λ h. choose Goes (tr.byte == ascii.colon) _ _
-        (λ e. test_case (Asks tr.place tr.negated) (ap (λ (y : ℕ). is_of ends_test y) (same tr.byte 58 e))
-        (ap (λ (y : ℕ). is_of ends_pattern y) (same tr.byte 58 e)) (asks (same tr.byte 58 e)))
-        (λ p. choose Goes (tr.byte == ascii.bar) _ _
-        (λ e. test_case (Bars tr.place tr.negated) (ap (λ (y : ℕ). is_of ends_test y) (same tr.byte 124 e))
-        (ap (λ (y : ℕ). is_of ends_pattern y) (same tr.byte 124 e)) (bars (same tr.byte 124 e)))
-        (λ q. bad_at (BadDirective at) (λ total y. other_bad y (rw (p, q) refl) (rw (f, h) refl) (rw (p, q, f, h) refl))))))
-
--- after a bar a colon is never that of a default
+-- where a first test would begin, and after a bar, a colon is never that of a default
 bar_stops : (text : List ℕ) → s.Stops (is_default AtBar false) text
 bar_stops [] = s.at_end
 bar_stops (b ∷ text) = s.at_byte refl
 
 -- the arguments of tests in braces are what the grammar says
-module _ (deep : Lists) (c : ListContext) (outer : (c.levels == 0) ≡ false)
-    (meets : (c.levels - 1 == 0) ≡ false → (n : ℕ) (text : List ℕ)
-    → ListMeant (in_arguments (in_braces c)) n text (deep (in_arguments (in_braces c)) n text)) (at : ℕ) where
-  -- patterns, or the tests of an alternative, are what the grammar says, unless the colon of a default is there
-  pub tests_meant : (text : List ℕ) (order : Order) (n skip : ℕ)
-      → s.Stops (is_default order false) (drop (prefix_len is_white (drop skip text)) (drop skip text))
-      → FormMeant at (in_braces c) order (n + skip) (drop skip text) (d.tests deep c at order n skip text)
-  tests_meant [] order n zero f = meant_ends (cut_test (cuts.in_asked s.no_space (s.plain_sign s.at_end) (cuts.cut_switch s.at_end
-      cuts.out_end)))
-  tests_meant [] order n (suc skip) f = meant_ends (cut_test (cuts.in_asked s.no_space (s.plain_sign s.at_end) (cuts.cut_switch s.at_end
-      cuts.out_end)))
-  tests_meant (b ∷ text) order n (suc skip) f = at_rest n skip (tests_meant text order (n + 1) skip f)
-  tests_meant (b ∷ text) order n zero f = at_start (begin (λ k. tests_meant text AtBar (n + 1) k
-      (bar_stops (drop (prefix_len is_white (drop k text)) (drop k text)))))
+module _ (size : ℕ) (deep : Lists) (c : ListContext) (meets : (c.levels - 1 == 0) ≡ false → Reads size (in_arguments (in_braces c)) deep)
+    (at : ℕ) where
+  -- the text is tests after a bar, up to their colon, which is left
+  abbrev pub ToColon : List ℕ → Tests → List ℕ → Type 0
+  ToColon t asks q = IsForm size (in_braces c) AtBar t (Alternative asks) q
+
+  -- what one turn of the tests after a bar makes of a text is what the grammar says
+  abbrev pub MoreMeant : List ℕ → Read (Turn Tests) → Type 0
+  MoreMeant text x = Meant size (Turned ToColon (TestCuts size (in_braces c) AtBar) (TestBad at size (in_braces c) AtBar) text)
+      (TestCuts size (in_braces c) AtBar text) (TestBad at size (in_braces c) AtBar text) x
+
+  -- after a test that follows a bar, what its byte decides is what the grammar says
+  more_turn : {t : List ℕ} {a : After} {q : List ℕ} (m : ℕ) → At size m q → Decided at size (in_braces c) AtBar t a q
+      → MoreMeant t (d.test_turn at a (left m q))
+  more_turn m place (is_emits e i) = not_front e
+  more_turn m place (is_joins e i) = not_front e
+  more_turn m place (is_asks i) = meant_took place (form_tests (one_asked i))
+  more_turn m place (is_bars i) = meant_took (omega (arith, place)) (record {
+    is = λ asks q o. bar_is i o;
+    cut = λ o. bar_cut i o;
+    bad = λ j fault o. bar_bad i o;
+    shorter = bar_shorter i;
+  })
+  more_turn m place (is_fails f) = meant_stops (f m place)
+
+  -- one test after a bar is what the grammar says
+  pub bar_meant : (n : ℕ) (text : List ℕ) → At size n text
+      → MoreMeant text (then_read (d.one_test deep c at AtBar (left n text)) (λ t end. d.test_turn at (d.decided at AtBar t) end))
+  bar_meant n text place = meant_then (λ t end. d.test_turn at (d.decided at AtBar t) end)
+      (one_test_meant size deep c meets at AtBar n text place (bar_stops _))
+      (λ t end there i. more_turn end.at there (decided_is i)) (λ o. o) (λ j fault o. o)
+
+  -- the tests after a bar, up to their colon, are what the grammar says
+  more_tests_meant : (n : ℕ) (text : List ℕ) → At size n text
+      → Meant size (ToColon text) (TestCuts size (in_braces c) AtBar text) (TestBad at size (in_braces c) AtBar text)
+      (d.more_tests deep c at (left n text))
+  more_tests_meant n text place = repeat_meant
+      (λ mid. then_read (d.one_test deep c at AtBar mid) (λ t end. d.test_turn at (d.decided at AtBar t) end)) bar_meant n text place
+
+  -- what Descent makes of patterns, or of the tests of an alternative, is what the grammar says
+  abbrev pub FormMeant : Order → List ℕ → Read Form → Type 0
+  FormMeant order text x = Meant size (λ form q. IsForm size (in_braces c) order text form q) (TestCuts size (in_braces c) order text)
+      (TestBad at size (in_braces c) order text) x
+
+  -- after the first test, what its byte decides is what the grammar says
+  form_by_meant : {order : Order} {t : List ℕ} {a : After} {q : List ℕ} (m : ℕ) → At size m q → Decided at size (in_braces c) order t a q
+      → FormMeant order t (d.form_by deep c at a (left m q))
+  form_by_meant m place (is_emits e (emitted sp a i b z)) = meant_took place (form_patterns e (s.last_pattern sp a i b z))
+  form_by_meant {order} {t} m place (is_joins {place = span} {p} {q} e (emitted sp a i b z)) =
+      meant_then (λ ps rest. Took (Patterns ((span, p) ∷ ps)) rest) (patterns_meant at size (m + 1) q (omega (arith, place)))
+      (λ ps rest there o. meant_took there (joined o)) (λ o. cut_pattern e (cuts.after_and sp i z o)) (λ j fault o. bad o)
     where
-      begin : ((k : ℕ) → FormMeant at (in_braces c) AtBar (n + 1 + k) (drop k text) (d.tests deep c at AtBar (n + 1) k text))
-          → FormMeant at (in_braces c) order n (b ∷ text) (then_read (d.one_test deep c at order n (b ∷ text))
-          (λ t k. d.test_go (d.after at order t) n k (d.patterns at (n + 1) k text) (d.tests deep c at AtBar (n + 1) k text)))
-      begin ih = meant_then (λ t k. d.test_go (d.after at order t) n k (d.patterns at (n + 1) k text)
-          (d.tests deep c at AtBar (n + 1) k text))
-          (one_test_meant deep c outer meets at order n (b ∷ text) f)
-          (λ tr k t. go_meant at (in_braces c) order n b k text tr t (d.patterns at (n + 1) k text) (patterns_meant at text (n + 1) k)
-          (d.tests deep c at AtBar (n + 1) k text) (ih k))
-          (λ total t place near i. i) (λ total t fault place near i. i)
+      joined : {ps : List (Span × Pattern)} {u : List ℕ} → ToBrace size q ps u
+          → IsForm size (in_braces c) order t (Patterns ((span, p) ∷ ps)) u
+      joined (to_brace o) = form_patterns e (s.next_pattern sp a i b z o)
+
+      bad : {k : ℕ} {fault : SyntaxFault} → PatternsBad at size q k fault → TestBad at size (in_braces c) order t k fault
+      bad (unfit reaches refuses) = emit_bad e (r.after_first sp i z reaches) refuses
+  form_by_meant m place (is_asks i) = meant_took place (form_tests (one_asked i))
+  form_by_meant m place (is_bars {place = span} {negated} {a} {q} i) =
+      meant_then (λ ts rest. Took (Alternative (test span negated a ts)) rest) (more_tests_meant (m + 1) q (omega (arith, place)))
+      (λ ts rest there o. meant_took there (bar_is i o)) (λ o. bar_cut i o) (λ j fault o. bar_bad i o)
+  form_by_meant m place (is_fails f) = meant_stops (f m place)
+
+  -- patterns, or the tests of an alternative, are what the grammar says, unless the colon of a default is there
+  pub form_meant : (order : Order) (n : ℕ) (text : List ℕ) → At size n text
+      → s.Stops (is_default order false) (past_white (left n text)).bytes → FormMeant order text (d.form deep c at order (left n text))
+  form_meant order n text place f = meant_then (λ t end. d.form_by deep c at (d.decided at order t) end)
+      (one_test_meant size deep c meets at order n text place f) (λ t end there i. form_by_meant end.at there (decided_is i)) (λ o. o)
+      (λ j fault o. o)

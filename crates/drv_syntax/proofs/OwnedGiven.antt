@@ -24,7 +24,7 @@ use Rattle.std.specs.Prelude.{◌&&◌}
 -- What is written of an alternative: its token, its tests, and its X without the white space at the X's end. It serves the clauses of the
 -- reader's `x` and `choices`. The code opens the token, writes all items, and cuts the white space off at the end. The lemmas show that
 -- this is the alternative of specs/Labels, written at once (`wrote`). A `Tail` is where a list ends without that white space. A `Choice` is
--- an alternative whose token is open.
+-- an alternative whose token is open. Owned is what an alternative has written when it ends at its tail (`owned_at`).
 
 -- tests
 

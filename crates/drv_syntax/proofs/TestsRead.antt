@@ -1,57 +1,35 @@
 use Rattle.drv_words.specs.Bytes as ascii
-use Rattle.drv_syntax.proofs.CallsRead.{ListReads, result_reads}
-use Rattle.drv_syntax.proofs.Failing.{Failure, failed, then_fails}
-use Rattle.drv_syntax.proofs.Heads.{asked_head, no_white, pattern_head, no_percent, sign_white, unstarred_spaces}
-use Rattle.drv_syntax.proofs.PartsRead.{Reads, beyond, byte_next, past_none, past_past, pattern_reads, reads_after, reads_as, reads_past}
-use Rattle.drv_syntax.proofs.PartsRead.{reads_none, reads_then, runs_to, skipped, spaces_to, worded_reads}
-use Rattle.drv_syntax.specs.Bytes.{is_mark, is_white, is_word}
+use Rattle.drv_syntax.proofs.Leads.{asked_head, no_percent, no_white, pattern_head, sign_head, unstarred_spaces, no_sign, other}
+use Rattle.drv_syntax.proofs.Leads.{bracket_ends, function_front}
+use Rattle.drv_syntax.proofs.Here.{begins_not, function_on, here, one, pattern_is, quoted_is, spaces_on, spaces_shorter, pattern_shorter}
+use Rattle.drv_syntax.proofs.Here.{quoted_shorter}
+use Rattle.drv_syntax.proofs.Shorter.{Loops, asked_shorter, items_shorter, loop_ends, loop_goes, sign_shorter}
+use Rattle.drv_syntax.specs.Bytes.{is_function, is_mark, is_white, is_word}
 use Rattle.drv_syntax.specs.Contexts.{ListContext, in_arguments, in_braces}
 use Rattle.drv_syntax.specs.Descent as d
-use Rattle.drv_syntax.specs.Descent.{Alternative, Ends, Form, Lists, Operand, Patterns, Read, Took, Tried, past, then_read}
-use Rattle.drv_syntax.specs.Refusals.{AtBar, Order, may_emit}
+use Rattle.drv_syntax.specs.Descent.{Alternative, Lists, Operand, Read, Took, Turn, mapped, then_read, within, Patterns}
+use Rattle.drv_syntax.specs.Refusals.{AtBar, Order, may_emit, AtFront}
+use Rattle.drv_syntax.specs.Rest.{Left, after, past_white}
 use Rattle.drv_syntax.specs.Spelling as s
-use Rattle.drv_syntax.specs.Spelling.{AreSpaces, AreTests, At, IsAsked, IsCall, IsPattern, IsQuoted, IsSign, span}
-use Rattle.drv_syntax.specs.Tree.{Asked, HasLanguage, HasResult, HasSuffix, HasSwitch, Items, Pattern, Span, Tests, no_test, test}
-use Rattle.std.proofs.Common.{◌≡◌, ◌∙◌, ◌+◌, Bool, false, true, List, [], ◌∷◌, ap, arith, drop, drop-drop, length, refl, subst, suc, sym, ℕ}
-use Rattle.std.specs.List.{prefix_len}
+use Rattle.drv_syntax.specs.Spelling.{AreItems, AreSpaces, AreTests, IsAsked, IsCall, IsPattern, IsQuoted, IsSign, span, ArePatterns}
+use Rattle.drv_syntax.specs.Tree.{Asked, HasLanguage, HasResult, HasSuffix, HasSwitch, Items, Pattern, Tests, no_test, test, Span, pattern}
+use Rattle.std.proofs.Common.{refl, suc, ℕ, if◌then◌else◌, ◌≡◌, ◌≤◌, ◌∙◌, ◌+◌, ◌++◌, Bool, false, true, List, [], ◌∷◌, ap, append-nil}
+use Rattle.std.proofs.Common.{arith, length, length-append}
 use Rattle.std.specs.Prelude.{◌-◌, ◌==◌, Some}
 
--- What the grammar says of a test, Descent makes of it. It serves the laws `spelled_is_read`, `front_is_unrefused` and `refusal_kinds`. A
--- mark is the `.` or `,` of a test. `Reads r text x rest` says that the result r took x from the text and left this rest (PartsRead).
--- `failed f` is a result that fails in the way f (Failing). `Tried` is a test that may still be a pattern, with the byte after it. The
--- numbers in the statements are bytes: 44 is a comma, 46 a period, 58 :, 124 |. Descent is the grammar as functions (specs/Descent). The
--- grammar itself has cases (specs/Spelling, Fronts, Refusals).
+-- What the grammar says of calls and tests, Descent makes of it. It serves the laws `spelled_is_read`, `front_is_unrefused` and
+-- `refusal_kinds`. The numbers in the statements are bytes: 37 is %, 40 (, 41 ), 42 *, 44 a comma, 46 a period, 58 :, 124 |. What ends in
+-- `_on` says with what Descent goes on, whatever follows there; what ends in `_is` or `_are` says what is read.
 
--- after a mark, a word by the grammar that no star follows is read, for a suffix, a language or a pattern
-pub mark_reads : {text word rest : List ℕ} {x : ℕ} (at n : ℕ) (emits : Bool) (mark : ℕ) → IsQuoted is_word text (x ∷ word) rest
-    → s.Stops (λ b. b == ascii.asterisk) rest
-    → Reads (d.mark_text at emits mark n text) text (d.marked_operand mark (x ∷ word)) rest
-mark_reads {word = word} {rest} {x} at n emits mark i h =
-    let m = runs_to i in
-    worded_reads n (λ m. Ends at) (λ word m rest. d.mark_end at emits mark word m rest) m (reads_none rest (ended (n + m.size) rest h))
-  where
-    ended : (m : ℕ) (rest : List ℕ) → s.Stops (λ b. b == ascii.asterisk) rest
-        → d.mark_end at emits mark (x ∷ word) m rest ≡ Took (d.marked_operand mark (x ∷ word)) 0
-    ended m [] h = refl
-    ended m (b ∷ rest) (s.at_byte e) = rw e refl
+-- the byte that a list ends at; 0 at the end of a text
+abbrev pub byte_of : List ℕ → ℕ
+byte_of [] = 0
+byte_of (b ∷ t) = b
 
--- white space after a test, and the byte after it, are read
-pub end_reads : {w q : List ℕ} {b : ℕ} (at : ℕ) (place : Span) (negated : Bool) (o : Operand) → AreSpaces w (b ∷ q) → is_white b ≡ false
-    → Reads (d.ended at place negated o w) w (record { place = place; negated = negated; operand = o; byte = b }) (b ∷ q)
-end_reads {w} {q} {b} at place negated o i e =
-    let m = spaces_to i (s.at_byte e) in
-    let none : prefix_len is_white w + 0 ≡ prefix_len is_white w = omega arith in
-    record {
-      size = prefix_len is_white w + 0;
-      is = ap (λ (t : List ℕ). past (prefix_len is_white w) (d.end_byte at place negated o t)) m.0;
-      left = ap (λ (i : ℕ). drop i w) none ∙ m.0;
-      fits = omega (arith, m.1);
-    }
-
--- where the text ends after a test and white space, the braces are not closed
-pub no_end : {w : List ℕ} (at : ℕ) (place : Span) (negated : Bool) (o : Operand) → AreSpaces w [] → d.ended at place negated o w ≡ Ends at
-no_end {w} at place negated o i =
-    ap (λ (t : List ℕ). past (prefix_len is_white w) (d.end_byte at place negated o t)) (spaces_to i s.at_end).0
+-- lists with this context are read as the grammar says
+abbrev pub ListReads : ℕ → Lists → ListContext → Type 0
+ListReads size lists c = (t q : List ℕ) (list : Items) → AreItems size c t list q → length t ≤ size
+    → lists c (here size t) ≡ Took (list, byte_of q) (here size q)
 
 -- what a test may be that asks this
 abbrev pub asked_operand : Asked → Operand
@@ -61,228 +39,305 @@ asked_operand (HasLanguage word) = d.marked_operand 44 word
 asked_operand (HasResult name items) = d.result_operand name items
 
 -- what a test may be that asks this is a test
-asks : (a : Asked) → (asked_operand a).as_test ≡ Some a
+pub asks : (a : Asked) → (asked_operand a).as_test ≡ Some a
 asks (HasSwitch p) = refl
 asks (HasSuffix word) = refl
 asks (HasLanguage word) = refl
 asks (HasResult name items) = refl
 
 -- a call by the grammar has a level left for its arguments
-pub call_level : {size : ℕ} {g : ListContext} {text name rest : List ℕ} {items : Items} → IsCall size g text name items rest
-    → (g.levels == 0) ≡ false
+pub call_level : {size : ℕ} {c : ListContext} {t name q : List ℕ} {items : Items} → IsCall size c t name items q → (c.levels == 0) ≡ false
 call_level (s.call e is l) = e
 
--- the form of an alternative with these tests
-abbrev pub form_of : Tests → Form
-form_of no_test = Patterns []
-form_of (test place negated a others) = Alternative place negated a others
+-- what is read, as a function of it and then as another, is what is read as both at once
+pub mapped_mapped : {X Y Z : Type 0} (f : X → Y) (g : Y → Z) (r : Read X) → mapped (λ x. g (f x)) r ≡ mapped g (mapped f r)
+mapped_mapped f g (Took x rest) = refl
+mapped_mapped f g (d.Ends n) = refl
+mapped_mapped f g (d.Stops n fault) = refl
 
--- a test put before the other tests of an alternative is an alternative with one test more
-pub one_more : {size : ℕ} {g : ListContext} {t rest : List ℕ} {others : Tests} (place : Span) (negated : Bool) (a : Asked)
-    → AreTests size g t others rest → d.with_test place negated a (form_of others) ≡ form_of (test place negated a others)
-one_more place negated a (s.last_test sp x sign i y z) = refl
-one_more place negated a (s.next_test sp x sign i y z o) = refl
+-- a text of this size
+module _ (size : ℕ) where
+  -- what Descent makes of a call, once its name is read
+  abbrev pub called : {X : Type 0} → (List ℕ → Items → X) → Lists → ListContext → ℕ → List ℕ → List ℕ → Read X
+  called make lists c at name t =
+      within at (then_read (lists (in_arguments c) (here size t)) (λ list end. Took (make name list.0) (after 1 end)))
 
--- the braces of a directive whose % has the place `at`, in a list with the context c
-module _ (deep : Lists) (c : ListContext) (at : ℕ) where
-  -- what begins with a mark is read by the word after the mark
-  pub mark_is : (emits : Bool) (n mark : ℕ) (t : List ℕ) → is_mark mark ≡ true
-      → d.asked deep c at emits n (mark ∷ t) ≡ past 1 (d.mark_text at emits mark (n + 1) t)
-  mark_is emits n mark t h = rw h refl
+  -- after a function's name and its parenthesis, Descent goes on with its arguments
+  pub call_on : {X : Type 0} (make : List ℕ → Items → X) (lists : Lists) (c : ListContext) (at n : ℕ) (name t : List ℕ)
+      → is_function name ≡ true → length (name ++ 40 ∷ t) ≤ size
+      → d.call_as make lists c at n (here size (name ++ 40 ∷ t)) ≡ called make lists c at name t
+  call_on make lists c at n name t is h =
+      let front : is_function (name ++ []) ≡ true = ap is_function (append-nil name) ∙ is in rw (
+        function_on size name (40 ∷ t) n (function_front name [] front) (bracket_ends name) h,
+        is,
+        one size t (omega (arith, length-append name (40 ∷ t), h)),
+      ) refl
 
-  -- a pattern by the grammar that begins with no mark is read as a test of a switch
-  pub switch_reads : (emits : Bool) (n : ℕ) (text rest : List ℕ) (p : Pattern) → s.Stops is_mark text → IsPattern text p rest
-      → Reads (d.asked deep c at emits n text) text (d.switch_operand p) rest
-  switch_reads emits n text rest p h i = by text h (pattern_head no_percent i) (pattern_reads at n i)
-    where
-      by : (text : List ℕ) → s.Stops is_mark text → s.Stops (λ b. b == ascii.percent) text → Reads (d.pattern_at at n text) text p rest
-          → Reads (d.asked deep c at emits n text) text (d.switch_operand p) rest
-      by [] h g m = record {
-        size = m.size;
-        is = ap (λ r. then_read r (λ p used. Took
-            (d.switch_operand p) used)) m.is;
-        left = m.left;
-        fits = m.fits;
-      }
-      by (b ∷ text) (s.at_byte e) (s.at_byte f) m =
-          rw (e, f) (reads_then (λ p used. Took (d.switch_operand p) used) m
-          (record { size = m.size; is = refl; left = m.left; fits = m.fits }))
+  -- a call by the grammar is read
+  pub call_is : {X : Type 0} (make : List ℕ → Items → X) (lists : Lists) {c : ListContext} (at n : ℕ) {t name q : List ℕ} {items : Items}
+      → ((c.levels == 0) ≡ false → ListReads size lists (in_arguments c)) → IsCall size c t name items q → length t ≤ size
+      → d.call_as make lists c at n (here size t) ≡ Took (make name items) (here size q)
+  call_is make lists {c} at n {q = q} reads (s.call {text = t} {name = name} {arguments = items} e is l) h =
+      let f : length t ≤ size = omega (arith, length-append name (40 ∷ t), h) in
+      rw (call_on make lists c at n name t is h, reads e t (41 ∷ q) items l f, one size q (omega (arith, items_shorter l, f))) refl
 
-  -- what a test asks by the grammar is read, if no star follows it
-  pub asked_reads : {size : ℕ} → ((c.levels - 1 == 0) ≡ false → ListReads size deep (in_arguments (in_braces c))) → (emits : Bool) (n : ℕ)
-      {text rest : List ℕ} {a : Asked} → IsAsked size (in_braces c) text a rest → s.Stops (λ b. b == ascii.asterisk) rest → At size n text
-      → Reads (d.asked deep c at emits n text) text (asked_operand a) rest
-  asked_reads ih emits n {text} {rest} (s.switch {p = p} h i) e place = switch_reads emits n text rest p h i
-  asked_reads ih emits n (s.suffix {text = text} i) e place =
-      reads_past 1 (46 ∷ text) refl (omega arith) (mark_reads at (n + 1) emits 46 i e)
-  asked_reads ih emits n (s.language {text = text} i) e place =
-      reads_past 1 (44 ∷ text) refl (omega arith) (mark_reads at (n + 1) emits 44 i e)
-  asked_reads ih emits n {rest = rest} (s.result {text = text} {name = name} {arguments = items} i) e place =
-      result_reads deep c at emits (ih (call_level i)) n text name rest items i place
+  -- the braces of a directive whose % has the place `at`, in a list with the context c
+  module _ (deep : Lists) (c : ListContext) (at : ℕ) where
+    -- what is no mark and no % is read as a pattern
+    pub switch_on : (emits : Bool) (t : List ℕ) → s.Stops is_mark t → s.Stops (λ b. b == ascii.percent) t
+        → d.asked deep c at emits (here size t) ≡ mapped d.switch_operand (d.pattern_at at (here size t))
+    switch_on emits [] h g = refl
+    switch_on emits (b ∷ t) (s.at_byte e) (s.at_byte f) = rw (e, f) refl
 
-  -- `order` is the place of the test in the braces
-  module _ (order : Order) where
-    -- what Descent makes of a test after its sign
-    abbrev from : ℕ → Bool → ℕ → List ℕ → Read Tried
-    from start negated n v = d.asked_from deep c at order start negated n v
+    -- after a mark, Descent goes on with the word of a test
+    pub mark_on : (emits : Bool) (mark : ℕ) (t : List ℕ) → is_mark mark ≡ true → suc (length t) ≤ size
+        → d.asked deep c at emits (here size (mark ∷ t)) ≡ d.mark_text at emits mark (here size t)
+    mark_on emits mark t e h = rw (e, one size t h) refl
 
-    -- with a `!` and white space or without, Descent goes on with what the test asks
-    signed_goes : {u v : List ℕ} {negated : Bool} (n : ℕ) → IsSign u negated v → s.Stops is_white v
-        → (k : ℕ) × (drop k u ≡ v) × (length u ≡ k + length v) × (d.signed deep c at order n u ≡ past k (from n negated (n + k) v))
-    signed_goes n (s.plain_sign {rest} h) w =
-        let z : n ≡ n + 0 = omega arith in
-        (0, refl, omega arith, by rest h ∙ ap (λ (i : ℕ). from n false i rest) z ∙ sym (past_none (from n false (n + 0) rest)))
+    -- after the % and the colon of a test, Descent goes on with a call
+    pub result_on : (emits : Bool) (t : List ℕ) → (c.levels - 1 == 0) ≡ false → suc (suc (length t)) ≤ size
+        → d.asked deep c at emits (here size (37 ∷ 58 ∷ t))
+        ≡ d.call_as d.result_operand deep (in_braces c) at (size - suc (suc (length t))) (here size t)
+    result_on emits t e h = let f : size - suc (suc (length t)) + 1 + 1 ≡ size - length t = omega (arith, h) in rw (e, f) refl
+
+    -- a mark and a word without a star are read
+    pub marked_is : {t word q : List ℕ} {x : ℕ} (emits : Bool) (mark : ℕ) → is_mark mark ≡ true → IsQuoted is_word t (x ∷ word) q
+        → s.Stops (λ b. b == ascii.asterisk) q → suc (length t) ≤ size
+        → d.asked deep c at emits (here size (mark ∷ t)) ≡ Took (d.marked_operand mark (x ∷ word)) (here size q)
+    marked_is {t} emits mark e i g h = rw (mark_on emits mark t e h, quoted_is size i (omega (arith, h)), begins_not 42 g) refl
+
+    -- a pattern that begins with no mark is read as a test of a switch
+    pub switch_is : (emits : Bool) {t q : List ℕ} {p : Pattern} → s.Stops is_mark t → IsPattern t p q → length t ≤ size
+        → d.asked deep c at emits (here size t) ≡ Took (d.switch_operand p) (here size q)
+    switch_is emits {t} e i h = rw (switch_on emits t e (pattern_head no_percent i), pattern_is size at i h) refl
+
+    -- a test of what a function gives is read
+    pub result_is : ((c.levels - 1 == 0) ≡ false → ListReads size deep (in_arguments (in_braces c))) → (emits : Bool)
+        {t name q : List ℕ} {items : Items} → IsCall size (in_braces c) t name items q → suc (suc (length t)) ≤ size
+        → d.asked deep c at emits (here size (37 ∷ 58 ∷ t)) ≡ Took (d.result_operand name items) (here size q)
+    result_is reads emits {t} i h =
+        rw (result_on emits t (call_level i) h) (call_is d.result_operand deep at (size - suc (suc (length t))) reads i (omega (arith, h)))
+
+    -- what a test asks by the grammar is read, if no star follows it
+    pub asked_is : ((c.levels - 1 == 0) ≡ false → ListReads size deep (in_arguments (in_braces c))) → (emits : Bool)
+        {t q : List ℕ} {a : Asked} → IsAsked size (in_braces c) t a q → s.Stops (λ b. b == ascii.asterisk) q → length t ≤ size
+        → d.asked deep c at emits (here size t) ≡ Took (asked_operand a) (here size q)
+    asked_is reads emits (s.switch e i) g h = switch_is emits e i h
+    asked_is reads emits (s.suffix i) g h = marked_is emits 46 refl i g h
+    asked_is reads emits (s.language i) g h = marked_is emits 44 refl i g h
+    asked_is reads emits (s.result i) g h = result_is reads emits i h
+
+    -- `order` is the place of the test in the braces
+    module _ (order : Order) where
+      -- after white space and a `!` or none, Descent goes on with what the test asks, and knows where the test began
+      pub test_on : {t u v : List ℕ} {negated : Bool} → AreSpaces t u → IsSign u negated v → s.Stops is_white v → length t ≤ size
+          → d.one_test deep c at order (here size t) ≡ d.asked_from deep c at order (size - length u) negated (here size v)
+      test_on {u = u} sp sign w h =
+          let m = spaces_on size sp (sign_head sign w refl) h in rw (m.0, m.1) (signed sign w (omega (arith, spaces_shorter sp, h)))
+        where
+          signed : {u v : List ℕ} {negated : Bool} → IsSign u negated v → s.Stops is_white v → length u ≤ size
+              → d.signed deep c at order (here size u) ≡ d.asked_from deep c at order (size - length u) negated (here size v)
+          signed (s.plain_sign e) w l = rw (begins_not 33 e) refl
+          signed (s.not_sign {text} i) w l = let m = spaces_on size i w (omega (arith, l)) in rw (one size text l, m.0, m.1) refl
+
+      -- once what it asks is read, a test is read with white space and the byte after it
+      pub tried_is : {t u v w q : List ℕ} {negated : Bool} {o : Operand} {b : ℕ} → AreSpaces t u → IsSign u negated v → s.Stops is_white v
+          → d.asked deep c at (may_emit order negated) (here size v) ≡ Took o (here size w)
+          → AreSpaces w (b ∷ q) → is_white b ≡ false → length t ≤ size → length w ≤ size → d.one_test deep c at order (here size t)
+          ≡ Took (record { place = span (size - length u) (size - length w); negated = negated; operand = o; byte = b }) (here size (b ∷ q))
+      tried_is sp sign w e z white h l = let m = spaces_on size z (s.at_byte white) l in rw (test_on sp sign w h, e, m.0, m.1) refl
+
+    -- lists two levels deeper are read
+    module _ (reads : (c.levels - 1 == 0) ≡ false → ListReads size deep (in_arguments (in_braces c))) where
+      -- one turn of the loop over tests after a bar
+      abbrev pub bar_turn : Left → Read (Turn Tests)
+      bar_turn mid = then_read (d.one_test deep c at AtBar mid) (λ t end. d.test_turn at (d.decided at AtBar t) end)
+
+      -- tests give this: at the front of an alternative, and after a bar
+      abbrev pub GiveTests : List ℕ → Read Tests → Type 0
+      GiveTests t r = ((order : Order) → d.form deep c at order (here size t) ≡ mapped Alternative r) × Loops bar_turn (here size t) r
+
+      -- a test by the grammar
+      module _ {t u v w : List ℕ} {negated : Bool} {a : Asked} (sp : AreSpaces t u) (sign : IsSign u negated v)
+          (i : IsAsked size (in_braces c) v a w) (h : length t ≤ size) where
+        -- it is read with the byte after it, if this is no white space and no star
+        test_is : (order : Order) {q : List ℕ} {b : ℕ} → AreSpaces w (b ∷ q) → is_white b ≡ false → (b == ascii.asterisk) ≡ false
+            → d.one_test deep c at order (here size t) ≡ Took (record {
+              place = span (size - length u) (size - length w);
+              negated = negated;
+              operand = asked_operand a;
+              byte = b;
+            }) (here size (b ∷ q))
+        test_is order z white star =
+            let f : length v ≤ size = omega (arith, spaces_shorter sp, sign_shorter sign, h) in
+            tried_is order sp sign (asked_head no_white refl i)
+            (asked_is reads (may_emit order negated) i (unstarred_spaces z star) f) z white h (omega (arith, asked_shorter i, f))
+
+        -- where a colon follows, it is the last one
+        last_on : {q : List ℕ} → AreSpaces w (58 ∷ q)
+            → GiveTests t (Took (test (span (size - length u) (size - length w)) negated a no_test) (here size (58 ∷ q)))
+        last_on z = (
+          λ order. rw (test_is order z refl refl, asks a) refl,
+          loop_ends (λ goes. rw (test_is AtBar z refl refl, asks a) refl),
+        )
+
+        -- where a bar follows, Descent goes on with the tests after that
+        pub bar_on : {x : List ℕ} {r : Read Tests} → AreSpaces w (124 ∷ x) → Loops bar_turn (here size x) r
+            → GiveTests t (mapped (test (span (size - length u) (size - length w)) negated a) r)
+        bar_on {x} {r} z k = let f : suc (length x) ≤ length t =
+            omega (arith, spaces_shorter sp, sign_shorter sign, asked_shorter i, spaces_shorter z) in
+            let g : suc (length x) ≤ size = omega (arith, f, h) in let l : length x ≤ length x = omega arith in (
+              λ order. rw (test_is order z refl refl, asks a, one size x g, k.gives x l) (mapped_mapped _ _ r),
+              loop_goes (rw (test_is AtBar z refl refl, asks a, one size x g) refl) f k,
+            )
+
+      -- the tests of an alternative by the grammar are read
+      pub tests_are : {t q : List ℕ} {tests : Tests} → AreTests size (in_braces c) t tests q → length t ≤ size
+          → GiveTests t (Took tests (here size q))
+      tests_are (s.last_test {n} {m} {u = u} {w = w} sp x sign i y z) h =
+          let e : n ≡ size - length u = omega (arith, x) in let f : m ≡ size - length w = omega (arith, y) in
+          rw (e, f) (last_on sp sign i h z)
+      tests_are (s.next_test {n} {m} {u = u} {w = w} {x = v} sp x sign i y z o) h =
+          let e : n ≡ size - length u = omega (arith, x) in let f : m ≡ size - length w = omega (arith, y) in rw (e, f)
+          (bar_on sp sign i h z (tests_are o (omega (arith, spaces_shorter sp, sign_shorter sign, asked_shorter i, spaces_shorter z, h))).1)
+
+-- What the grammar says of patterns in braces, Descent makes of it. It serves the laws `spelled_is_read`, `front_is_unrefused` and
+-- `refusal_kinds`. A mark is the `.` or `,` that begins a test or a pattern. The numbers in the statements are bytes: 38 is &, 42 *, 125 }.
+
+-- the text begins with what may follow a pattern that is a mark alone
+pub data Follows : List ℕ → Type 0 where
+  follows : {b : ℕ} {q : List ℕ} → d.ends_bare b ≡ true → Follows (b ∷ q)
+
+-- white space and a byte that may end a pattern begin with what may follow one
+pub follow : {v w : List ℕ} {b : ℕ} → AreSpaces v (b ∷ w) → d.ends_bare b ≡ true → Follows v
+follow s.no_space e = follows e
+follow (s.space {b} h i) e = follows (rw (other is_white b 125 h refl, other is_white b 38 h refl, h) refl)
+
+-- a text of this size, in braces whose directive's % has the place `at`
+module _ (size at : ℕ) where
+  -- one turn of the loop over patterns after an ampersand
+  abbrev pub and_turn : Left → Read (Turn (List (Span × Pattern)))
+  and_turn mid = d.pattern_from at (past_white mid)
+
+  -- a pattern after an ampersand is read with white space around it, and Descent goes on by the byte after that
+  pub pattern_on : {t u v w : List ℕ} {p : Pattern} {b : ℕ} → AreSpaces t u → IsPattern u p v → AreSpaces v (b ∷ w) → is_white b ≡ false
+      → length t ≤ size → and_turn (here size t) ≡ d.pattern_turn at (span (size - length u) (size - length v), p) (here size (b ∷ w))
+  pattern_on {u = u} {v} sp i z white h =
+      let f : length u ≤ size = omega (arith, spaces_shorter sp, h) in let m = spaces_on size sp (pattern_head no_white i) h in
+      let x = spaces_on size z (s.at_byte white) (omega (arith, pattern_shorter i, f)) in
+      rw (m.0, m.1, pattern_is size at i f, x.0, x.1) refl
+
+  -- after a pattern and an ampersand, Descent goes on with the patterns after that
+  pub and_on : {t u v w : List ℕ} {p : Pattern} {r : Read (List (Span × Pattern))} → AreSpaces t u → IsPattern u p v
+      → AreSpaces v (38 ∷ w) → length t ≤ size → Loops and_turn (here size w) r
+      → Loops and_turn (here size t) (mapped (λ ps. (span (size - length u) (size - length v), p) ∷ ps) r)
+  and_on {t} {w = w} sp i z h k =
+      let f : suc (length w) ≤ length t = omega (arith, spaces_shorter sp, pattern_shorter i, spaces_shorter z) in
+      loop_goes (rw (pattern_on sp i z refl h, one size w (omega (arith, f, h))) refl) f k
+
+  -- in a list with the context c
+  module _ (deep : Lists) (c : ListContext) where
+    -- what Descent makes of a test at the front of braces
+    abbrev pub front : List ℕ → Read Operand
+    front t = d.asked deep c at true (here size t)
+
+    -- Descent reads what may be a test as something that may be this pattern
+    abbrev pub Operates : List ℕ → Pattern → List ℕ → Type 0
+    Operates u p v = (o : Operand) × (o.as_pattern ≡ Some p) × (front u ≡ Took o (here size v))
+
+    -- a mark alone, with what may follow it after it, is read as a pattern
+    pub bare_is : (mark b : ℕ) (q : List ℕ) → is_mark mark ≡ true → IsQuoted is_word (b ∷ q) [] (b ∷ q) → (b == ascii.asterisk) ≡ false
+        → d.ends_bare b ≡ true → length (mark ∷ b ∷ q) ≤ size → front (mark ∷ b ∷ q) ≡ Took (d.bare_operand mark) (here size (b ∷ q))
+    bare_is mark b q e i star f h = rw (mark_on size deep c at true mark (b ∷ q) e h, quoted_is size i (omega (arith, h)), star, f) refl
+
+    -- a mark and a word with a star are read as a starred pattern
+    pub starred_is : (mark : ℕ) {t q : List ℕ} (word : List ℕ) → is_mark mark ≡ true → IsQuoted is_word t word (42 ∷ q)
+        → suc (length t) ≤ size → front (mark ∷ t) ≡ Took (d.starred_operand mark word) (here size q)
+    starred_is mark {t} {q} word e i h =
+        let l : length t ≤ size = omega (arith, h) in
+        rw (mark_on size deep c at true mark t e h, quoted_is size i l) (by word (omega (arith, quoted_shorter i, l)))
       where
-        by : (rest : List ℕ) → s.Stops (λ b. b == ascii.exclamation_mark) rest → d.signed deep c at order n rest ≡ from n false n rest
-        by [] h = refl
-        by (b ∷ rest) (s.at_byte e) = rw e refl
-    signed_goes n (s.not_sign {text} {rest = v} i) w =
-        let m = spaces_to i w in
-        let white = prefix_len is_white text in
-        let z : n + 1 + white ≡ n + (1 + white) = omega arith in (
-          1 + white,
-          sym (drop-drop white 1 (33 ∷ text)) ∙ m.0,
-          omega (arith, m.1),
-          past_past 1 white (from n true (n + 1 + white) (drop white text))
-              ∙ ap (λ (t : List ℕ). past (1 + white) (from n true (n + 1 + white) t)) m.0
-              ∙ ap (λ (i : ℕ). past (1 + white) (from n true i v)) z,
+        by : (word : List ℕ) → suc (length q) ≤ size
+            → (if d.is_empty word then d.bare_end at true mark (here size (42 ∷ q)) 42 else d.marked_end at true mark word
+            (here size (42 ∷ q))) ≡ Took (d.starred_operand mark word) (here size q)
+        by [] k = rw (one size q k) refl
+        by (x ∷ word) k = rw (one size q k) refl
+
+    -- a pattern that begins with no mark is read at the front of braces
+    switch : {u v : List ℕ} {p : Pattern} → IsPattern u p v → s.Stops is_mark u → length u ≤ size → Operates u p v
+    switch {u} {p = p} i e h =
+        (d.switch_operand p, refl, rw (switch_on size deep c at true u e (pattern_head no_percent i), pattern_is size at i h) refl)
+
+    -- a starred pattern is read at the front of braces
+    pub starred_operates : {u v word : List ℕ} → IsQuoted is_word u word (42 ∷ v) → length u ≤ size → Operates u (pattern word true) v
+    starred_operates (s.quoted_stop e g) h = switch (s.starred (s.quoted_stop e g)) (s.at_byte refl) h
+    starred_operates (s.quoted_escape i) h = switch (s.starred (s.quoted_escape i)) (s.at_byte refl) h
+    starred_operates {v = v} (s.quoted_byte {b} {text = t} {run = word} e g i) h = by (is_mark b) refl
+      where
+        by : (z : Bool) → is_mark b ≡ z → Operates (b ∷ t) (pattern (b ∷ word) true) v
+        by true m = (d.starred_operand b word, refl, starred_is b word m i h)
+        by false m = switch (s.starred (s.quoted_byte e g i)) (s.at_byte m) h
+
+    -- a pattern is read at the front of braces, if what may follow a mark alone does
+    pub operates : {u v : List ℕ} {p : Pattern} → IsPattern u p v → Follows v → length u ≤ size → Operates u p v
+    operates (s.starred i) f h = starred_operates i h
+    operates (s.unstarred (s.quoted_escape i) e) f h = switch (s.unstarred (s.quoted_escape i) e) (s.at_byte refl) h
+    operates {v = v} (s.unstarred (s.quoted_byte {b} {text = t} {run = word} y g i) e) f h = by (is_mark b) refl
+      where
+        bare : {t v : List ℕ} → Follows v → is_mark b ≡ true → IsQuoted is_word t [] v → s.Stops (λ x. x == ascii.asterisk) v
+            → suc (length t) ≤ size → Operates (b ∷ t) (pattern (b ∷ []) false) v
+        bare (follows {b = x} {q} k) m (s.quoted_stop n o) (s.at_byte e) l =
+            (d.bare_operand b, refl, bare_is b x q m (s.quoted_stop n o) e k l)
+
+        marked : (w : List ℕ) → is_mark b ≡ true → IsQuoted is_word t w v → Operates (b ∷ t) (pattern (b ∷ w) false) v
+        marked [] m i = bare f m i e h
+        marked (x ∷ w) m i = (d.marked_operand b (x ∷ w), refl, marked_is size deep c at true b m i e h)
+
+        by : (z : Bool) → is_mark b ≡ z → Operates (b ∷ t) (pattern (b ∷ word) false) v
+        by true m = marked word m i
+        by false m = switch (s.unstarred (s.quoted_byte y g i) e) (s.at_byte m) h
+
+    -- Descent reads a test at the front of braces that may be this pattern, and the byte after it
+    abbrev pub Emitting : List ℕ → List ℕ → List ℕ → Pattern → ℕ → List ℕ → Type 0
+    Emitting t u v p b q = (o : Operand) × (o.as_pattern ≡ Some p) × (d.one_test deep c at AtFront (here size t) ≡ Took (record {
+      place = span (size - length u) (size - length v);
+      negated = false;
+      operand = o;
+      byte = b;
+    }) (here size (b ∷ q)))
+
+    -- what is read as a pattern is read as one with white space around it and the byte after it
+    pub emitting : {t u v q : List ℕ} {p : Pattern} {b : ℕ} → AreSpaces t u → IsPattern u p v → Operates u p v → AreSpaces v (b ∷ q)
+        → is_white b ≡ false → length t ≤ size → Emitting t u v p b q
+    emitting {v = v} sp i m z white h =
+        let g : length v ≤ size = omega (arith, spaces_shorter sp, pattern_shorter i, h) in (
+          m.0,
+          m.1,
+          tried_is size deep c at AtFront sp (s.plain_sign (pattern_head no_sign i)) (pattern_head no_white i) m.2 z white h g,
         )
 
-    -- after white space and a `!` or none, Descent goes on with what the test asks, and knows where the test began
-    pub test_goes : {t u v : List ℕ} {negated : Bool} (n : ℕ) → AreSpaces t u → IsSign u negated v → s.Stops is_white v
-        → (start : ℕ) × (k : ℕ) × (drop k t ≡ v) × (length t ≡ k + length v) × (n + length t ≡ start + length u)
-        × (d.one_test deep c at order n t ≡ past k (from start negated (n + k) v))
-    test_goes {t} {u} {v} {negated} n sp sign w =
-        let m = spaces_to sp (sign_white sign w) in
-        let white = prefix_len is_white t in
-        let z = signed_goes (n + white) sign w in
-        let e : n + white + z.0 ≡ n + (white + z.0) = omega arith in (
-          n + white,
-          white + z.0,
-          sym (drop-drop z.0 white t) ∙ ap (λ (x : List ℕ). drop z.0 x) m.0 ∙ z.1,
-          omega (arith, m.1, z.2),
-          omega (arith, m.1),
-          ap (λ (x : List ℕ). past white (d.signed deep c at order (n + white) x)) m.0 ∙ ap (λ r. past white r) z.3
-              ∙ past_past white z.0 (from (n + white) negated (n + white + z.0) v)
-              ∙ ap (λ (i : ℕ). past (white + z.0) (from (n + white) negated i v)) e,
+    -- patterns give this: at the front of braces, and after an ampersand
+    abbrev pub GiveEmits : List ℕ → Read (List (Span × Pattern)) → Type 0
+    GiveEmits t r = (d.form deep c at AtFront (here size t) ≡ mapped Patterns r) × Loops and_turn (here size t) r
+
+    -- after a pattern and an ampersand, Descent goes on with the patterns after that
+    pub emits_on : {t u v w : List ℕ} {p : Pattern} {r : Read (List (Span × Pattern))} → AreSpaces t u → IsPattern u p v
+        → AreSpaces v (38 ∷ w) → length t ≤ size → Loops and_turn (here size w) r
+        → GiveEmits t (mapped (λ ps. (span (size - length u) (size - length v), p) ∷ ps) r)
+    emits_on {u = u} {w = w} {r = r} sp i z h k =
+        let m = emitting sp i (operates i (follow z refl) (omega (arith, spaces_shorter sp, h))) z refl h in (
+          rw (m.2, m.1, one size w (omega (arith, spaces_shorter sp, pattern_shorter i, spaces_shorter z, h)), k.gives w (omega arith))
+              (mapped_mapped _ _ r),
+          and_on sp i z h k,
         )
 
-    -- once what it asks is read, a test with white space and the byte after it is read
-    pub from_reads : (start : ℕ) (negated : Bool) (n : ℕ) {v w q : List ℕ} {o : Operand} {b : ℕ}
-        → (m : Reads (d.asked deep c at (may_emit order negated) n v) v o w) → AreSpaces w (b ∷ q) → is_white b ≡ false
-        → Reads (from start negated n v) v (record { place = span start (n + m.size); negated = negated; operand = o; byte = b }) (b ∷ q)
-    from_reads start negated n {o = o} m sp h =
-        reads_after (λ o k t. d.ended at (span start (n + k)) negated o t) m (end_reads at (span start (n + m.size)) negated o sp h)
-
-    -- where the text ends after what a test asks, the braces are not closed
-    pub from_ends : (start : ℕ) (negated : Bool) (n : ℕ) {v w : List ℕ} {o : Operand}
-        → Reads (d.asked deep c at (may_emit order negated) n v) v o w → AreSpaces w [] → from start negated n v ≡ Ends at
-    from_ends start negated n {v} {w} {o} m sp = cc (m.is, m.left, no_end at (span start (n + m.size)) negated o sp)
-
-    -- tests begin with one test, and go on by the byte after it, also where the text has no byte
-    tests_open : (n : ℕ) (t : List ℕ) → d.tests deep c at order n 0 t
-        ≡ then_read (d.one_test deep c at order n t) (λ tr k.
-        d.test_go (d.after at order tr) n k (d.patterns at n (suc k) t) (d.tests deep c at AtBar n (suc k) t))
-    tests_open n [] = refl
-    tests_open n (b ∷ t) = refl
-
-    -- once the first test is read, the tests give what the byte after it leads to
-    pub tests_go : (n : ℕ) {t x : List ℕ} {tr : Tried} {b : ℕ} (m : Reads (d.one_test deep c at order n t) t tr (b ∷ x))
-        → d.tests deep c at order n 0 t
-        ≡ d.test_go (d.after at order tr) n m.size (d.patterns at (n + suc m.size) 0 x) (d.tests deep c at AtBar (n + suc m.size) 0 x)
-    tests_go n {t} {x} {tr} m =
-        let e = byte_next t m.size m.left m.fits in
-        cc (
-          tests_open n t,
-          m.is,
-          skipped (λ (i k : ℕ) (u : List ℕ). d.patterns at i k u) (λ i k b u. refl) n (suc m.size) t x e.0 e.1,
-          skipped (λ (i k : ℕ) (u : List ℕ). d.tests deep c at AtBar i k u) (λ i k b u. refl) n (suc m.size) t x e.0 e.1,
-        )
-
-    -- the tests fail as the first of them does
-    pub tests_fail : (f : Failure) (n : ℕ) (t : List ℕ) → d.one_test deep c at order n t ≡ failed f
-        → d.tests deep c at order n 0 t ≡ failed f
-    tests_fail f n t e = tests_open n t ∙ then_fails f (λ tr k.
-        d.test_go (d.after at order tr) n k (d.patterns at n (suc k) t) (d.tests deep c at AtBar n (suc k) t)) e
-
-    -- Descent reads this test from its white space up to this byte after it, and these are the places where it begins and ends
-    pub record Asking (n : ℕ) (t u w : List ℕ) (negated : Bool) (a : Asked) (b : ℕ) (q : List ℕ) : Type 0 where
-      pub first : ℕ
-      pub last : ℕ
-      pub begins : n + length t ≡ first + length u
-      pub ends : n + length t ≡ last + length w
-      pub reads : Reads (d.one_test deep c at order n t) t
-          (record { place = span first last; negated = negated; operand = asked_operand a; byte = b }) (b ∷ q)
-
-    -- a test by the grammar is read up to the byte after it, if this is no white space and no star
-    pub asking : {size : ℕ} → ((c.levels - 1 == 0) ≡ false → ListReads size deep (in_arguments (in_braces c)))
-        → {t u v w q : List ℕ} {negated : Bool} {a : Asked} {b : ℕ} (n : ℕ) → AreSpaces t u → IsSign u negated v
-        → IsAsked size (in_braces c) v a w → AreSpaces w (b ∷ q) → is_white b ≡ false → (b == ascii.asterisk) ≡ false
-        → At size n t → Asking n t u w negated a b q
-    asking ih {t} {negated = negated} n sp sign i z white star place =
-        let g = test_goes n sp sign (asked_head no_white refl i) in
-        let o = asked_reads ih (may_emit order negated) (n + g.1) i (unstarred_spaces z star) (omega (arith, place, g.3)) in
-        record {
-          first = g.0;
-          last = n + g.1 + o.size;
-          begins = g.4;
-          ends = omega (arith, g.3, o.fits);
-          reads = reads_as g.5 (reads_past g.1 t g.2 g.3 (from_reads g.0 negated (n + g.1) o z white));
-        }
-
-    -- the last test, and one before a bar
-
-    -- a test with a colon after it is read as an alternative with this test alone
-    pub last_reads : {n : ℕ} {t u w q : List ℕ} {negated : Bool} {a : Asked} (k : Asking n t u w negated a 58 q)
-        → Reads (d.tests deep c at order n 0 t) t (Alternative (span k.first k.last) negated a no_test) (58 ∷ q)
-    last_reads {n} {q = q} {negated} {a} k =
-        let m = k.reads in
-        record {
-          size = m.size;
-          is = tests_go n m
-              ∙ ap (λ x. d.test_go (d.as_test at (asked_operand a).bare x (d.Asks (span k.first k.last) negated)) n m.size
-              (d.patterns at (n + suc m.size) 0 q) (d.tests deep c at AtBar (n + suc m.size) 0 q)) (asks a);
-          left = m.left;
-          fits = m.fits;
-        }
-
-    -- after a test and a bar, Descent goes on with the tests after the bar
-    pub next_goes : {n : ℕ} {t u w q : List ℕ} {negated : Bool} {a : Asked} (k : Asking n t u w negated a 124 q)
-        → d.tests deep c at order n 0 t ≡ then_read (d.tests deep c at AtBar (n + suc k.reads.size) 0 q)
-        (λ form size. Took (d.with_test (span k.first k.last) negated a form) (k.reads.size + 1 + size))
-    next_goes {n} {q = q} {negated} {a} k =
-        let m = k.reads in
-        cc (tests_go n m, asks a)
-
-    -- a test, a bar and the tests after it are read as the tests of one alternative
-    pub next_reads : {n : ℕ} {t u w q rest : List ℕ} {negated : Bool} {a : Asked} {form : Form}
-        (k : Asking n t u w negated a 124 q) → Reads (d.tests deep c at AtBar (n + suc k.reads.size) 0 q) q form rest
-        → Reads (d.tests deep c at order n 0 t) t (d.with_test (span k.first k.last) negated a form) rest
-    next_reads {t = t} {negated = negated} {a} k m =
-        let e = byte_next t k.reads.size k.reads.left k.reads.fits in
-        record {
-          size = k.reads.size + 1 + m.size;
-          is = next_goes k
-              ∙ ap (λ r. then_read r (λ form size. Took (d.with_test (span k.first k.last) negated a form) (k.reads.size + 1 + size))) m.is;
-          left = beyond t k.reads.size m.size e.0 m.left;
-          fits = omega (arith, e.1, m.fits);
-        }
-
-  -- the tests of an alternative by the grammar are read, up to their colon
-  pub tests_read : {size : ℕ} → ((c.levels - 1 == 0) ≡ false → ListReads size deep (in_arguments (in_braces c))) → (order : Order)
-      {t mid : List ℕ} {tests : Tests} (n : ℕ) → AreTests size (in_braces c) t tests (58 ∷ mid) → At size n t
-      → Reads (d.tests deep c at order n 0 t) t (form_of tests) (58 ∷ mid)
-  tests_read {size} ih order {t} {mid} n (s.last_test {n = first} {m = last} {negated = negated} {asked = a} sp x sign i y z) place =
-      let k = asking order ih n sp sign i z refl refl place in
-      let f : k.first ≡ first = omega (arith, place, x, k.begins) in
-      let g : k.last ≡ last = omega (arith, place, y, k.ends) in
-      rw (← f, ← g) (last_reads order k)
-  tests_read {size} ih order {t} {mid} n (s.next_test {n = first} {m = last} {negated} {asked = a} {tests = others} sp x sign i y z o)
-      place =
-      let k = asking order ih n sp sign i z refl refl place in
-      let e = byte_next t k.reads.size k.reads.left k.reads.fits in
-      let more = tests_read ih AtBar (n + suc k.reads.size) o (omega (arith, place, e.1)) in
-      let f : k.first ≡ first = omega (arith, place, x, k.begins) in
-      let g : k.last ≡ last = omega (arith, place, y, k.ends) in
-      rw (← f, ← g) (subst (λ (v : Form). Reads (d.tests deep c at order n 0 t) t v (58 ∷ mid)) (one_more (span k.first k.last) negated a o)
-      (next_reads order k more))
+    -- patterns by the grammar are read
+    pub emits_are : {t q : List ℕ} {ps : List (Span × Pattern)} → ArePatterns size t ps q → length t ≤ size
+        → GiveEmits t (Took ps (here size (125 ∷ q)))
+    emits_are (s.last_pattern {n} {m} {u = u} {v} sp x i y z) h =
+        let e : n ≡ size - length u = omega (arith, x) in let f : m ≡ size - length v = omega (arith, y) in
+        let o = emitting sp i (operates i (follow z refl) (omega (arith, spaces_shorter sp, h))) z refl h in
+        rw (e, f) (rw (o.2, o.1) refl, loop_ends (λ goes. rw (pattern_on sp i z refl h) refl))
+    emits_are (s.next_pattern {n} {m} {u = u} {v} {w} sp x i y z o) h =
+        let e : n ≡ size - length u = omega (arith, x) in let f : m ≡ size - length v = omega (arith, y) in
+        rw (e, f) (emits_on sp i z h (emits_are o (omega (arith, spaces_shorter sp, pattern_shorter i, spaces_shorter z, h))).1)

@@ -1,9 +1,8 @@
 use Rattle.drv_syntax.proofs.FlatNodes.{flat_both}
-use Rattle.drv_syntax.proofs.Writing.{or_none, parts_of}
 use Rattle.drv_syntax.specs.Code.Lists.{closed_at, list_written, owned_here}
 use Rattle.drv_syntax.specs.Code.Tests.{opened}
 use Rattle.drv_syntax.specs.Code.Tokens.{open_token, whole_token}
-use Rattle.drv_syntax.specs.Code.Writing.{Parts, Reading, flat, item_written, wrote}
+use Rattle.drv_syntax.specs.Code.Writing.{Parts, Reading, flat, item_written, leafed, wrote}
 use Rattle.drv_syntax.specs.Labels.{Label, Nodes, both, inner_nodes, label_of, labels, no_node, node, nodes_of, star_label}
 use Rattle.drv_syntax.specs.Spelling.{span}
 use Rattle.drv_syntax.specs.Stars.{has_star, item_has_star}
@@ -21,6 +20,22 @@ use Rattle.std.proofs.Math.Seq.{set-append_seam}
 -- What is written of parts that follow one another, and of those that hold others. It serves the reader's `call`, `braces`, `result` and
 -- `close_choice`. `wrote nodes holds z` is z with the tokens and labels of these parts after its own (specs/Code/Writing). `holds` says
 -- that they have a %* of an X.
+
+-- parts of these tokens and labels, with or without a %* of their X
+abbrev pub parts_of : List Token → List Label → Bool → Parts
+parts_of tokens labels holds = record { tokens = tokens; labels = labels; holds = holds }
+
+-- b or false is b
+or_none : (b : Bool) → (b || false) ≡ b
+or_none true = refl
+or_none false = refl
+
+-- a part without parts inside it is written as one token and one label
+pub leaf_is : (kind : TokenKind) (label : Label) (start end : ℕ) (z : Parts)
+    → wrote (node kind label (span start end) no_node no_node) false z ≡ leafed kind label start end z
+leaf_is kind label start end z =
+    let m : length z.tokens + 1 + 0 ≡ length z.tokens + 1 = omega arith in
+    cc (m, or_none z.holds)
 
 -- parts of equal fields are equal
 same_parts : {ts us : List Token} {xs ys : List Label} {a b : Bool} → ts ≡ us → xs ≡ ys → a ≡ b → parts_of ts xs a ≡ parts_of us ys b

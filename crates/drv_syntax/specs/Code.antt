@@ -1,6 +1,5 @@
 -- How the code goes over its input, step by step: what links the code with the definitions. No public contract rests on these.
 pub mod Ending
-pub mod Left
 pub mod Lists
 pub mod Marks
 pub mod Parts

@@ -11,6 +11,7 @@ pub mod Outcome
 pub mod Parsed
 pub mod PlainRuns
 pub mod Refusals
+pub mod Rest
 pub mod Spelling
 pub mod Stars
 pub mod Tokens

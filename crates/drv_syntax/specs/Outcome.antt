@@ -28,7 +28,7 @@ depth (b ∷ text) = depth text
 
 -- what a text gives by the functions of Descent: its items from the place 0 on, as a whole text
 abbrev pub descent : List ℕ → Out
-descent text = outcome ((levels (depth text)).0 top 0 text)
+descent text = outcome ((levels (depth text)).0 top (record { at = 0; bytes = text }))
 
 -- what a text gives; that the grammar of Spelling gives it too is proved by the laws (src/laws.rt)
 abbrev pub read : List ℕ → Out

@@ -67,6 +67,9 @@ impl Model for Labels {
     ghost invariant = { λ l. Within (length l.words.items) l.marks.items };
 }
 
+/// The room that the words of a text may have beyond them, in bytes.
+const KEPT_ROOM: usize = 64;
+
 /// A place among the words of a text. The words of a text have its bytes at most, so it is small.
 #[inline(always)]
 fn place_of(size: usize) -> Result<u32, SyntaxFault>
@@ -121,6 +124,7 @@ impl Labels {
 
     /// One more, which names this word.
     #[tactic(auto, using(crate::proofs::MarkedWords::within_more, crate::proofs::MarkedWords::within_push, crate::proofs::MarkedWords::labels_added))]
+    #[inline(always)]
     pub fn push(&mut self, word: &[u8], naming: Naming) -> Result<(), SyntaxFault>
         ensures { Gives SyntaxFault.Memory (λ _. self.new) result (Ok (self.old
             ++ part_label word.now naming.starred naming.negated naming.asks ∷ [])) }
@@ -234,11 +238,14 @@ impl Labels {
         }
     }
 
-    /// Gives back the room that none of them takes.
+    /// Gives back the room that none of them takes, but for some bytes of the words: to give those back
+    /// takes more time than they are worth.
     pub fn shrink(&mut self)
         ensures { self.new ≡ self.old }
     {
-        self.words.shrink_to_fit();
+        if self.words.capacity().saturating_sub(self.words.len()) > KEPT_ROOM {
+            self.words.shrink_to_fit();
+        }
         self.marks.shrink_to_fit();
     }
 

@@ -1,23 +1,19 @@
-use Rattle.drv_words.specs.Bytes as ascii
-use Rattle.drv_syntax.specs.Bytes.{is_blank}
-use Rattle.drv_syntax.specs.Code.Left.{Left, after}
+use Rattle.drv_syntax.specs.Rest.{Left, after}
 use Rattle.drv_syntax.specs.Code.Marks.{byte_labels}
 use Rattle.drv_syntax.specs.Code.Runs.{runs}
 use Rattle.drv_syntax.specs.Code.Tests.{choice_here, opened}
 use Rattle.drv_syntax.specs.Code.Tokens.{plain_tokens, whole_token}
-use Rattle.drv_syntax.specs.Code.Writing.{Parts, Reading, at_rest, given, hidden, item_given, item_written, kind_seen, leaf_here, open_at}
+use Rattle.drv_syntax.specs.Code.Writing.{Parts, Reading, at_rest, given, item_given, item_on, item_written, kind_seen, leaf_here, open_at}
 use Rattle.drv_syntax.specs.Code.Writing.{wrote}
-use Rattle.drv_syntax.specs.Code.Left.{first_of}
-use Rattle.drv_syntax.specs.Contexts.{InArguments, InX, Kind, ListContext, Mixed, Nobody, Owner, Starred, Top, newline_in}
+use Rattle.drv_syntax.specs.Rest.{first_of}
+use Rattle.drv_syntax.specs.Contexts.{InArguments, InX, Kind, ListContext, Mixed, Nobody, Owner, Starred, Top}
 use Rattle.drv_syntax.specs.Descent as d
-use Rattle.drv_syntax.specs.Descent.{Lists, Read, levels, no_lists}
-use Rattle.drv_syntax.specs.Labels.{Label, alternative_label, both, no_label, node, no_node, nodes_of, star_label, test_nodes, word_label}
+use Rattle.drv_syntax.specs.Descent.{Lists, Read, levels, no_lists, within}
+use Rattle.drv_syntax.specs.Labels.{Label, alternative_label, both, no_label, node, no_node, nodes_of, star_label, test_nodes}
 use Rattle.drv_syntax.specs.Spelling.{span}
 use Rattle.drv_syntax.specs.Stars.{tests_have_star}
-use Rattle.drv_syntax.specs.Tokens.{kind_of}
 use Rattle.drv_syntax.specs.Tree as tree
 use Rattle.drv_syntax.specs.Tree.{Brace, Choices, Item, Items, Leaf, Span, BuiltinText, choice, more, no_choice, none}
-use Rattle.drv_syntax.specs.Directives.{text_of}
 use Rattle.drv_syntax.specs.Code.Tests.{added, patterns_written}
 use Rattle.drv_syntax.specs.declared.descent.lists.Inside as inside_code
 use Rattle.drv_syntax.specs.declared.descent.lists.Inside.TheVariants as insides
@@ -27,7 +23,7 @@ use Rattle.drv_syntax.specs.declared.directives.BraceKind.TheVariants.{InPlace, 
 use Rattle.drv_syntax.specs.declared.directives.BraceKind.{BraceKind}
 use Rattle.drv_syntax.specs.declared.directives.Directive.TheVariants as directives
 use Rattle.drv_syntax.specs.declared.directives.Directive.{Directive}
-use Rattle.drv_syntax.specs.declared.fault.SyntaxFault.TheVariants.{BadDirective, MixedStar, StarOutside, Unclosed}
+use Rattle.drv_syntax.specs.declared.fault.SyntaxFault.TheVariants.{Unclosed}
 use Rattle.drv_syntax.specs.declared.fault.SyntaxFault.{SyntaxFault}
 use Rattle.drv_syntax.specs.declared.descent.contexts.ListContext as code
 use Rattle.drv_syntax.specs.declared.descent.contexts.ListKind.{ListKind}
@@ -37,8 +33,8 @@ use Rattle.drv_syntax.specs.declared.descent.contexts.StarOwner.{StarOwner}
 use Rattle.drv_syntax.specs.declared.token.TokenKind.TheVariants as kinds
 use Rattle.drv_syntax.specs.declared.token.TokenKind.{TokenKind}
 use Rattle.std.specs.List.{prefix_len}
-use Rattle.std.specs.Prelude.{◌≡◌, ◌==◌, ◌+◌, ◌++◌, Bool, false, true, if◌then◌else◌, List, [], ◌∷◌, Err, None, Ok, Option, Result, Some}
-use Rattle.std.specs.Prelude.{drop, length}
+use Rattle.std.specs.Prelude.{◌≡◌, ◌+◌, ◌++◌, Bool, false, true, if◌then◌else◌, List, [], ◌∷◌, Err, None, Ok, Option, Result, Some}
+use Rattle.std.specs.Prelude.{length}
 use Rattle.std.specs.Prelude.{slice_set, suc, take, zero, ℕ}
 
 -- What the code writes of lists of items, and of what holds them: for the clauses of src/descent/lists.rt, src/descent/simple.rt and
@@ -88,21 +84,6 @@ around (suc level) = levels level
 abbrev pub byte_here : TokenKind → Label → Reading → Reading
 byte_here kind label v = leaf_here kind label v.rest.at (at_rest (after 1 v.rest) v)
 
--- writes a %* whose % has the place at, or refuses it by the owner around it
-abbrev pub star_given : Owner → ℕ → Reading → Result Reading SyntaxFault
-star_given Nobody at v = Err (StarOutside at)
-star_given Mixed at v = Err (MixedStar at)
-star_given Starred at v =
-    Ok (record {
-      rest = v.rest;
-      parts = record {
-        tokens = v.parts.tokens ++ whole_token kinds.Star at v.rest.at (length v.parts.tokens + 1)
-            ∷ [];
-        labels = v.parts.labels ++ no_label ∷ [];
-        holds = true;
-      };
-    })
-
 -- the directive holds no list: `directive` of simple.rt reads it, and lists.rt the others
 abbrev pub is_simple : Directive → Bool
 is_simple directives.WithCall = false
@@ -110,52 +91,9 @@ is_simple directives.WithBraces = false
 is_simple (directives.WithMarkedBraces kind) = false
 is_simple _ = true
 
--- a directive that holds no list, by what its byte says; its % has the place at
-abbrev pub simple_given : Option ℕ → ListContext → ℕ → Directive → Reading → Result Reading SyntaxFault
-simple_given outer c at directives.Nowhere v = Err (BadDirective at)
-simple_given outer c at (directives.Whole leaf) v = Ok (leaf_here (kinds.Leaf leaf) no_label at v)
-simple_given outer c at (directives.Named letter) v = Ok (leaf_here kinds.BuiltinText (word_label (text_of letter)) at v)
-simple_given outer c at (directives.WithSuffix kind) v = item_given outer at v (d.suffix kind v.rest.at v.rest.bytes)
-simple_given outer c at directives.WithOption v = item_given outer at v (d.option at v.rest.at v.rest.bytes)
-simple_given outer c at (directives.WithSaying kind) v = item_given outer at v (d.saying c.kind kind v.rest.at v.rest.bytes)
-simple_given outer c at directives.WithName v = item_given outer at v (d.named at v.rest.at v.rest.bytes)
-simple_given outer c at directives.WithPattern v = item_given outer at v (hidden at v.rest.at v.rest.bytes)
-simple_given outer c at directives.OfStar v = star_given c.owner at v
-simple_given outer c at directives.WithCall v = Err (BadDirective at)
-simple_given outer c at directives.WithBraces v = Err (BadDirective at)
-simple_given outer c at (directives.WithMarkedBraces kind) v = Err (BadDirective at)
-
 -- what a list ends with right after an item that is no white space: here
 abbrev pub tail_at : Reading → Tail
 tail_at v = record { kept = v.rest.at; tokens = length v.parts.tokens; labels = length v.parts.labels; end = 0 }
-
--- writes an escape by its second byte; without that the text ends in the escape
-abbrev pub second_given : Option ℕ → Reading → List ℕ → Result Reading SyntaxFault
-second_given outer v [] = Err (Unclosed (open_at outer v.rest.at))
-second_given outer v (b ∷ text) = Ok (leaf_here kinds.Escape (word_label (b ∷ [])) v.rest.at (at_rest (after 2 v.rest) v))
-
--- writes the escape whose backslash comes next
-abbrev pub escape_given : Option ℕ → Reading → Result Reading SyntaxFault
-escape_given outer v = second_given outer v (drop 1 v.rest.bytes)
-
--- writes an item that is no directive and no white space: an escape, a bar or a plain byte
-abbrev pub single_given : Option ℕ → Bool → ℕ → Reading → Result Reading SyntaxFault
-single_given outer in_arguments b v =
-    if b == ascii.backslash then escape_given outer v
-    else if b == ascii.bar then Ok (if in_arguments then byte_here kinds.Plain (word_label (b ∷ [])) v else byte_here kinds.Pipe no_label v)
-    else Ok (byte_here kinds.Plain (word_label (b ∷ [])) v)
-
--- with what the list then ends with: here, for the item was no white space
-abbrev pub with_tail : Result Reading SyntaxFault → Result (Tail × Reading) SyntaxFault
-with_tail (Ok v) = Ok (tail_at v, v)
-with_tail (Err fault) = Err fault
-
--- writes an item that is no directive, and gives what the list then ends with; white space doesn't change that
-abbrev pub byte_given : Option ℕ → Bool → ℕ → Tail → Reading → Result (Tail × Reading) SyntaxFault
-byte_given outer in_arguments b tail v =
-    if is_blank b then Ok (tail, byte_here kinds.Blank no_label v)
-    else if b == ascii.newline then Ok (tail, byte_here (kind_of (newline_in in_arguments)) no_label v)
-    else with_tail (single_given outer in_arguments b v)
 
 -- writes so many plain bytes, which come next
 abbrev pub run_after : ℕ → Reading → Reading
@@ -206,11 +144,18 @@ tail_on tail (more s item items) z =
 abbrev pub with_end : Tail → ℕ → Tail
 with_end tail end = record { kept = tail.kept; tokens = tail.tokens; labels = tail.labels; end = end }
 
+-- writes an item, and gives what the list ends with after it
+abbrev pub item_ended : Tail → Reading → Item → Left → Tail × Reading
+item_ended tail v one end =
+    (tail_after one tail end.at (item_written v.rest.at one end.at v.parts), item_on v.rest.at v.parts one end)
+
 -- writes the items of a list that was read up to its end byte, and gives what the list ends with
+abbrev pub listed_on : Tail → Parts → Items × ℕ → Left → Tail × Reading
+listed_on tail z list rest = (with_end (tail_on tail list.0 z) list.1, record { rest = rest; parts = list_written list.0 z })
+
+-- writes the items of a list, or gives its fault
 abbrev pub listed_given : Option ℕ → Tail → Reading → Read (Items × ℕ) → Result (Tail × Reading) SyntaxFault
-listed_given outer tail v read =
-    given outer v.rest
-    (λ list rest. (with_end (tail_on tail list.0 v.parts) list.1, record { rest = rest; parts = list_written list.0 v.parts })) read
+listed_given outer tail v read = given outer (listed_on tail v.parts) read
 
 -- at the end of a text: a whole text's list is complete, and its end byte is 0. Any other list isn't closed, and the fault names the
 -- outermost open directive, or else n, the place here.
@@ -274,14 +219,14 @@ unheld z = record { tokens = z.tokens; labels = z.labels; holds = false }
 -- writes the X of an alternative, which begins here, and gives the byte that ends it
 abbrev pub x_given : Option ℕ → ℕ → Choice → Reading → Read (Items × ℕ) → Result (ℕ × Reading) SyntaxFault
 x_given outer at c v read =
-    given (Some (open_at outer at)) v.rest
+    given outer
     (λ list rest. (
       list.1,
       record {
         rest = after 1 rest;
         parts = owned_at c (tail_on (tail_at v) list.0 (unheld v.parts)) v.parts.holds (list_written list.0 (unheld v.parts));
       },
-    )) read
+    )) (within at read)
 
 -- the inside of braces
 
@@ -302,16 +247,11 @@ brace_on z (tree.Choose choices) rest = (insides.Choices, record { rest = rest; 
 
 -- writes the inside of braces that was read, or gives its fault
 abbrev pub brace_given : Option ℕ → Reading → Read Brace → Result (inside_code.Inside × Reading) SyntaxFault
-brace_given outer v read = given outer v.rest (λ brace rest. brace_on v.parts brace rest) read
-
--- writes alternatives after the first; patterns can't be there, and count as nothing
-abbrev pub later_on : Parts → Brace → Left → Reading
-later_on z (tree.Emit ps) rest = record { rest = rest; parts = z }
-later_on z (tree.Choose choices) rest = record { rest = rest; parts = choices_written choices z }
+brace_given outer v read = given outer (brace_on v.parts) read
 
 -- writes alternatives after the first that were read, or gives their fault
-abbrev pub later_given : Option ℕ → Reading → Read Brace → Result Reading SyntaxFault
-later_given outer v read = given outer v.rest (λ brace rest. later_on v.parts brace rest) read
+abbrev pub later_given : Option ℕ → Reading → Read Choices → Result Reading SyntaxFault
+later_given outer v read = given outer (λ choices rest. record { rest = rest; parts = choices_written choices v.parts }) read
 
 -- the kind of a token of braces, by what is before them and what they hold
 abbrev pub brace_kind : BraceKind → inside_code.Inside → TokenKind
@@ -328,10 +268,8 @@ result_on so_far start negated z None rest = choice_here (added so_far z (span s
 -- writes a test of a function's result that was read, from its percent sign on, or gives its fault
 abbrev pub result_given : Option ℕ → Option Choice → ℕ → Bool → Reading → Read d.Operand → Result (Choice × Reading) SyntaxFault
 result_given outer so_far start negated v read =
-    given outer (after 1 v.rest) (λ o rest. result_on so_far start negated v.parts o.as_test rest) read
+    given outer (λ o rest. result_on so_far start negated v.parts o.as_test rest) read
 
 -- writes the directive whose percent sign comes next, in a list with this context, or gives its fault
 abbrev pub directive_given : Option ℕ → ListContext → Lists × Lists → Reading → Result Reading SyntaxFault
-directive_given outer c lists v =
-    given outer (after 1 v.rest) (λ item rest. record { rest = rest; parts = item_written v.rest.at item rest.at v.parts })
-    (d.directive lists.0 lists.1 c v.rest.at (drop 1 v.rest.bytes))
+directive_given outer c lists v = item_given outer v.rest.at v (d.directive lists.0 lists.1 c v.rest.at (after 1 v.rest))

@@ -1,6 +1,6 @@
 use Rattle.drv_words.specs.Bytes as ascii
 use Rattle.drv_syntax.specs.Bytes.{is_white}
-use Rattle.drv_syntax.specs.Code.Left.{Left, after}
+use Rattle.drv_syntax.specs.Rest.{Left, after, begins_with, by_byte, first_of, past_white}
 use Rattle.drv_syntax.specs.Code.Tokens.{open_token}
 use Rattle.drv_syntax.specs.Code.Writing.{Parts, Reading, at_rest, given, leaf_until, leafed, open_at, spelled, wrote}
 use Rattle.drv_syntax.specs.Descent as d
@@ -9,7 +9,8 @@ use Rattle.drv_syntax.specs.Labels.{Label, asked_nodes, no_label, no_node, node,
 use Rattle.drv_syntax.specs.Refusals as refusals
 use Rattle.drv_syntax.specs.Spelling.{span}
 use Rattle.drv_syntax.specs.Stars.{asked_has_star}
-use Rattle.drv_syntax.specs.Tree.{Asked, HasLanguage, HasResult, HasSuffix, HasSwitch, Pattern, Span, Tests, no_test, pattern, test}
+use Rattle.drv_syntax.specs.Tree.{Asked, HasLanguage, HasResult, HasSuffix, HasSwitch, Pattern, Span, Tests, first_place, no_test, pattern}
+use Rattle.drv_syntax.specs.Tree.{test}
 use Rattle.drv_syntax.specs.declared.descent.lists.Form as code
 use Rattle.drv_syntax.specs.declared.descent.lists.Form.TheVariants as forms
 use Rattle.drv_syntax.specs.declared.descent.parts.Choice.{Choice}
@@ -31,7 +32,6 @@ use Rattle.drv_syntax.specs.declared.token.TestKind.TheVariants as kinds_of_test
 use Rattle.drv_syntax.specs.declared.labels.Naming.{Naming}
 use Rattle.drv_syntax.specs.declared.token.TokenKind.TheVariants as kinds
 use Rattle.drv_syntax.specs.declared.token.TokenKind.{TokenKind}
-use Rattle.std.specs.List.{prefix_len}
 use Rattle.std.specs.Prelude.{◌==◌, ◌&&◌, ◌++◌, Bool, false, true, if◌then◌else◌, List, [], ◌∷◌, Err, None, Ok, Option, Result, Some}
 use Rattle.std.specs.Prelude.{length, ℕ}
 
@@ -41,18 +41,18 @@ use Rattle.std.specs.Prelude.{length, ℕ}
 -- Descent or Refusals has it. `emits`: the braces may still be patterns. `so_far`: the alternative that is open. `outer` is the place of
 -- the outermost directive that is open, `at` that of the innermost, `z` the parts so far, and `v` those parts and the text that is left.
 
--- a pattern that was read, with nothing written, or its fault
-abbrev pub pattern_given : Option ℕ → Reading → Read Pattern → Result (Pattern × Reading) SyntaxFault
-pattern_given outer v read = given outer v.rest (λ p rest. (p, at_rest rest v)) read
-
 -- writes the patterns of braces, one after another
 abbrev pub patterns_written : List (Span × Pattern) → Parts → Parts
 patterns_written [] z = z
 patterns_written (p ∷ ps) z = patterns_written ps (leafed kinds.Pattern (pattern_label p.1) p.0.start p.0.end z)
 
 -- writes patterns that were read, and takes the brace that closes them
+abbrev pub patterns_on : Parts → List (Span × Pattern) → Left → Reading
+patterns_on z ps rest = record { rest = after 1 rest; parts = patterns_written ps z }
+
+-- writes patterns that were read, with the brace that closes them, or gives their fault
 abbrev pub patterns_given : Option ℕ → Reading → Read (List (Span × Pattern)) → Result Reading SyntaxFault
-patterns_given outer v read = given outer v.rest (λ ps rest. record { rest = after 1 rest; parts = patterns_written ps v.parts }) read
+patterns_given outer v read = given outer (patterns_on v.parts) read
 
 -- where the tests of an alternative are in their braces, as Refusals has it
 abbrev pub opening_seen : Opening → refusals.Order
@@ -79,10 +79,6 @@ operand_of (asking.Bare mark) word = d.bare_operand mark
 -- what was read of a test, as Descent has it; copied is the last word with escapes
 abbrev pub operand_seen : Operand → List ℕ → d.Operand
 operand_seen o copied = operand_of o.asked (spelled o.word copied)
-
--- what a test asks that was read, with nothing written, or its fault
-abbrev pub operand_given : Option ℕ → Reading → Read d.Operand → Result (d.Operand × Reading) SyntaxFault
-operand_given outer v read = given outer v.rest (λ o rest. (o, at_rest rest v)) read
 
 -- at the byte b after a mark alone: a pattern of one byte, where b may follow a pattern
 abbrev pub bare_form : ℕ → ℕ → Result MarkForm SyntaxFault
@@ -199,19 +195,17 @@ tried_seen start end negated operand b = record { place = span start end; negate
 
 -- what a test and the byte after it make of the braces, with that byte
 abbrev pub after_given : Option Choice → Reading → d.After → Result (Next × Reading) SyntaxFault
-after_given so_far v (d.Emits p) =
-    Ok (nexts.Emits, record { rest = after 1 v.rest; parts = leafed kinds.Pattern (pattern_label p.1) p.0.start p.0.end v.parts })
-after_given so_far v (d.Joins p) =
-    Ok (nexts.Joins, record { rest = after 1 v.rest; parts = leafed kinds.Pattern (pattern_label p.1) p.0.start p.0.end v.parts })
+after_given so_far v (d.Emits p) = Ok (nexts.Emits, patterns_on v.parts (p ∷ []) v.rest)
+after_given so_far v (d.Joins p) = Ok (nexts.Joins, patterns_on v.parts (p ∷ []) v.rest)
 after_given so_far v (d.Asks s negated a) =
-    Ok (nexts.Asks (added so_far v.parts s negated a).0, record { rest = after 1 v.rest; parts = (added so_far v.parts s negated a).1 })
+    Ok (nexts.Asks (added so_far v.parts s negated a).0, (choice_here (added so_far v.parts s negated a) (after 1 v.rest)).1)
 after_given so_far v (d.Bars s negated a) =
-    Ok (nexts.Bars (added so_far v.parts s negated a).0, record { rest = after 1 v.rest; parts = (added so_far v.parts s negated a).1 })
+    Ok (nexts.Bars (added so_far v.parts s negated a).0, (choice_here (added so_far v.parts s negated a) (after 1 v.rest)).1)
 after_given so_far v (d.Fails fault) = Err fault
 
 -- a test that was read and what the byte after it makes of it, or its fault
 abbrev pub tried_given : Option ℕ → ℕ → refusals.Order → Option Choice → Reading → Read Tried → Result (Next × Reading) SyntaxFault
-tried_given outer at order so_far v (Took t size) = after_given so_far (at_rest (after size v.rest) v) (d.after at order t)
+tried_given outer at order so_far v (Took t rest) = after_given so_far (at_rest rest v) (d.decided at order t)
 tried_given outer at order so_far v (Ends n) = Err (Unclosed (open_at outer n))
 tried_given outer at order so_far v (Stops n fault) = Err fault
 
@@ -221,48 +215,34 @@ result_after at choice b =
     if b == ascii.colon then Ok (nexts.Asks choice) else if b == ascii.bar then Ok (nexts.Bars choice) else Err (BadDirective at)
 
 -- after a sign: the byte that a test's word begins with, and where the test began
-abbrev pub first_given : Option ℕ → ℕ → ℕ → Bool → Reading → List ℕ → Result (Begun × Reading) SyntaxFault
-first_given outer at start negated v [] = Err (Unclosed (open_at outer at))
-first_given outer at start negated v (b ∷ text) = Ok (record { start = start; negated = negated; byte = b }, v)
+abbrev pub first_given : Option ℕ → ℕ → ℕ → Bool → Reading → Result (Begun × Reading) SyntaxFault
+first_given outer at start negated v = by_byte (first_of v.rest.bytes) (Err (Unclosed (open_at outer at))) (λ b.
+    Ok (record { start = start; negated = negated; byte = b }, v))
 
--- what is left after all white space that comes next
-abbrev pub spaced : Left → Left
-spaced rest = after (prefix_len is_white rest.bytes) rest
-
--- after white space: the ! of a test and white space, or neither, and the byte that its word begins with
-abbrev pub sign_given : Option ℕ → ℕ → Reading → List ℕ → Result (Begun × Reading) SyntaxFault
-sign_given outer at v [] = Err (Unclosed (open_at outer at))
-sign_given outer at v (b ∷ text) =
-    if b == ascii.exclamation_mark
-    then first_given outer at v.rest.at true (at_rest (spaced (after 1 v.rest)) v) (spaced (after 1 v.rest)).bytes
-    else Ok (record { start = v.rest.at; negated = false; byte = b }, v)
+-- the ! of a test and white space, or neither, and the byte that its word begins with
+abbrev pub sign_given : Option ℕ → ℕ → Reading → Result (Begun × Reading) SyntaxFault
+sign_given outer at v =
+    if begins_with ascii.exclamation_mark v.rest.bytes then first_given outer at v.rest.at true (at_rest (past_white (after 1 v.rest)) v)
+    else first_given outer at v.rest.at false v
 
 -- all white space before a test, its sign, and the byte that its word begins with
 abbrev pub begun_given : Option ℕ → ℕ → Reading → Result (Begun × Reading) SyntaxFault
-begun_given outer at v = sign_given outer at (at_rest (spaced v.rest) v) (spaced v.rest).bytes
+begun_given outer at v = sign_given outer at (at_rest (past_white v.rest) v)
+
+-- opens the alternative that these tests begin, with its colon at this place, and writes them
+abbrev pub alternative_on : Parts → Tests → ℕ → Choice × Parts
+alternative_on z tests colon = tests_on (choice_open None (first_place tests colon) z) tests
 
 -- what braces or an alternative begin with, and the byte after it
 abbrev pub form_on : Parts → Form → Left → code.Form × Reading
-form_on z (d.Patterns ps) rest = (forms.Patterns, record { rest = after 1 rest; parts = patterns_written ps z })
-form_on z (d.Alternative s negated a tests) rest = (
-  forms.Tests (tests_on (added None z s negated a) tests).0,
-  record {
-    rest = after 1 rest;
-    parts =
-        (tests_on (added None z s negated a) tests).1;
-  },
-)
+form_on z (d.Patterns ps) rest = (forms.Patterns, patterns_on z ps rest)
+form_on z (d.Alternative tests) rest =
+    (forms.Tests (alternative_on z tests rest.at).0, (choice_here (alternative_on z tests rest.at) (after 1 rest)).1)
 
 -- writes what braces or an alternative begin with, as it was read, or gives its fault
 abbrev pub form_given : Option ℕ → Reading → Read Form → Result (code.Form × Reading) SyntaxFault
-form_given outer v read = given outer v.rest (λ form rest. form_on v.parts form rest) read
-
--- writes more tests of this alternative; patterns can't be there, and count as nothing
-abbrev pub more_on : Choice → Parts → Form → Left → Choice × Reading
-more_on choice z (d.Patterns ps) rest = (choice, record { rest = rest; parts = z })
-more_on choice z (d.Alternative s negated a tests) rest =
-    choice_here (tests_on (test_added (choice, z) s negated a) tests) (after 1 rest)
+form_given outer v read = given outer (form_on v.parts) read
 
 -- writes more tests of this alternative that were read, or gives their fault
-abbrev pub more_given : Option ℕ → Choice → Reading → Read Form → Result (Choice × Reading) SyntaxFault
-more_given outer choice v read = given outer v.rest (λ form rest. more_on choice v.parts form rest) read
+abbrev pub more_given : Option ℕ → Choice → Reading → Read Tests → Result (Choice × Reading) SyntaxFault
+more_given outer choice v read = given outer (λ tests rest. choice_here (tests_on (choice, v.parts) tests) (after 1 rest)) read

@@ -17,5 +17,5 @@ whole_given text = listed (judged (descent text))
 -- the tokens and labels of a text of which the first n bytes were read before, and gave these tokens and labels
 abbrev pub rest_given : ℕ → List ℕ → List Token → List Label → Result (List Token × List Label) SyntaxFault
 rest_given n more tokens names =
-    given None (record { at = n; bytes = more })
-    (λ list rest. (tokens ++ flat (length tokens) (nodes_of list.0), names ++ labels (nodes_of list.0))) ((levels 64).0 top n more)
+    given None (λ list end. (tokens ++ flat (length tokens) (nodes_of list.0), names ++ labels (nodes_of list.0)))
+    ((levels 64).0 top (record { at = n; bytes = more }))

@@ -1,14 +1,14 @@
 use Rattle.drv_words.specs.Bytes as ascii
-use Rattle.drv_syntax.specs.Bytes.{is_function, is_function_front, is_option, is_word}
+use Rattle.drv_syntax.specs.Bytes.{is_option, is_word}
 use Rattle.drv_syntax.specs.Contexts.{InArguments, InX, Kind, Top, is_said}
-use Rattle.drv_syntax.specs.Code.Left.{Left, after}
+use Rattle.drv_syntax.specs.Rest.{Left}
 use Rattle.drv_syntax.specs.Code.Tokens.{whole_token}
-use Rattle.drv_syntax.specs.Descent.{Ends, Hangs, Quoted, Read, Run, Stops, Took, pattern_at, then_read}
+use Rattle.drv_syntax.specs.Descent.{Ends, Read, Run, Stops, Took}
 use Rattle.drv_syntax.specs.Labels.{Label, Nodes, inner_nodes, label_of, labels, no_node, node}
 use Rattle.drv_syntax.specs.Spelling.{span}
 use Rattle.drv_syntax.specs.Stars.{item_has_star}
 use Rattle.drv_syntax.specs.Tokens.{kind_of, token}
-use Rattle.drv_syntax.specs.Tree.{Hide, Item}
+use Rattle.drv_syntax.specs.Tree.{Item}
 use Rattle.drv_syntax.specs.declared.descent.reader.Reader as code
 use Rattle.drv_syntax.specs.declared.descent.reader.Spelled.TheVariants as spellings
 use Rattle.drv_syntax.specs.declared.descent.reader.Spelled.{Spelled}
@@ -16,14 +16,15 @@ use Rattle.drv_syntax.specs.declared.descent.words.Class.TheVariants as classes
 use Rattle.drv_syntax.specs.declared.descent.words.Class.{Class}
 use Rattle.drv_syntax.specs.declared.directives.SayKind.TheVariants.{AsError, AsNotice}
 use Rattle.drv_syntax.specs.declared.directives.SayKind.{SayKind}
-use Rattle.drv_syntax.specs.declared.fault.SyntaxFault.TheVariants.{EmptyTest, Unclosed, UnknownFunction}
+use Rattle.drv_syntax.specs.declared.fault.SyntaxFault.TheVariants.{Unclosed}
 use Rattle.drv_syntax.specs.declared.fault.SyntaxFault.{SyntaxFault}
 use Rattle.drv_syntax.specs.declared.descent.contexts.ListKind.TheVariants as lists
 use Rattle.drv_syntax.specs.declared.descent.contexts.ListKind.{ListKind}
 use Rattle.drv_syntax.specs.declared.token.Token.{Token}
 use Rattle.drv_syntax.specs.declared.token.TokenKind.TheVariants as kinds
 use Rattle.drv_syntax.specs.declared.token.TokenKind.{TokenKind}
-use Rattle.std.specs.Prelude.{◌+◌, ◌++◌, ◌||◌, ◌==◌, Bool, false, true, if◌then◌else◌, List, [], ◌∷◌, Err, None, Ok, Option, Result, Some}
+use Rattle.std.specs.Option.{option_map}
+use Rattle.std.specs.Prelude.{◌+◌, ◌++◌, ◌||◌, ◌==◌, Bool, false, if◌then◌else◌, List, [], ◌∷◌, Err, None, Ok, Option, Result, Some}
 use Rattle.std.specs.Prelude.{length, ℕ}
 
 -- What the code writes of what it reads: the tokens of a part and their labels, after those before. Clauses of all src/descent/ cite it, no
@@ -86,22 +87,24 @@ open_at (Some outer) at = outer
 open_at None at = at
 
 -- what the reading of a part gives, by what is written of it, where this directive is the outermost that is open
-abbrev pub given : {X Y : Type 0} → Option ℕ → Left → (X → Left → Y) → Read X → Result Y SyntaxFault
-given outer rest f (Took x size) = Ok (f x (after size rest))
-given outer rest f (Ends at) = Err (Unclosed (open_at outer at))
-given outer rest f (Stops n fault) = Err fault
+abbrev pub given : {X Y : Type 0} → Option ℕ → (X → Left → Y) → Read X → Result Y SyntaxFault
+given outer f (Took x rest) = Ok (f x rest)
+given outer f (Ends at) = Err (Unclosed (open_at outer at))
+given outer f (Stops n fault) = Err fault
 
--- writes an item that begins at this place, of which what is left is read, or gives its fault
+-- writes an item that begins at this place, of which what is left is read
+abbrev pub item_on : ℕ → Parts → Item → Left → Reading
+item_on start z item rest = record { rest = rest; parts = item_written start item rest.at z }
+
+-- writes an item that begins at this place, or gives its fault
 abbrev pub item_given : Option ℕ → ℕ → Reading → Read Item → Result Reading SyntaxFault
-item_given outer start v read = given outer v.rest (λ item rest. record { rest = rest; parts = item_written start item rest.at v.parts })
-    read
+item_given outer start v read = given outer (item_on start v.parts) read
+
+-- what was read, with nothing written, or its fault
+abbrev pub value_given : {X : Type 0} → Option ℕ → Reading → Read X → Result (X × Reading) SyntaxFault
+value_given outer v read = given outer (λ x rest. (x, at_rest rest v)) read
 
 -- words
-
--- the word has no bytes
-abbrev pub is_empty : List ℕ → Bool
-is_empty [] = true
-is_empty (b ∷ word) = false
 
 -- where a list is, as the code's type has it
 abbrev pub kind_seen : ListKind → Kind
@@ -109,11 +112,11 @@ kind_seen lists.Top = Top
 kind_seen lists.InX = InX
 kind_seen lists.InArguments = InArguments
 
--- the byte belongs to a class that `quoted` of words.rt reads
+-- the byte belongs to a class that `word_run` of words.rt reads
 abbrev pub in_class : Class → ℕ → Bool
-in_class classes.Option b = is_option b
-in_class classes.Word b = is_word b
-in_class (classes.Said list) b = is_said (kind_seen list) b
+in_class classes.Option = is_option
+in_class classes.Word = is_word
+in_class (classes.Said list) = is_said (kind_seen list)
 
 -- the bytes of a class that are no backslash
 abbrev pub runs_in : Class → ℕ → Bool
@@ -124,43 +127,20 @@ abbrev pub spelled : Spelled → List ℕ → List ℕ
 spelled (spellings.Lent bytes) copied = bytes.now
 spelled spellings.Copied copied = copied
 
--- what a run leaves after so many of its bytes: its word, if the text doesn't end in an escape
-abbrev pub quoted_to : List ℕ → Reading → Quoted → Option (List ℕ) × Reading
-quoted_to front v (Run word size) = (Some (front ++ word), at_rest (after size v.rest) v)
-quoted_to front v (Hangs size) = (None, at_rest (after size v.rest) v)
+-- a run: its word, if the text doesn't end in an escape, and what is left
+abbrev pub ran : Run → Reading → Option (List ℕ) × Reading
+ran run v = (run.word, at_rest run.rest v)
 
--- what `quoted` gives: its word of the text itself, or the copy without backslashes
+-- more of a run, after these bytes of it
+abbrev pub more_ran : List ℕ → Run → Reading → Option (List ℕ) × Reading
+more_ran front run v = (option_map (λ word. front ++ word) run.word, at_rest run.rest v)
+
+-- what `word_run` gives: its word of the text itself, or the copy without backslashes
 abbrev pub words_seen : Option Spelled → List ℕ → Reading → Option (List ℕ) × Reading
 words_seen (Some word) copied v = (Some (spelled word copied), v)
 words_seen None copied v = (None, v)
-
--- %< or %> after its byte: the pattern, as an item
-abbrev pub hidden : ℕ → ℕ → List ℕ → Read Item
-hidden at n text = then_read (pattern_at at n text) (λ p size. Took (Hide p) size)
-
--- a function's name, and its parenthesis
-abbrev pub named_given : Option ℕ → Reading → Read (List ℕ) → Result (List ℕ × Reading) SyntaxFault
-named_given outer v read = given outer v.rest (λ name rest. (name, at_rest rest v)) read
-
--- a star follows a word here, which has no bytes or some, if they make a pattern
-abbrev pub star_after : Option ℕ → ℕ → Bool → Option ℕ → Result Bool SyntaxFault
-star_after outer at true None = Err (Unclosed (open_at outer at))
-star_after outer at false None = Ok false
-star_after outer at none (Some b) = if b == ascii.asterisk then Ok true else if none then Err (EmptyTest at) else Ok false
 
 -- the kind of the token of a text for the user
 abbrev pub said_kind : SayKind → TokenKind
 said_kind AsError = kinds.UserError
 said_kind AsNotice = kinds.Notice
-
--- how many bytes of a text go on with a function's name, after so much of it
-abbrev pub front_size : List ℕ → List ℕ → ℕ
-front_size name [] = 0
-front_size name (b ∷ text) = if is_function_front (name ++ b ∷ []) then 1 + front_size (name ++ b ∷ []) text else 0
-
--- after a function's name: its parenthesis, if the name is one; the code has looked how far the name goes (`front_size`)
-abbrev pub function_end : ℕ → ℕ → List ℕ → List ℕ → Read (List ℕ)
-function_end at n name [] = Ends at
-function_end at n name (b ∷ text) =
-    if b == ascii.opening_parenthesis then (if is_function name then Took name 1 else Stops n (UnknownFunction at))
-    else Stops n (UnknownFunction at)

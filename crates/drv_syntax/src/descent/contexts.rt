@@ -48,10 +48,8 @@ pub fn in_braces(c: ListContext) -> ListContext
     ensures { context_seen result ≡ contexts.in_braces (context_seen c) }
 {
     ListContext {
-        kind: c.kind,
-        in_arguments: c.in_arguments,
-        owner: c.owner,
         levels: c.levels.saturating_sub(1),
+        ..c
     }
 }
 
@@ -63,8 +61,8 @@ pub fn in_arguments(c: ListContext) -> ListContext
     ListContext {
         kind: ListKind::InArguments,
         in_arguments: true,
-        owner: c.owner,
         levels: c.levels.saturating_sub(1),
+        ..c
     }
 }
 
@@ -76,13 +74,13 @@ pub fn in_x(c: ListContext, choice: Choice) -> ListContext
 {
     ListContext {
         kind: ListKind::InX,
-        in_arguments: c.in_arguments,
         owner: if choice.starred {
             StarOwner::Starred
         } else {
             StarOwner::Mixed
         },
         levels: c.levels.saturating_sub(1),
+        ..c
     }
 }
 

@@ -1,7 +1,7 @@
 //! The names of functions.
 
 ghost use Rattle.drv_syntax.specs.Descent as descent;
-ghost use Rattle.drv_syntax.specs.Code.Writing.{front_size, named_given, seen};
+ghost use Rattle.drv_syntax.specs.Code.Writing.{seen, value_given};
 ghost use Rattle.drv_words.specs.Gives.{Gives};
 ghost use Rattle.std.specs.Prelude.{◌≡◌, ◌≤◌, [], length};
 
@@ -11,7 +11,7 @@ use crate::fault::SyntaxFault;
 
 /// How many bytes of a function's name a text begins with.
 fn front_length(text: &[u8]) -> usize
-    ensures size { result ≡ front_size [] text.now }
+    ensures size { result ≡ descent.front_size [] text.now }
     ensures within { result ≤ length text.now }
 {
     let mut length = 0;
@@ -28,18 +28,14 @@ pub fn function<'a>(
     r: &mut Reader<'a>,
 ) -> Result<&'a [u8], SyntaxFault>
     ensures { Gives SyntaxFault.Memory (λ name. (name.now, seen r.new)) result
-        (named_given outer (seen r.old)
-        (descent.function_from at r.old.rest.at [] r.old.rest.bytes)) }
+        (value_given outer (seen r.old) (descent.function at r.old.rest)) }
 {
     let size = front_length(r.rest.bytes());
     let name = r.rest.take(size);
     let Some(b) = r.rest.first() else {
         return Err(unclosed_fault(outer, at));
     };
-    if b != b'(' {
-        return Err(SyntaxFault::UnknownFunction(at as usize));
-    }
-    if !is_function(name) {
+    if b != b'(' || !is_function(name) {
         return Err(SyntaxFault::UnknownFunction(at as usize));
     }
     r.rest.take(1);

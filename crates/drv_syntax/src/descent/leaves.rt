@@ -1,15 +1,15 @@
 //! Items without an inside.
 
-ghost use Rattle.drv_syntax.specs.Code.Writing.{hidden, item_given, kind_seen, said_kind, seen};
+ghost use Rattle.drv_syntax.specs.Code.Writing.{item_given, kind_seen, said_kind, seen};
 ghost use Rattle.drv_syntax.specs.Descent as descent;
 ghost use Rattle.drv_words.specs.Gives.{Gives};
 ghost use Rattle.std.specs.Prelude.{◌≡◌, []};
 
 use crate::descent::contexts::ListKind;
 use crate::descent::patterns::pattern;
-use crate::descent::reader::{Reader, is_none, part_with_word, unclosed_fault, written_here};
+use crate::descent::reader::{Reader, is_none, part_with_word, unclosed_fault, write_here};
 use crate::descent::runs::{RunKind, run_length};
-use crate::descent::words::{Class, first, quoted};
+use crate::descent::words::{Class, first, word_run};
 use crate::directives::SayKind;
 use crate::fault::SyntaxFault;
 use crate::labels::{Naming, WORD_ALONE};
@@ -23,7 +23,7 @@ pub fn suffix(
     r: &mut Reader<'_>,
 ) -> Result<(), SyntaxFault>
     ensures { Gives SyntaxFault.Memory (λ _. seen r.new) result (item_given outer at (seen r.old)
-        (descent.suffix kind r.old.rest.at r.old.rest.bytes)) }
+        (descent.suffix kind r.old.rest)) }
 {
     let kind = TokenKind::TempName(kind);
     let bytes = r.rest.bytes();
@@ -45,7 +45,7 @@ pub fn suffix(
 /// `%x`, after the letter.
 pub fn option(outer: Option<u32>, at: u32, r: &mut Reader<'_>) -> Result<(), SyntaxFault>
     ensures { Gives SyntaxFault.Memory (λ _. seen r.new) result (item_given outer at (seen r.old)
-        (descent.option at r.old.rest.at r.old.rest.bytes)) }
+        (descent.option at r.old.rest)) }
 {
     let Some(b) = r.rest.first() else {
         return Err(unclosed_fault(outer, at));
@@ -54,7 +54,7 @@ pub fn option(outer: Option<u32>, at: u32, r: &mut Reader<'_>) -> Result<(), Syn
         return Err(SyntaxFault::BadDirective(at as usize));
     }
     r.rest.take(1);
-    let Some(word) = quoted(Class::Option, r)? else {
+    let Some(word) = word_run(Class::Option, r)? else {
         return Err(unclosed_fault(outer, at));
     };
     let none = is_none(word, &r.word);
@@ -65,14 +65,14 @@ pub fn option(outer: Option<u32>, at: u32, r: &mut Reader<'_>) -> Result<(), Syn
         return Err(SyntaxFault::BadDirective(at as usize));
     }
     r.rest.take(1);
-    written_here(TokenKind::AddOption, at, word, WORD_ALONE, r)?;
+    write_here(TokenKind::AddOption, at, word, WORD_ALONE, r)?;
     Ok(())
 }
 
 /// `%(`, after the bracket.
 pub fn name(outer: Option<u32>, at: u32, r: &mut Reader<'_>) -> Result<(), SyntaxFault>
     ensures { Gives SyntaxFault.Memory (λ _. seen r.new) result (item_given outer at (seen r.old)
-        (descent.named at r.old.rest.at r.old.rest.bytes)) }
+        (descent.named at r.old.rest)) }
 {
     let size = run_length(RunKind::Name, r.rest.bytes());
     if size > 255 {
@@ -96,7 +96,7 @@ pub fn name(outer: Option<u32>, at: u32, r: &mut Reader<'_>) -> Result<(), Synta
 /// `%<` or `%>`, after the byte.
 pub fn hide(outer: Option<u32>, at: u32, r: &mut Reader<'_>) -> Result<(), SyntaxFault>
     ensures { Gives SyntaxFault.Memory (λ _. seen r.new) result (item_given outer at (seen r.old)
-        (hidden at r.old.rest.at r.old.rest.bytes)) }
+        (descent.hide at r.old.rest)) }
 {
     let p = pattern(outer, at, r)?;
     let naming = Naming {
@@ -104,7 +104,7 @@ pub fn hide(outer: Option<u32>, at: u32, r: &mut Reader<'_>) -> Result<(), Synta
         negated: false,
         asks: TestKind::Switch,
     };
-    written_here(TokenKind::Hide, at, p.word, naming, r)?;
+    write_here(TokenKind::Hide, at, p.word, naming, r)?;
     Ok(())
 }
 
@@ -128,12 +128,12 @@ pub fn saying(
     r: &mut Reader<'_>,
 ) -> Result<(), SyntaxFault>
     ensures { Gives SyntaxFault.Memory (λ _. seen r.new) result (item_given outer at (seen r.old)
-        (descent.saying (kind_seen list) kind r.old.rest.at r.old.rest.bytes)) }
+        (descent.saying (kind_seen list) kind r.old.rest)) }
 {
-    let Some(word) = quoted(Class::Said(list), r)? else {
+    let Some(word) = word_run(Class::Said(list), r)? else {
         return Err(unclosed_fault(outer, r.rest.at()));
     };
     r.rest.take_if(b'\n');
-    written_here(say_kind(kind), at, word, WORD_ALONE, r)?;
+    write_here(say_kind(kind), at, word, WORD_ALONE, r)?;
     Ok(())
 }

@@ -7,17 +7,18 @@ ghost use Rattle.drv_syntax.specs.Code.Writing.{item_given, kind_seen, seen};
 ghost use Rattle.drv_syntax.specs.Contexts as contexts;
 ghost use Rattle.drv_syntax.specs.Descent as descent;
 ghost use Rattle.drv_syntax.specs.Refusals as refusals;
+ghost use Rattle.drv_syntax.specs.Rest.{after};
 ghost use Rattle.drv_words.specs.Gives.{Gives};
-ghost use Rattle.std.specs.Prelude.{◌≡◌, ◌≤◌, IfOk, Ok, drop, true};
+ghost use Rattle.std.specs.Prelude.{◌≡◌, ◌≤◌, IfOk, Ok, true};
 
 use crate::descent::contexts::{ListContext, ListKind, in_arguments, in_braces, in_x, outermost};
 use crate::descent::functions::function;
 use crate::descent::parts::{Choice, close, close_choice, open, open_alternative, open_unnamed};
 use crate::descent::patterns::patterns;
 use crate::descent::reader::{Reader, unclosed_fault};
-use crate::descent::simple::{Tail, directive, ended, item, plains};
+use crate::descent::simple::{Tail, directive, item, plains, tail_here};
 use crate::descent::tests::{
-    Next, Opening, Order, Test, alternative_of, begin, plain_test, result_judged,
+    Next, Opening, Order, Test, alternative_of, begin, judge_result, plain_test,
 };
 use crate::directives::{BraceKind, Directive, allows, directive_of};
 use crate::fault::SyntaxFault;
@@ -27,9 +28,9 @@ use crate::token::{TestKind, TokenKind};
 /// What braces hold.
 #[derive(Clone, Copy)]
 pub enum Inside {
-    /// Patterns.
+    /// Patterns, which pass switches on: `%{S*&T*}`.
     Patterns,
-    /// Alternatives.
+    /// Alternatives, each a test and what it gives: `%{S:X; T:Y}`.
     Choices,
 }
 
@@ -59,12 +60,7 @@ fn ends_list(kind: ListKind, b: u8) -> bool
 fn with_end(tail: Tail, end: u8) -> Tail
     ensures { result ≡ with_end tail end }
 {
-    Tail {
-        kept: tail.kept,
-        tokens: tail.tokens,
-        labels: tail.labels,
-        end,
-    }
+    Tail { end, ..tail }
 }
 
 /// The end of a text in a list of this kind: a whole text ends there, and any other list isn't
@@ -92,7 +88,7 @@ fn is_simple(d: Directive) -> bool
 
 /// An alternative without tests opens at its colon, with the colon.
 #[inline(always)]
-fn opened_default(r: &mut Reader<'_>) -> Result<Choice, SyntaxFault>
+fn open_default(r: &mut Reader<'_>) -> Result<Choice, SyntaxFault>
     requires { begins r.old.rest.bytes ≡ true }
     ensures { Gives SyntaxFault.Memory (λ choice. (choice, seen r.new)) result
         (Ok (default_here (seen r.old))) }
@@ -127,10 +123,10 @@ pub fn items(outer: Option<u32>, c: ListContext, r: &mut Reader<'_>) -> Result<T
     requires { Opened (kind_seen c.kind) outer }
     ensures list { Gives SyntaxFault.Memory (λ tail. (tail, seen r.new)) result
         (listed_given outer (tail_at (seen r.old)) (seen r.old)
-        ((descent.levels c.levels).0 (context_seen c) r.old.rest.at r.old.rest.bytes)) }
+        ((descent.levels c.levels).0 (context_seen c) r.old.rest)) }
     ensures end { IfOk result (λ tail. EndsAt (kind_seen c.kind) tail.end r.new.rest.bytes) }
 {
-    let mut tail = ended(r);
+    let mut tail = tail_here(r);
     loop {
         tail = plains(c.kind, tail, r)?;
         let Some(b) = r.rest.first() else {
@@ -142,7 +138,7 @@ pub fn items(outer: Option<u32>, c: ListContext, r: &mut Reader<'_>) -> Result<T
         }
         if b == b'%' {
             percent(outer, c, r)?;
-            tail = ended(r);
+            tail = tail_here(r);
         } else {
             tail = item(outer, c, b, tail, r)?;
         }
@@ -195,7 +191,7 @@ fn percent(outer: Option<u32>, c: ListContext, r: &mut Reader<'_>) -> Result<(),
 fn call(outer: Option<u32>, c: ListContext, at: u32, r: &mut Reader<'_>) -> Result<(), SyntaxFault>
     requires { 1 ≤ c.levels }
     ensures { Gives SyntaxFault.Memory (λ _. seen r.new) result (item_given outer at (seen r.old)
-        (descent.call (around c.levels).0 (context_seen c) at r.old.rest.at r.old.rest.bytes)) }
+        (descent.call (around c.levels).0 (context_seen c) at r.old.rest)) }
 {
     let outer = outermost(outer, at);
     let name = function(outer, at, r)?;
@@ -219,7 +215,7 @@ fn braces(
     requires { 1 ≤ c.levels }
     ensures { Gives SyntaxFault.Memory (λ _. seen r.new) result (item_given outer at (seen r.old)
         (descent.braces (around c.levels).0 (around c.levels).1 (context_seen c) at kind
-        r.old.rest.at r.old.rest.bytes)) }
+        r.old.rest)) }
 {
     let part = open_unnamed(TokenKind::Choose, at, r)?;
     let inside = choices(outer, c, at, r)?;
@@ -239,8 +235,7 @@ fn choices(
     requires { 1 ≤ c.levels }
     ensures { Gives SyntaxFault.Memory (λ inside. (inside, seen r.new)) result
         (brace_given outer (seen r.old)
-        (descent.choices (around c.levels).0 (around c.levels).1 (context_seen c) at
-        refusals.AtFront r.old.rest.at 0 r.old.rest.bytes)) }
+        (descent.choices (around c.levels).0 (around c.levels).1 (context_seen c) at r.old.rest)) }
 {
     let choice = match tests(outer, c, at, Opening::AtFront, r)? {
         Form::Patterns => return Ok(Inside::Patterns),
@@ -257,13 +252,12 @@ fn choices(
 fn later(outer: Option<u32>, c: ListContext, at: u32, r: &mut Reader<'_>) -> Result<(), SyntaxFault>
     requires { 1 ≤ c.levels }
     ensures { Gives SyntaxFault.Memory (λ _. seen r.new) result (later_given outer (seen r.old)
-        (descent.choices (around c.levels).0 (around c.levels).1 (context_seen c) at
-        refusals.AtNext r.old.rest.at 0 r.old.rest.bytes)) }
+        (descent.later (around c.levels).0 (around c.levels).1 (context_seen c) at r.old.rest)) }
 {
     loop {
         if r.rest.begins_after_white(b':') {
             r.rest.skip_white();
-            let choice = opened_default(r)?;
+            let choice = open_default(r)?;
             if x(outer, c, at, choice, r)? != b'}' {
                 return Err(SyntaxFault::EmptyTest(at as usize));
             }
@@ -291,12 +285,13 @@ fn x(
     ensures { Gives SyntaxFault.Memory (λ end. (end, seen r.new)) result
         (x_given outer at choice (seen r.old) ((around c.levels).0
         (owner_when choice.starred (contexts.in_braces (context_seen c)))
-        r.old.rest.at r.old.rest.bytes)) }
+        r.old.rest)) }
 {
     let around = r.holds_star;
     r.holds_star = false;
     let tail = items(outermost(outer, at), in_x(c, choice), r)?;
-    close_choice(choice, tail, around, r);
+    close_choice(choice, tail, r);
+    r.holds_star = around;
     r.rest.take(1);
     Ok(tail.end)
 }
@@ -313,8 +308,8 @@ fn tests(
 ) -> Result<Form, SyntaxFault>
     requires { 1 ≤ c.levels }
     ensures { Gives SyntaxFault.Memory (λ form. (form, seen r.new)) result
-        (form_given outer (seen r.old) (descent.tests (around c.levels).1 (context_seen c) at
-        (opening_seen opening) r.old.rest.at 0 r.old.rest.bytes)) }
+        (form_given outer (seen r.old) (descent.form (around c.levels).1 (context_seen c) at
+        (opening_seen opening) r.old.rest)) }
 {
     match test(outer, c, at, Order::First(opening), r)? {
         Next::Emits => Ok(Form::Patterns),
@@ -338,8 +333,8 @@ fn more_tests(
 ) -> Result<Choice, SyntaxFault>
     requires { 1 ≤ c.levels }
     ensures { Gives SyntaxFault.Memory (λ choice. (choice, seen r.new)) result
-        (more_given outer choice (seen r.old) (descent.tests (around c.levels).1
-        (context_seen c) at refusals.AtBar r.old.rest.at 0 r.old.rest.bytes)) }
+        (more_given outer choice (seen r.old) (descent.more_tests (around c.levels).1
+        (context_seen c) at r.old.rest)) }
 {
     let mut choice = choice;
     loop {
@@ -365,7 +360,7 @@ fn test(
     ensures { Gives SyntaxFault.Memory (λ next. (next, seen r.new)) result
         (tried_given outer at (order_seen order) (alternative_of order) (seen r.old)
         (descent.one_test (around c.levels).1 (context_seen c) at (order_seen order)
-        r.old.rest.at r.old.rest.bytes)) }
+        r.old.rest)) }
 {
     let begun = begin(outer, at, r)?;
     let test = Test { order, begun };
@@ -381,7 +376,7 @@ fn test(
         return Err(unclosed_fault(outer, at));
     };
     r.rest.take(1);
-    let judged = result_judged(at, choice, b)?;
+    let judged = judge_result(at, choice, b)?;
     Ok(judged)
 }
 
@@ -398,8 +393,7 @@ fn result(
     requires percent { begins r.old.rest.bytes ≡ true }
     ensures { Gives SyntaxFault.Memory (λ choice. (choice, seen r.new)) result
         (result_given outer (alternative_of test.order) test.begun.start test.begun.negated (seen r.old)
-        (descent.result (around c.levels).1 (context_seen c) at r.old.rest.at
-        (drop 1 r.old.rest.bytes))) }
+        (descent.result (around c.levels).1 (context_seen c) at r.old.rest.at (after 1 r.old.rest))) }
 {
     let percent = r.rest.at();
     r.rest.take(1);
@@ -412,20 +406,18 @@ fn result(
     r.rest.take(1);
     let outer = outermost(outer, at);
     let name = function(outer, percent, r)?;
-    let begun = test.begun;
-    let choice = open_alternative(alternative_of(test.order), begun.start, r)?;
+    let choice = open_alternative(alternative_of(test.order), test.begun.start, r)?;
     let naming = Naming {
         starred: false,
-        negated: begun.negated,
+        negated: test.begun.negated,
         asks: TestKind::Result,
     };
-    let part = open(TokenKind::Test, begun.start, name, naming, r)?;
+    let part = open(TokenKind::Test, test.begun.start, name, naming, r)?;
     items(outer, in_arguments(in_braces(c)), r)?;
     r.rest.take(1);
     close(TokenKind::Test, part, r);
     Ok(Choice {
-        part: choice.part,
-        label: choice.label,
         starred: false,
+        ..choice
     })
 }

@@ -90,15 +90,15 @@ pub fn open_alternative(
     })
 }
 
-/// An alternative ends, whose X ends so without the white space at its end.
+/// An alternative ends, whose X ends so without the white space at its end. Its label says whether the
+/// X has a `%*` of its own.
 #[inline(always)]
-pub fn close_choice(choice: Choice, tail: Tail, around: bool, r: &mut Reader<'_>)
-    ensures { seen r.new ≡ owned_here choice tail around (seen r.old) }
+pub fn close_choice(choice: Choice, tail: Tail, r: &mut Reader<'_>)
+    ensures { seen r.new ≡ owned_here choice tail r.old.holds_star (seen r.old) }
 {
     r.tokens.truncate(tail.tokens);
     r.labels.truncate(tail.labels);
     r.tokens
         .close(TokenKind::Alternative, choice.part, tail.kept);
     r.labels.hold(choice.label, r.holds_star);
-    r.holds_star = around;
 }

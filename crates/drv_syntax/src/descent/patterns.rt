@@ -1,7 +1,7 @@
 //! Patterns of switches.
 
-ghost use Rattle.drv_syntax.specs.Code.Tests.{pattern_given, patterns_given};
-ghost use Rattle.drv_syntax.specs.Code.Writing.{is_empty, leaf_until, seen, spelled, star_after};
+ghost use Rattle.drv_syntax.specs.Code.Tests.{patterns_given};
+ghost use Rattle.drv_syntax.specs.Code.Writing.{leaf_until, seen, spelled, value_given};
 ghost use Rattle.drv_syntax.specs.Descent as descent;
 ghost use Rattle.drv_syntax.specs.Labels.{part_label};
 ghost use Rattle.drv_syntax.specs.Tree.{pattern};
@@ -9,7 +9,7 @@ ghost use Rattle.drv_words.specs.Gives.{Gives};
 ghost use Rattle.std.specs.Prelude.{◌≡◌, false, Ok};
 
 use crate::descent::reader::{Extent, Reader, Spelled, is_none, part_of_word, unclosed_fault};
-use crate::descent::words::{Class, quoted};
+use crate::descent::words::{Class, word_run};
 use crate::fault::SyntaxFault;
 use crate::labels::Naming;
 use crate::token::{TestKind, TokenKind};
@@ -23,33 +23,6 @@ pub struct Starred<'a> {
     pub star: bool,
 }
 
-/// A star follows a word, if they make a pattern, where the last word with escapes is this one.
-#[inline(always)]
-fn star_after(
-    outer: Option<u32>,
-    at: u32,
-    word: Spelled<'_>,
-    copied: &[u8],
-    b: Option<u8>,
-) -> Result<bool, SyntaxFault>
-    ensures { result ≡ star_after outer at (is_empty (spelled word.entry copied.now)) b }
-{
-    let none = is_none(word, copied);
-    let Some(b) = b else {
-        if none {
-            return Err(unclosed_fault(outer, at));
-        }
-        return Ok(false);
-    };
-    if b == b'*' {
-        return Ok(true);
-    }
-    if none {
-        return Err(SyntaxFault::EmptyTest(at as usize));
-    }
-    Ok(false)
-}
-
 /// A pattern.
 #[inline(always)]
 pub fn pattern<'a>(
@@ -59,15 +32,23 @@ pub fn pattern<'a>(
 ) -> Result<Starred<'a>, SyntaxFault>
     ensures { Gives SyntaxFault.Memory
         (λ p. (pattern (spelled p.word r.new.word.items) p.star, seen r.new)) result
-        (pattern_given outer (seen r.old)
-        (descent.pattern_at at r.old.rest.at r.old.rest.bytes)) }
+        (value_given outer (seen r.old) (descent.pattern_at at r.old.rest)) }
 {
-    let Some(word) = quoted(Class::Word, r)? else {
+    let Some(word) = word_run(Class::Word, r)? else {
         return Err(unclosed_fault(outer, at));
     };
-    let star = star_after(outer, at, word, &r.word, r.rest.first())?;
-    r.rest.take_if(b'*');
-    Ok(Starred { word, star })
+    let first = r.rest.first();
+    if first == Some(b'*') {
+        r.rest.take(1);
+        return Ok(Starred { word, star: true });
+    }
+    if !is_none(word, &r.word) {
+        return Ok(Starred { word, star: false });
+    }
+    if first.is_none() {
+        return Err(unclosed_fault(outer, at));
+    }
+    Err(SyntaxFault::EmptyTest(at as usize))
 }
 
 /// The braces hold this pattern, which has these bytes.
@@ -90,7 +71,7 @@ fn emit_pattern(extent: Extent, p: Starred<'_>, r: &mut Reader<'_>) -> Result<()
 pub fn patterns(outer: Option<u32>, at: u32, r: &mut Reader<'_>) -> Result<(), SyntaxFault>
     ensures { Gives SyntaxFault.Memory (λ _. seen r.new) result
         (patterns_given outer (seen r.old)
-        (descent.patterns at r.old.rest.at 0 r.old.rest.bytes)) }
+        (descent.patterns at r.old.rest)) }
 {
     loop {
         r.rest.skip_white();

@@ -1,7 +1,8 @@
 //! What has been read of a text: its parts so far, and what is left.
 
-ghost use Rattle.drv_syntax.specs.Code.Writing.{is_empty, leaf_here, leaf_until, open_at, seen, spelled};
+ghost use Rattle.drv_syntax.specs.Code.Writing.{leaf_here, leaf_until, open_at, seen, spelled};
 ghost use Rattle.drv_syntax.specs.Labels.{part_label, word_label};
+ghost use Rattle.drv_syntax.specs.Descent.{is_empty};
 ghost use Rattle.drv_words.specs.Gives.{Gives};
 ghost use Rattle.std.specs.Prelude.{◌≡◌, false, Ok};
 
@@ -82,7 +83,7 @@ pub fn part_with_word(
 
 /// A part from this place on that names a word that was read, of which this is said.
 #[inline(always)]
-pub fn written_here(
+pub fn write_here(
     kind: TokenKind,
     start: u32,
     word: Spelled<'_>,

@@ -1,6 +1,6 @@
 //! What is left of a text, and its place in it.
 
-ghost use Rattle.drv_syntax.specs.Code.Left.{after, begins_with, first_of, past_byte, second_of};
+ghost use Rattle.drv_syntax.specs.Rest.{after, begins_with, first_of, past_byte, second_of};
 ghost use Rattle.drv_syntax.specs.Bytes.{is_white};
 ghost use Rattle.std.specs.List.{prefix_len};
 ghost use Rattle.std.specs.Prelude.{◌≡◌, ◌≤◌, ◌+◌, drop, length, take};
@@ -26,7 +26,7 @@ pub struct Rest<'a> {
 }
 
 impl<'a> Model for Rest<'a> {
-    ghost use Rattle.drv_syntax.specs.Code.Left.{Left};
+    ghost use Rattle.drv_syntax.specs.Rest.{Left};
     ghost use Rattle.std.specs.Prelude.{◌≤◌, ◌+◌, length};
 
     ghost Value = { Left };

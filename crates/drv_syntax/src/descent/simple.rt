@@ -1,14 +1,15 @@
 //! Items that hold no parts.
 
-ghost use Rattle.drv_syntax.specs.Code.Lists.{begins, byte_given, byte_here, context_seen, escape_given, is_simple, owner_seen, plains_on, simple_given, single_given, star_given, tail_at};
-ghost use Rattle.drv_syntax.specs.Code.Writing.{leaf_here, seen};
-ghost use Rattle.drv_syntax.specs.Code.Left.{first_of};
+ghost use Rattle.drv_syntax.specs.Code.Lists.{begins, byte_here, context_seen, is_simple, item_ended, owner_seen, plains_on, tail_at};
+ghost use Rattle.drv_syntax.specs.Code.Writing.{given, item_given, item_on, leaf_here, seen};
 ghost use Rattle.drv_syntax.specs.Contexts.{newline_in};
+ghost use Rattle.drv_syntax.specs.Descent as descent;
 ghost use Rattle.drv_syntax.specs.Directives.{text_of};
 ghost use Rattle.drv_syntax.specs.Labels.{no_label, word_label};
+ghost use Rattle.drv_syntax.specs.Rest.{after, first_of};
 ghost use Rattle.drv_syntax.specs.Tokens.{kind_of};
 ghost use Rattle.drv_words.specs.Gives.{Gives};
-ghost use Rattle.std.specs.Prelude.{◌≡◌, ◌∷◌, [], true, Ok, Some};
+ghost use Rattle.std.specs.Prelude.{◌≡◌, ◌==◌, ◌∷◌, [], false, true, Ok, Option, Some, ℕ};
 
 use crate::descent::bytes::is_blank;
 use crate::descent::contexts::{ListContext, ListKind, StarOwner};
@@ -62,8 +63,8 @@ fn builtin_word(name: BuiltinName) -> &'static [u8]
 
 /// `%*`.
 fn star(owner: StarOwner, at: u32, r: &mut Reader<'_>) -> Result<(), SyntaxFault>
-    ensures { Gives SyntaxFault.Memory (λ _. seen r.new) result
-        (star_given (owner_seen owner) at (seen r.old)) }
+    ensures { (outer : Option ℕ) → Gives SyntaxFault.Memory (λ _. seen r.new) result
+        (item_given outer at (seen r.old) (descent.star at at (owner_seen owner) r.old.rest)) }
 {
     match owner {
         StarOwner::Nobody => return Err(SyntaxFault::StarOutside(at as usize)),
@@ -86,7 +87,8 @@ pub fn directive(
 ) -> Result<(), SyntaxFault>
     requires { is_simple d ≡ true }
     ensures { Gives SyntaxFault.Memory (λ _. seen r.new) result
-        (simple_given outer (context_seen c) at d (seen r.old)) }
+        (item_given outer at (seen r.old) (descent.directive_by descent.no_lists descent.no_lists
+        (context_seen c) at at d r.old.rest)) }
 {
     match d {
         Directive::Whole(leaf) => part_without_word(TokenKind::Leaf(leaf), at, r),
@@ -130,7 +132,7 @@ fn white(kind: TokenKind, r: &mut Reader<'_>) -> Result<(), SyntaxFault>
 
 /// After an item that is no white space.
 #[inline(always)]
-pub fn ended(r: &Reader<'_>) -> Tail
+pub fn tail_here(r: &Reader<'_>) -> Tail
     ensures { result ≡ tail_at (seen r.now) }
 {
     Tail {
@@ -157,7 +159,8 @@ fn plain(b: u8, r: &mut Reader<'_>) -> Result<(), SyntaxFault>
 /// A backslash and the byte that it makes plain.
 fn escape(outer: Option<u32>, r: &mut Reader<'_>) -> Result<(), SyntaxFault>
     requires { begins r.old.rest.bytes ≡ true }
-    ensures { Gives SyntaxFault.Memory (λ _. seen r.new) result (escape_given outer (seen r.old)) }
+    ensures { Gives SyntaxFault.Memory (λ _. seen r.new) result (item_given outer
+        r.old.rest.at (seen r.old) (descent.escape r.old.rest)) }
 {
     let start = r.rest.at();
     let Some(b) = r.rest.second() else {
@@ -168,16 +171,13 @@ fn escape(outer: Option<u32>, r: &mut Reader<'_>) -> Result<(), SyntaxFault>
     r.labels.push_byte(b)
 }
 
-/// An item that is no directive and no white space, from its first byte on.
+/// A bar or a plain byte.
 #[inline(always)]
-fn single(outer: Option<u32>, c: ListContext, b: u8, r: &mut Reader<'_>) -> Result<(), SyntaxFault>
+fn bar_or_plain(c: ListContext, b: u8, r: &mut Reader<'_>) -> Result<(), SyntaxFault>
     requires { first_of r.old.rest.bytes ≡ Some b }
-    ensures { Gives SyntaxFault.Memory (λ _. seen r.new) result
-        (single_given outer c.in_arguments b (seen r.old)) }
+    ensures { Gives SyntaxFault.Memory (λ _. seen r.new) result (Ok (item_on r.old.rest.at
+        (seen r.old).parts (descent.bar_or_plain c.in_arguments b) (after 1 r.old.rest))) }
 {
-    if b == b'\\' {
-        return escape(outer, r);
-    }
     if b == b'|' && !c.in_arguments {
         let start = r.rest.at();
         r.rest.take(1);
@@ -195,10 +195,16 @@ pub fn item(
     tail: Tail,
     r: &mut Reader<'_>,
 ) -> Result<Tail, SyntaxFault>
-    requires { first_of r.old.rest.bytes ≡ Some b }
+    requires byte { first_of r.old.rest.bytes ≡ Some b }
+    requires other { (b == 37) ≡ false }
     ensures { Gives SyntaxFault.Memory (λ tail. (tail, seen r.new)) result
-        (byte_given outer c.in_arguments b tail (seen r.old)) }
+        (given outer (item_ended tail (seen r.old)) (descent.item descent.no_lists
+        descent.no_lists (context_seen c) b r.old.rest)) }
 {
+    if b == b'\\' {
+        escape(outer, r)?;
+        return Ok(tail_here(r));
+    }
     if is_blank(b) {
         white(TokenKind::Blank, r)?;
         return Ok(tail);
@@ -207,8 +213,8 @@ pub fn item(
         white(newline(c), r)?;
         return Ok(tail);
     }
-    single(outer, c, b, r)?;
-    Ok(ended(r))
+    bar_or_plain(c, b, r)?;
+    Ok(tail_here(r))
 }
 
 /// The plain bytes that the rest begins with, in a list of this kind.
@@ -225,5 +231,5 @@ pub fn plains(kind: ListKind, tail: Tail, r: &mut Reader<'_>) -> Result<Tail, Sy
     let run = r.rest.take(size);
     r.tokens.push_run(start, run)?;
     r.labels.push_bytes(run)?;
-    Ok(ended(r))
+    Ok(tail_here(r))
 }

@@ -2,11 +2,11 @@
 
 ghost use Rattle.drv_syntax.specs.Code.Tests.{after_given, alternative_of, asked_on, begun_given};
 ghost use Rattle.drv_syntax.specs.Code.Tests.{emitted_label, mark_form, marked_as, naming_of};
-ghost use Rattle.drv_syntax.specs.Code.Tests.{operand_given, operand_seen, order_seen};
+ghost use Rattle.drv_syntax.specs.Code.Tests.{operand_seen, order_seen};
 ghost use Rattle.drv_syntax.specs.Code.Tests.{pattern_ends, result_after, test_ends, test_of};
 ghost use Rattle.drv_syntax.specs.Code.Tests.{tried_given, tried_seen};
-ghost use Rattle.drv_syntax.specs.Code.Writing.{is_empty, leaf_until, seen, spelled};
-ghost use Rattle.drv_syntax.specs.Code.Left.{first_of};
+ghost use Rattle.drv_syntax.specs.Code.Writing.{leaf_until, seen, spelled, value_given};
+ghost use Rattle.drv_syntax.specs.Rest.{first_of};
 ghost use Rattle.drv_syntax.specs.Contexts.{top};
 ghost use Rattle.drv_syntax.specs.Descent as descent;
 ghost use Rattle.drv_syntax.specs.Refusals.{may_emit};
@@ -18,7 +18,7 @@ use crate::descent::bytes::{is_mark, is_white};
 use crate::descent::parts::{Choice, open_alternative};
 use crate::descent::patterns::pattern;
 use crate::descent::reader::{Extent, Reader, Spelled, is_none, part_of_word, unclosed_fault};
-use crate::descent::words::{Class, quoted};
+use crate::descent::words::{Class, word_run};
 use crate::fault::SyntaxFault;
 use crate::labels::{Labels, Naming, WORD_ALONE};
 use crate::token::{TestKind, TokenKind};
@@ -147,7 +147,7 @@ fn mark_form(
     r: &Reader<'_>,
 ) -> Result<MarkForm, SyntaxFault>
     ensures { result ≡ mark_form outer at (may_emit (order_seen test.order) test.begun.negated)
-        (is_empty (spelled word.entry r.now.word.items)) (first_of r.now.rest.bytes) }
+        (descent.is_empty (spelled word.entry r.now.word.items)) (first_of r.now.rest.bytes) }
 {
     let none = is_none(word, &r.word);
     let Some(b) = r.rest.first() else {
@@ -177,7 +177,7 @@ fn mark_form(
 
 /// What a test asks in this form.
 #[inline(always)]
-fn marked_as(form: MarkForm, mark: u8) -> Asked
+fn mark_question(form: MarkForm, mark: u8) -> Asked
     ensures { result ≡ marked_as form mark }
 {
     match form {
@@ -189,7 +189,7 @@ fn marked_as(form: MarkForm, mark: u8) -> Asked
 
 /// What a test asks that begins with a mark, after it.
 #[inline(always)]
-fn marked<'a>(
+fn mark_operand<'a>(
     outer: Option<u32>,
     at: u32,
     test: Test,
@@ -197,18 +197,17 @@ fn marked<'a>(
 ) -> Result<Operand<'a>, SyntaxFault>
     ensures { Gives SyntaxFault.Memory
         (λ o. (operand_seen o r.new.word.items, seen r.new)) result
-        (operand_given outer (seen r.old) (descent.mark_text at
-        (may_emit (order_seen test.order) test.begun.negated) test.begun.byte r.old.rest.at
-        r.old.rest.bytes)) }
+        (value_given outer (seen r.old) (descent.mark_text at
+        (may_emit (order_seen test.order) test.begun.negated) test.begun.byte r.old.rest)) }
 {
-    let Some(word) = quoted(Class::Word, r)? else {
+    let Some(word) = word_run(Class::Word, r)? else {
         return Err(unclosed_fault(outer, at));
     };
     let form = mark_form(outer, at, test, word, r)?;
     r.rest.take_if(b'*');
     Ok(Operand {
         word,
-        asked: marked_as(form, test.begun.byte),
+        asked: mark_question(form, test.begun.byte),
     })
 }
 
@@ -224,12 +223,12 @@ fn plain_operand<'a>(
     requires other { (test.begun.byte == 37) ≡ false }
     ensures { Gives SyntaxFault.Memory
         (λ o. (operand_seen o r.new.word.items, seen r.new)) result
-        (operand_given outer (seen r.old) (descent.asked descent.no_lists top at
-        (may_emit (order_seen test.order) test.begun.negated) r.old.rest.at r.old.rest.bytes)) }
+        (value_given outer (seen r.old) (descent.asked descent.no_lists top at
+        (may_emit (order_seen test.order) test.begun.negated) r.old.rest)) }
 {
     if is_mark(test.begun.byte) {
         r.rest.take(1);
-        return marked(outer, at, test, r);
+        return mark_operand(outer, at, test, r);
     }
     let p = pattern(outer, at, r)?;
     Ok(Operand {
@@ -317,9 +316,8 @@ fn write_test(tested: Tested<'_>, r: &mut Reader<'_>) -> Result<Choice, SyntaxFa
     };
     part_of_word(TokenKind::Test, extent, o.word, naming, r)?;
     Ok(Choice {
-        part: choice.part,
-        label: choice.label,
         starred: choice.starred && naming.starred && !naming.negated,
+        ..choice
     })
 }
 
@@ -360,11 +358,11 @@ fn alternative_with_test(
 
 /// What the byte after a test makes of it, with that byte.
 #[inline(always)]
-fn judged(at: u32, tested: Tested<'_>, b: u8, r: &mut Reader<'_>) -> Result<Next, SyntaxFault>
+fn judge(at: u32, tested: Tested<'_>, b: u8, r: &mut Reader<'_>) -> Result<Next, SyntaxFault>
     requires { first_of r.old.rest.bytes ≡ Some b }
     ensures { Gives SyntaxFault.Memory (λ next. (next, seen r.new)) result
         (after_given (alternative_of tested.entry.test.order) (seen r.old)
-        (descent.after at (order_seen tested.entry.test.order)
+        (descent.decided at (order_seen tested.entry.test.order)
         (tried_seen tested.entry.test.begun.start tested.entry.end
         tested.entry.test.begun.negated
         (operand_seen tested.entry.operand r.old.word.items) b))) }
@@ -428,7 +426,7 @@ pub fn plain_test(
     ensures { Gives SyntaxFault.Memory (λ next. (next, seen r.new)) result
         (tried_given outer at (order_seen test.order) (alternative_of test.order) (seen r.old)
         (descent.asked_from descent.no_lists top at (order_seen test.order) test.begun.start
-        test.begun.negated r.old.rest.at r.old.rest.bytes)) }
+        test.begun.negated r.old.rest)) }
 {
     let operand = plain_operand(outer, at, test, r)?;
     let end = r.rest.at();
@@ -437,11 +435,11 @@ pub fn plain_test(
         return Err(unclosed_fault(outer, at));
     };
     let tested = Tested { test, operand, end };
-    judged(at, tested, b, r)
+    judge(at, tested, b, r)
 }
 
 /// What the byte after a test of a function's result makes of it.
-pub fn result_judged(at: u32, choice: Choice, b: u8) -> Result<Next, SyntaxFault>
+pub fn judge_result(at: u32, choice: Choice, b: u8) -> Result<Next, SyntaxFault>
     ensures { result ≡ result_after at choice b }
 {
     match b {

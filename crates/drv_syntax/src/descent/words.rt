@@ -1,9 +1,9 @@
 //! Runs of bytes of one class, and words with escapes.
 
 ghost use Rattle.drv_syntax.specs.Descent as descent;
-ghost use Rattle.drv_syntax.specs.Code.Writing.{in_class, quoted_to, seen, words_seen};
-ghost use Rattle.drv_syntax.specs.Code.Left.{begins_with};
-ghost use Rattle.drv_syntax.specs.Code.Left.{first_of, second_of};
+ghost use Rattle.drv_syntax.specs.Code.Writing.{in_class, more_ran, ran, seen, words_seen};
+ghost use Rattle.drv_syntax.specs.Rest.{begins_with};
+ghost use Rattle.drv_syntax.specs.Rest.{first_of, second_of};
 ghost use Rattle.drv_words.specs.Gives.{Gives};
 ghost use Rattle.std.specs.Prelude.{◌≡◌, [], Ok};
 
@@ -78,8 +78,7 @@ fn escaped_run<'a>(
     r: &mut Reader<'a>,
 ) -> Result<Option<Spelled<'a>>, SyntaxFault>
     ensures { Gives SyntaxFault.Memory (λ word. words_seen word r.new.word.items (seen r.new))
-        result (Ok (quoted_to front.now (seen r.old)
-        (descent.quoted (in_class class) r.old.rest.bytes))) }
+        result (Ok (more_ran front.now (descent.quoted (in_class class) r.old.rest) (seen r.old))) }
 {
     r.word.clear();
     r.word.extend_from_slice(front)?;
@@ -102,10 +101,9 @@ fn escaped_run<'a>(
 
 /// The longest run of bytes of the class and of escapes; nothing where the text ends in an escape.
 #[inline(always)]
-pub fn quoted<'a>(class: Class, r: &mut Reader<'a>) -> Result<Option<Spelled<'a>>, SyntaxFault>
+pub fn word_run<'a>(class: Class, r: &mut Reader<'a>) -> Result<Option<Spelled<'a>>, SyntaxFault>
     ensures { Gives SyntaxFault.Memory (λ word. words_seen word r.new.word.items (seen r.new))
-        result (Ok (quoted_to [] (seen r.old)
-        (descent.quoted (in_class class) r.old.rest.bytes))) }
+        result (Ok (ran (descent.quoted (in_class class) r.old.rest) (seen r.old))) }
 {
     let size = run_length(RunKind::Word(class), r.rest.bytes());
     let run = r.rest.take(size);

@@ -1,4 +1,4 @@
-use Rattle.drv_syntax.proofs.CutPlaces.{cut_at, cut_there}
+use Rattle.drv_syntax.proofs.ParsedGrammar.{cut_at, cut_there}
 use Rattle.drv_syntax.proofs.laws.cut_at_open.Goals as goal
 
 -- cut_at_open (src/laws.rt). A text that is cut short is cut at the place of what is open at its end, and at no other.

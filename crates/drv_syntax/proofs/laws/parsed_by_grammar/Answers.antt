@@ -1,4 +1,4 @@
-use Rattle.drv_syntax.proofs.RefusalKinds as kinds
+use Rattle.drv_syntax.proofs.ParsedGrammar as kinds
 use Rattle.drv_syntax.proofs.laws.parsed_by_grammar.Goals as goal
 
 -- parsed_by_grammar (src/laws.rt). What a text is parsed to, by the grammar: its tree, the fault of its shortest prefix that is no front,

@@ -1,4 +1,4 @@
-use Rattle.drv_syntax.proofs.Misfits.{misfit_at, misfit_refused}
+use Rattle.drv_syntax.proofs.Refusals.{misfit_at, misfit_refused}
 use Rattle.drv_syntax.proofs.laws.refused_at_misfit.Goals as goal
 
 -- refused_at_misfit (src/laws.rt). A text is refused at the byte after its longest prefix that is a front, and at no other.

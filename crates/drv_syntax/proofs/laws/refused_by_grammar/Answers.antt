@@ -1,5 +1,5 @@
 use Rattle.drv_syntax.proofs.ParsedGrammar.{parsed_refused}
-use Rattle.drv_syntax.proofs.RefusalKinds.{refused_parsed}
+use Rattle.drv_syntax.proofs.ParsedGrammar.{refused_parsed}
 use Rattle.drv_syntax.proofs.laws.refused_by_grammar.Goals as goal
 
 -- refused_by_grammar (src/laws.rt). A text is refused for a fault exactly where the grammar refuses it for that one.

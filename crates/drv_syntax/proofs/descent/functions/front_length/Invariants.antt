@@ -1,5 +1,5 @@
 use Rattle.drv_syntax.proofs.descent.functions.front_length.Given as goal
-use Rattle.drv_syntax.specs.Code.Writing.{front_size}
+use Rattle.drv_syntax.specs.Descent.{front_size}
 use Rattle.std.proofs.Common.{[], ◌≡◌, ◌≤◌, ◌+◌, ◌-◌, drop, length, take}
 
 -- The loops of front_length (src/descent/functions.rt). How many bytes of a function's name a text begins with.

@@ -3,7 +3,6 @@ use Rattle.drv_syntax.specs.Code.Lists.{around, context_seen, later_given, liste
 use Rattle.drv_syntax.specs.Code.Tests.{more_given}
 use Rattle.drv_syntax.specs.Code.Writing.{seen}
 use Rattle.drv_syntax.specs.Descent as descent
-use Rattle.drv_syntax.specs.Refusals.{AtBar, AtNext}
 use Rattle.std.proofs.Common.{◌≡◌, ◌+◌, ◌*◌, length}
 
 -- The functions of the reader that call one another (src/descent/): each gives what the descent gives for its list, choice, test or call.
@@ -57,9 +56,9 @@ decreases-call l = 10 * l.c.levels + 1
 abbrev pub invariant-items-loop-tail : goal.invariant-items-loop-tail
 invariant-items-loop-tail l =
     listed_given l.outer l.tail (seen l.r)
-    (descent.items_with (around l.c.levels).0 (around l.c.levels).1 (context_seen l.c) l.r.rest.at 0 l.r.rest.bytes)
+    (descent.items (around l.c.levels).0 (around l.c.levels).1 (context_seen l.c) l.r.rest)
     ≡ listed_given l.fn.outer (tail_at (seen l.fn.r)) (seen l.fn.r)
-    ((descent.levels l.fn.c.levels).0 (context_seen l.fn.c) l.fn.r.rest.at l.fn.r.rest.bytes)
+    ((descent.levels l.fn.c.levels).0 (context_seen l.fn.c) l.fn.r.rest)
 
 -- each round of `items` takes a byte of the text at least
 abbrev pub decreases-items-loop-tail : goal.decreases-items-loop-tail
@@ -70,10 +69,9 @@ decreases-items-loop-tail l = length l.r.rest.bytes
 abbrev pub invariant-later-loop-r : goal.invariant-later-loop-r
 invariant-later-loop-r l =
     later_given l.outer (seen l.r)
-    (descent.choices (around l.c.levels).0 (around l.c.levels).1 (context_seen l.c) l.at AtNext l.r.rest.at 0 l.r.rest.bytes)
+    (descent.later (around l.c.levels).0 (around l.c.levels).1 (context_seen l.c) l.at l.r.rest)
     ≡ later_given l.fn.outer (seen l.fn.r)
-    (descent.choices (around l.fn.c.levels).0 (around l.fn.c.levels).1 (context_seen l.fn.c) l.fn.at AtNext l.fn.r.rest.at 0
-    l.fn.r.rest.bytes)
+    (descent.later (around l.fn.c.levels).0 (around l.fn.c.levels).1 (context_seen l.fn.c) l.fn.at l.fn.r.rest)
 
 -- each round of `later` takes a byte of the text at least
 abbrev pub decreases-later-loop-r : goal.decreases-later-loop-r
@@ -83,9 +81,9 @@ decreases-later-loop-r l = length l.r.rest.bytes
 abbrev pub invariant-more_tests-loop-choice : goal.invariant-more_tests-loop-choice
 invariant-more_tests-loop-choice l =
     more_given l.outer l.choice (seen l.r)
-    (descent.tests (around l.c.levels).1 (context_seen l.c) l.at AtBar l.r.rest.at 0 l.r.rest.bytes)
+    (descent.more_tests (around l.c.levels).1 (context_seen l.c) l.at l.r.rest)
     ≡ more_given l.fn.outer l.fn.choice (seen l.fn.r)
-    (descent.tests (around l.fn.c.levels).1 (context_seen l.fn.c) l.fn.at AtBar l.fn.r.rest.at 0 l.fn.r.rest.bytes)
+    (descent.more_tests (around l.fn.c.levels).1 (context_seen l.fn.c) l.fn.at l.fn.r.rest)
 
 -- each round of `more_tests` takes a byte of the text at least
 abbrev pub decreases-more_tests-loop-choice : goal.decreases-more_tests-loop-choice

@@ -7,6 +7,6 @@ use Rattle.drv_syntax.specs.Code.Writing.{seen}
 -- what was written after the tail is taken back, and the alternative's token and label are filled in
 pub returns : goal.returns
 returns c =
-    owned_of c.args.choice c.args.tail c.args.around (seen c.args.r.now) c.truncate.new.self c.close.new.self c.truncate-2.new.self
-    c.hold.new.self
+    owned_of c.args.choice c.args.tail c.args.r.now.holds_star (seen c.args.r.now) c.truncate.new.self c.close.new.self
+    c.truncate-2.new.self c.hold.new.self
     c.truncate.ensures c.truncate-2.ensures c.close.ensures c.hold.ensures

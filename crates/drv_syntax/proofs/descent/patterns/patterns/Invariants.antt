@@ -9,8 +9,8 @@ use Rattle.std.proofs.Common.{◌≡◌, length}
 -- the patterns so far and what Descent gives of the text that is left make what is given of all
 abbrev pub invariant-loop-p : goal.invariant-loop-p
 invariant-loop-p l =
-    patterns_given l.outer (seen l.r) (descent.patterns l.at l.r.rest.at 0 l.r.rest.bytes)
-    ≡ patterns_given l.fn.outer (seen l.fn.r) (descent.patterns l.fn.at l.fn.r.rest.at 0 l.fn.r.rest.bytes)
+    patterns_given l.outer (seen l.r) (descent.patterns l.at l.r.rest)
+    ≡ patterns_given l.fn.outer (seen l.fn.r) (descent.patterns l.fn.at l.fn.r.rest)
 
 -- each round takes a byte of the text at least
 abbrev pub decreases-loop-p : goal.decreases-loop-p

@@ -1,4 +1,4 @@
-use Rattle.drv_syntax.proofs.GivenParts.{gives_err}
+use Rattle.drv_syntax.proofs.Taken.{gives_err}
 use Rattle.drv_syntax.proofs.descent.reading.read_more.Goals as goal
 
 -- read_more (src/descent/reading.rt). The tokens and the labels of a text, of which those of its first bytes, so many, are these.

@@ -1,7 +1,7 @@
-use Rattle.drv_syntax.proofs.GivenParts.{gives_err, ok_same}
+use Rattle.drv_syntax.proofs.Taken.{gives_err, ok_same}
 use Rattle.drv_syntax.proofs.WholeGiven.{from_start}
 use Rattle.drv_syntax.proofs.descent.reading.read_text.Goals as goal
-use Rattle.std.proofs.Common.{◌∙◌, sym}
+use Rattle.std.proofs.Common.{sym, ◌∙◌}
 
 -- read_text (src/descent/reading.rt). The tokens and the labels of a text.
 

@@ -1,6 +1,9 @@
+use Rattle.drv_syntax.specs.Bytes.{is_white}
+use Rattle.std.specs.List.{prefix_len}
 use Rattle.std.specs.Prelude.{◌+◌, ◌==◌, Bool, false, if◌then◌else◌, List, [], ◌∷◌, None, Option, Some, drop, ℕ}
 
--- What is left of a text that is being read. For the clauses of src/descent/rest.rt (`Rest`), which those of all src/descent/ cite.
+-- What is left of a text that is being read. The functions of Descent go from one such rest to the next, as the code does
+-- (src/descent/rest.rt).
 
 -- what is left of a text, and where it begins in the whole text
 pub record Left : Type 0 where
@@ -29,3 +32,12 @@ begins_with b (c ∷ text) = c == b
 -- what is left without this byte, if it comes next
 abbrev pub past_byte : ℕ → Left → Left
 past_byte b rest = if begins_with b rest.bytes then after 1 rest else rest
+
+-- what is left without the white space that comes next
+abbrev pub past_white : Left → Left
+past_white rest = after (prefix_len is_white rest.bytes) rest
+
+-- by the byte that comes next, which is still left; or, where the text ends, the first
+abbrev pub by_byte : {X : Type 0} → Option ℕ → X → (ℕ → X) → X
+by_byte None ends goes = ends
+by_byte (Some b) ends goes = goes b

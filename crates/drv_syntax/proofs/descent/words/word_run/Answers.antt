@@ -1,14 +1,14 @@
-use Rattle.drv_syntax.proofs.GivenParts.{gives_same}
-use Rattle.drv_words.specs.Bytes as ascii
-use Rattle.drv_syntax.proofs.Writing.{run_found, run_goes}
-use Rattle.drv_syntax.proofs.descent.words.quoted.Goals as goal
+use Rattle.drv_syntax.proofs.Taken.{gives_same}
+use Rattle.drv_syntax.proofs.WordRuns.{run_found, run_goes}
+use Rattle.drv_syntax.proofs.descent.words.word_run.Goals as goal
 use Rattle.drv_syntax.specs.Code.Writing.{runs_in, seen}
-use Rattle.drv_syntax.specs.Code.Left.{begins_with}
-use Rattle.std.proofs.Common.{◌∙◌, ap, sym}
+use Rattle.drv_syntax.specs.Rest.{begins_with}
+use Rattle.drv_words.specs.Bytes as ascii
+use Rattle.std.proofs.Common.{ap, sym, ◌∙◌}
 use Rattle.std.specs.List.{prefix_len}
 use Rattle.std.specs.Prelude.{Ok}
 
--- quoted (src/descent/words.rt). The longest run of bytes of the class and of escapes; nothing where the text ends in an escape.
+-- word_run (src/descent/words.rt). The longest run of bytes of the class and of escapes; nothing where the text ends in an escape.
 
 -- no backslash follows the run: its bytes are those of the text
 pub returns-then-not-begins : goal.returns-then-not-begins
