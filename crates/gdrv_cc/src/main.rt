@@ -5,8 +5,10 @@
 ghost use Rattle.gdrv_cc.specs.Endings.{status_of};
 ghost use Rattle.std.specs.Prelude.{◌≡◌};
 
+mod completion;
 mod process;
 
+use completion::{asks_completion, write_completion};
 use drv_compile::{Outcome, Request, beside, calling_of, compile};
 use drv_system::{HostSystem, Reporter, arguments, called_as, clock_seed, complain};
 use drv_words::Word;
@@ -59,11 +61,23 @@ fn own_specs(rt: &HostRuntime, machine: &[u8]) -> Result<Option<Word>, AllocErro
     }
 }
 
+/// Prints what bash reads to complete words. The exit status is 1 where it couldn't be written.
+fn answer(rt: &HostRuntime) -> Outcome {
+    let stream = rt.stdout();
+    match write_completion(&mut io::writer(&stream)) {
+        Ok(()) => Outcome::Done(0),
+        Err(_) => Outcome::Done(1),
+    }
+}
+
 /// Has this process's call done.
 fn call(rt: &HostRuntime) -> io::Result<Outcome> {
     let path = called_as(rt)?;
     let calling = calling_of(rt.alloc(), path.as_bytes())?;
     let args = arguments(rt)?;
+    if asks_completion(calling.front, args.as_slice()) {
+        return Ok(answer(rt));
+    }
     let own = own_specs(rt, calling.machine.as_bytes())?;
     let seed = clock_seed(rt)?;
     let mut sys = HostSystem::new(rt.clone()?, Reporter::GdrvCc);

@@ -20,7 +20,7 @@ use Rattle.std.specs.Prelude.{nat_eq, nat_lt, true, ℕ}
 
 -- What a call of the program asks for: its first word is the command (this project's profile).
 -- For clauses of src/calling.rt and src/cutting.rt. A word that changes here changes in src/help.rt, docs/gdrv-specs.1 and
--- share/bash-completion too.
+-- crates/gdrv_cc/src/completion.rt too.
 
 -- the command that a first word names, if it names one
 abbrev pub command_named : List ℕ → Option Command

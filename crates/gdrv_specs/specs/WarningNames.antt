@@ -5,7 +5,7 @@ use Rattle.std.specs.Cmp.Lexicographic.{pointwise}
 use Rattle.std.specs.Prelude.{◌||◌, ◌++◌, Bool, List, codes, nat_eq, ℕ}
 
 -- The names of the warnings of a check, and what they say (this project's profile).
--- For clauses of src/warning_names.rt. A new warning is named in docs/SPEC_TOOLS.md, docs/gdrv-specs.1 and share/bash-completion too.
+-- For clauses of src/warning_names.rt. A new warning is named in docs/gdrv-specs.1 and crates/gdrv_cc/src/completion.rt too.
 
 -- the name of a warning, by which -Wno- switches it off
 abbrev pub warning_name : Warning → List ℕ

@@ -1,4 +1,16 @@
-# bash completion for gdrv, gdrv-cc (gdrv-gcc and TARGET-gdrv-cc too) and gdrv-specs. ./install links each command's name to this file.
+//! The question that the program answers itself: `gdrv-cc --completion`.
+
+ghost use Rattle.gdrv_cc.specs.Questions.{asks_completion, is_completion};
+ghost use Rattle.std.specs.Prelude.{◌≡◌};
+
+use drv_compile::Front;
+use drv_words::Word;
+use std::io::{self, Write};
+
+/// What bash reads to complete the words of `gdrv`, `gdrv-cc` and `gdrv-specs`.
+const COMPLETION: &str =
+    r#"# bash completion for gdrv, gdrv-cc (gdrv-gcc and TARGET-gdrv-cc too) and gdrv-specs.
+# `gdrv-cc --completion` prints it. ./install puts it into a file, and links each command's name to that.
 
 # The words that complete the current one, out of a list.
 _gdrv_words() {
@@ -64,3 +76,33 @@ complete -F _gdrv gdrv
 complete -F _gdrv_cc gdrv-cc gdrv-gcc
 case ${BASH_SOURCE##*/} in *-gdrv-cc | *-gdrv-gcc) complete -F _gdrv_cc "${BASH_SOURCE##*/}" ;; esac
 complete -F _gdrv_specs gdrv-specs
+"#;
+
+/// Whether these words are the one that asks for it.
+fn is_completion(args: &[Word]) -> bool
+    ensures { result ≡ is_completion args.now }
+{
+    match args {
+        [word] => word.as_bytes() == b"--completion".as_slice(),
+        _ => false,
+    }
+}
+
+/// Whether a call asks for what bash reads: a line of gcc that has no other word. To gcc that word is
+/// unknown; only `--completion=` with the beginning of an option is one of its own.
+pub fn asks_completion(front: Front, args: &[Word]) -> bool
+    ensures { result ≡ asks_completion front args.now }
+{
+    match front {
+        Front::Gcc => is_completion(args),
+        Front::C99 => false,
+    }
+}
+
+/// Writes what bash reads.
+///
+/// # Errors
+/// Why it could not be written.
+pub fn write_completion<W: Write>(to: &mut W) -> io::Result<()> {
+    to.write_all(COMPLETION.as_bytes())
+}
