@@ -10,11 +10,11 @@ use crate::natives::with_natives;
 use crate::placing::{driver_at, stem_of};
 use crate::row_texts::Ways;
 use crate::rows::{Row, naming_in, push_names, push_row, row_of};
-use crate::work_folder::{WorkFolder, absolute, join, write};
+use crate::temporary::remove_left;
+use crate::work_folder::{WorkFolder, join, try_place, write};
 use drv_gcc::values;
 use drv_words::{Listing, Word};
 use std::alloc::Global;
-use std::env::var;
 use std::fs;
 
 /// The endings of the files beside the one that names the gcc.
@@ -181,7 +181,9 @@ pub fn add_words(rt: &HostRuntime, specs: &Word, options: &[Word]) -> Result<(),
         gcc,
         key,
     } = question_of(rt, specs, options)?;
-    let work = WorkFolder::new(rt, &stem, &driver_at(rt)?)?;
+    try_place(rt, &stem)?;
+    remove_left(rt)?;
+    let work = WorkFolder::new(rt, &driver_at(rt)?)?;
     let pair = Pair {
         rt,
         work: &work,
@@ -190,15 +192,6 @@ pub fn add_words(rt: &HostRuntime, specs: &Word, options: &[Word]) -> Result<(),
     let done = add_in(pair, &stem, lines.as_slice(), &key);
     work.remove(rt);
     done
-}
-
-/// A place in the folder of temporary files.
-fn temporary_place(rt: &HostRuntime) -> Result<Word, Fault> {
-    let folder = match var(rt, "TMPDIR") {
-        Ok(folder) if !folder.is_empty() => Word::from_vec(folder.into_bytes()),
-        _ => Word::from_bytes(rt.alloc(), b"/tmp")?,
-    };
-    absolute(rt, &join(rt.alloc(), &folder, b"/row")?)
 }
 
 /// Asks the gcc of a spec file for the words that it makes of these options, and gives them as a
@@ -210,7 +203,7 @@ pub fn row_text(rt: &HostRuntime, specs: &Word, options: &[Word]) -> Result<Word
         gcc,
         key,
     } = question_of(rt, specs, options)?;
-    let work = WorkFolder::new(rt, &temporary_place(rt)?, &driver_at(rt)?)?;
+    let work = WorkFolder::new(rt, &driver_at(rt)?)?;
     let pair = Pair {
         rt,
         work: &work,

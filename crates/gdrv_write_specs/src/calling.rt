@@ -1,13 +1,16 @@
 //! What a call of the program asks for.
 
 ghost use Rattle.drv_words.specs.Gives.{Gives};
-ghost use Rattle.gdrv_write_specs.specs.Calls.{call_of, is_specs, order_of, question_of};
-ghost use Rattle.gdrv_write_specs.specs.Calls.{row_of, row_order_of, written_to};
+ghost use Rattle.gdrv_write_specs.specs.Calls.{call_of, is_option, is_specs, named_order_of};
+ghost use Rattle.gdrv_write_specs.specs.Calls.{order_of, question_of, row_of, row_order_of};
+ghost use Rattle.gdrv_write_specs.specs.Calls.{target_of, usual_output, written_to};
 ghost use Rattle.gdrv_write_specs.specs.declared.calling.CallFault.TheVariants.{Memory};
+ghost use Rattle.std.specs.List.{list_all};
 ghost use Rattle.std.specs.Prelude.{◌≡◌, IfOk};
 
-use drv_words::{Listing, Word, copy_words};
+use drv_words::{Listing, Word, base, copy_words, split_at_last};
 use std::alloc::{AllocError, Global};
+use std::slice;
 
 /// How a spec file is put in place.
 #[derive(Clone, Copy, Debug)]
@@ -27,6 +30,19 @@ pub enum Fate {
     Printed,
 }
 
+/// A spec file that is asked for.
+#[derive(Debug, Drop)]
+pub struct Order {
+    /// How it is put in place.
+    pub manner: Manner,
+    /// Its path.
+    pub output: Word,
+    /// The name or the path of the gcc.
+    pub gcc: Word,
+    /// Options of a line that choose a machine. The file must serve lines with these.
+    pub options: Listing<Word>,
+}
+
 /// What a call asks for.
 #[derive(Debug, Drop)]
 pub enum Call {
@@ -34,8 +50,8 @@ pub enum Call {
     Help,
     /// Its version.
     Version,
-    /// The spec file of this path for this gcc.
-    Write(Manner, Word, Word),
+    /// The spec file of a gcc.
+    Write(Order),
     /// The words of these options for a machine, by the gcc of the spec file of this path.
     Row(Fate, Word, Listing<Word>),
 }
@@ -69,26 +85,93 @@ fn is_specs(path: &[u8]) -> bool
     path.ends_with(b".specs") && path.len() > 6
 }
 
-/// The spec file of this path for this gcc.
-fn written_to(manner: Manner, output: &Word, gcc: &Word) -> Result<Call, CallFault>
-    ensures { Gives Memory (λ call. call) result (written_to manner output.now gcc.now) }
+/// Whether a word is an option.
+fn is_option(word: &[u8]) -> bool
+    ensures { result ≡ is_option word.now }
 {
-    let path = output.clone()?;
-    if is_specs(path.as_bytes()) {
-        return Ok(Call::Write(manner, path, gcc.clone()?));
+    word.starts_with(b"-")
+}
+
+/// Whether words are options.
+fn are_options(words: &[Word]) -> bool
+    ensures { result ≡ list_all is_option words.now }
+{
+    match words {
+        [] => true,
+        [word, rest @ ..] => is_option(word.as_bytes()) && are_options(rest),
     }
-    Err(CallFault::NotSpecs(path))
+}
+
+/// The machine of a gcc of this name, as an installation names its spec file.
+fn target_of(name: &[u8]) -> &[u8]
+    ensures { result.now ≡ target_of name.now }
+{
+    if name == b"gcc".as_slice() {
+        return b"host";
+    }
+    match split_at_last(b'-', name) {
+        Some((target, rest)) if rest == b"gcc".as_slice() => target,
+        _ => name,
+    }
+}
+
+/// The spec file of a gcc for which the call names none.
+fn usual_output(alloc: Global, gcc: &[u8]) -> Result<Word, AllocError>
+    ensures { IfOk result (λ path. path ≡ usual_output gcc.now) }
+{
+    let mut path = Word::from_bytes(alloc, target_of(base(gcc)))?;
+    path.extend_from_slice(b".specs")?;
+    Ok(path)
+}
+
+/// The spec file of this path for this gcc and these options.
+fn written_to(
+    alloc: Global,
+    manner: Manner,
+    output: Word,
+    gcc: &Word,
+    options: &[Word],
+) -> Result<Call, CallFault>
+    ensures { Gives Memory (λ call. call) result (written_to manner output gcc.now options.now) }
+{
+    if is_specs(output.as_bytes()) {
+        return Ok(Call::Write(Order {
+            manner,
+            output,
+            gcc: gcc.clone()?,
+            options: copy_words(alloc, options)?,
+        }));
+    }
+    Err(CallFault::NotSpecs(output))
+}
+
+/// The spec file of this path that words ask for: a gcc, and options after it.
+fn named_order_of(
+    alloc: Global,
+    manner: Manner,
+    output: Word,
+    words: &[Word],
+) -> Result<Call, CallFault>
+    ensures { Gives Memory (λ call. call) result (named_order_of manner output words.now) }
+{
+    match words {
+        [gcc, options @ ..] if !is_option(gcc.as_bytes()) && are_options(options) => {
+            written_to(alloc, manner, output, gcc, options)
+        }
+        _ => Err(CallFault::Misused),
+    }
 }
 
 /// The spec file that words ask for.
-fn order_of(manner: Manner, words: &[Word]) -> Result<Call, CallFault>
+fn order_of(alloc: Global, manner: Manner, words: &[Word]) -> Result<Call, CallFault>
     ensures { Gives Memory (λ call. call) result (order_of manner words.now) }
 {
     match words {
-        [option, output, gcc] if option.as_bytes() == b"-o".as_slice() => {
-            written_to(manner, output, gcc)
+        [option, output, rest @ ..] if option.as_bytes() == b"-o".as_slice() => {
+            named_order_of(alloc, manner, output.clone()?, rest)
         }
-        _ => Err(CallFault::Misused),
+        [gcc, ..] => named_order_of(alloc, manner, usual_output(alloc, gcc.as_bytes())?, words),
+        [] => Err(CallFault::Misused),
     }
 }
 
@@ -114,32 +197,33 @@ fn row_order_of(alloc: Global, fate: Fate, words: &[Word]) -> Result<Call, CallF
     }
 }
 
-/// What a word asks of the program itself.
-fn question_of(word: &[u8]) -> Result<Call, CallFault>
-    ensures { result ≡ question_of word.now }
+/// What a word alone asks for: something of the program itself, or the spec file of a gcc.
+fn question_of(alloc: Global, word: &Word) -> Result<Call, CallFault>
+    ensures { Gives Memory (λ call. call) result (question_of word.now) }
 {
-    if word == b"--help".as_slice() {
+    if word.as_bytes() == b"--help".as_slice() {
         return Ok(Call::Help);
     }
-    if word == b"--version".as_slice() {
+    if word.as_bytes() == b"--version".as_slice() {
         return Ok(Call::Version);
     }
-    Err(CallFault::Misused)
+    order_of(alloc, Manner::Compared, slice::from_ref(word))
 }
 
 /// What a call with these words asks for.
 ///
 /// # Errors
-/// Lack of memory; the words are others than `[--force] -o X.specs GCC`, `--add X.specs OPTION..`,
-/// `--row X.specs OPTION..` or a question; the name of the spec file has another ending.
+/// Lack of memory; the words are others than `[--force] [-o X.specs] GCC [OPTION..]`,
+/// `--add X.specs OPTION..`, `--row X.specs OPTION..` or a question; the name of the spec file has
+/// another ending.
 pub fn call_of(alloc: Global, words: &[Word]) -> Result<Call, CallFault>
     ensures { Gives Memory (λ call. call) result (call_of words.now) }
 {
     match words {
         [] => Err(CallFault::Misused),
-        [word] => question_of(word.as_bytes()),
+        [word] => question_of(alloc, word),
         [word, rest @ ..] if word.as_bytes() == b"--force".as_slice() => {
-            order_of(Manner::Forced, rest)
+            order_of(alloc, Manner::Forced, rest)
         }
         [word, rest @ ..] if word.as_bytes() == b"--add".as_slice() => {
             row_order_of(alloc, Fate::Added, rest)
@@ -147,6 +231,6 @@ pub fn call_of(alloc: Global, words: &[Word]) -> Result<Call, CallFault>
         [word, rest @ ..] if word.as_bytes() == b"--row".as_slice() => {
             row_order_of(alloc, Fate::Printed, rest)
         }
-        words => order_of(Manner::Compared, words),
+        words => order_of(alloc, Manner::Compared, words),
     }
 }

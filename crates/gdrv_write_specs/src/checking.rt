@@ -1,6 +1,6 @@
 //! The plans by a spec file are compared with those of the gcc.
 
-use crate::asking::{Said, ask, commands};
+use crate::asking::{Said, ask, commands, question_about};
 use crate::fault::Fault;
 use crate::finding::has_bytes;
 use crate::listing::option_list;
@@ -9,6 +9,7 @@ use crate::work_folder::WorkFolder;
 use drv_gcc::{options, same_commands};
 use drv_words::{Listing, Word};
 use std::alloc::Global;
+use std::io::ErrorKind;
 
 /// The lines that must have gcc's plan: each way to compile, to assemble and to link.
 const LINES: [&[u8]; 31] = [
@@ -148,7 +149,11 @@ fn has_pipe(shown: &[u8]) -> bool {
 impl<'a> Pair<'a> {
     /// What a program shows for a line.
     fn show(self, program: &Word, line: &Word) -> Result<Said, Fault> {
-        Ok(ask(self.rt, &self.work.lines, program, line.as_bytes())?)
+        match ask(self.rt, &self.work.lines, program, line.as_bytes()) {
+            Ok(said) => Ok(said),
+            Err(error) if error.kind() == ErrorKind::OutOfMemory => Err(Fault::Memory),
+            Err(_) => Err(Fault::NoGcc(program.clone()?)),
+        }
     }
 
     /// How the two drivers take a line with an option. This driver adds `-pipe` by itself.
@@ -204,6 +209,28 @@ impl<'a> Pair<'a> {
             self.add_other(line, &mut lines)?;
         }
         Ok(lines)
+    }
+
+    /// The lines with options for a machine whose plans differ, or that one driver refuses.
+    pub fn differences_with(self, options: &Word) -> Result<Listing<Word>, Fault> {
+        let mut lines = Listing::new(self.rt.alloc());
+        for line in MACHINE_LINES {
+            let mut whole = question_about(self.rt.alloc(), line, b" ")?;
+            whole.extend_from_slice(options.as_bytes())?;
+            self.add_unlike(whole.as_bytes(), &mut lines)?;
+        }
+        Ok(lines)
+    }
+
+    /// Whether the gcc compiles with options.
+    pub fn takes(self, options: &Word) -> Result<bool, Fault> {
+        let line = shown_line(
+            self.rt.alloc(),
+            b"-c x.c -o made",
+            options.as_bytes(),
+            false,
+        )?;
+        Ok(self.show(self.gcc, &line)?.is_done)
     }
 
     /// Whether a line with another root has another plan than gcc's.

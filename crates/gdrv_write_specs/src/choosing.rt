@@ -84,6 +84,15 @@ pub fn add_option(key: &mut Word, option: &[u8]) -> Result<(), Fault> {
     Ok(key.extend_from_slice(option)?)
 }
 
+/// These options, as a line has them.
+pub fn options_text(alloc: Global, options: &[Word]) -> Result<Word, Fault> {
+    let mut text = Word::empty(alloc);
+    for option in options {
+        add_option(&mut text, option.as_bytes())?;
+    }
+    Ok(text)
+}
+
 /// A key, and the same with each option that is the first of its like.
 pub fn keys_with(key: &Word, choosers: &[Chooser], alloc: Global) -> Result<Listing<Word>, Fault> {
     let mut keys = Listing::new(alloc);

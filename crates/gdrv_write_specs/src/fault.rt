@@ -31,6 +31,8 @@ pub enum Fault {
     NoRows(Word),
     /// The gcc refuses these options, or the spec file would make something else of them.
     NoRow(Word),
+    /// This gcc refuses these options.
+    Refuses(Word, Word),
     /// The plans differ; what they are is in the text.
     Differs(Word),
     /// The system refused something else.
@@ -110,6 +112,12 @@ impl Fault {
                 key.as_bytes(),
                 b"': the gcc refuses them, or its plan would be another one",
             ),
+            Fault::Refuses(gcc, options) => {
+                let mut rest = Word::from_bytes(alloc, b"' refuses '")?;
+                rest.extend_from_slice(options.as_bytes())?;
+                rest.push(b'\'')?;
+                gcc_line(alloc, gcc, rest.as_bytes())
+            }
             Fault::Differs(text) => line(alloc, text.as_bytes(), b"", b""),
             Fault::Other => line(alloc, b"the system refused a call", b"", b""),
         }
@@ -123,7 +131,7 @@ pub fn misuse_text(alloc: Global, fault: &CallFault) -> Result<Word, AllocError>
         CallFault::Misused => {
             line(
                 alloc,
-                b"expected [--force] -o X.specs GCC, --add X.specs OPTION.., --row X.specs OPTION.., --help or --version",
+                b"expected [--force] [-o X.specs] GCC [OPTION..], --add X.specs OPTION.., --row X.specs OPTION.., --help or --version",
                 b"",
                 b"",
             )

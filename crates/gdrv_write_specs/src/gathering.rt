@@ -4,7 +4,7 @@ use crate::alike::{folder_name, library_text, named_so};
 use crate::asked::{Asked, Places};
 use crate::asking::{commands, question_about};
 use crate::checking::Pair;
-use crate::choosing::{Chooser, choosers_of};
+use crate::choosing::{Chooser, choosers_of, key_by, push_choosers};
 use crate::defaults::with_defaults;
 use crate::fault::Fault;
 use crate::finding::{command_named, has_word, word_beginning};
@@ -12,7 +12,7 @@ use crate::machines::{Facts, MachineText, Machines, facts_for, machine_of, own_f
 use crate::natives::with_natives;
 use crate::programs::is_folder;
 use crate::row_texts::{Ways, multilib_facts};
-use crate::rows::{Row, multilibs, rows_of};
+use crate::rows::{Row, all_keys, multilibs, rows_of};
 use crate::texts_by_name::named_for;
 use crate::vendors::{VendorsFile, copies_in};
 use crate::wording::{own_records, with_other_words};
@@ -467,8 +467,8 @@ impl Gathered {
         )?)
     }
 
-    /// Asks for the rows.
-    pub fn add_rows(&mut self, pair: Pair<'_>) -> Result<(), Fault> {
+    /// Asks for the rows, also for that of these options. Gives the key of that.
+    pub fn add_rows(&mut self, pair: Pair<'_>, options: &[Word]) -> Result<Word, Fault> {
         let alloc = pair.rt.alloc();
         let libraries = multilib_facts(pair, &self.folder, self.names.as_slice())?;
         let all = libraries.as_slice();
@@ -476,16 +476,20 @@ impl Gathered {
         self.library = library_text(alloc, all, naming)?;
         self.others = named_so(alloc, libraries, naming);
         let folders = self.toolchain.folders.as_slice();
-        let choosers = choosers_of(pair)?;
+        self.choosers = choosers_of(pair)?;
+        let choosers = self.choosers.as_slice();
+        let mut chosen = Word::empty(alloc);
+        push_choosers(&mut chosen, choosers)?;
+        let key = key_by(alloc, chosen.as_bytes(), options)?;
+        let keys = all_keys(pair, choosers, &key)?;
         self.rows = rows_of(
             pair,
             self.probes.as_slice(),
             folders,
             naming,
-            choosers.as_slice(),
+            keys.as_slice(),
         )?;
-        self.choosers = choosers;
-        Ok(())
+        Ok(key)
     }
 
     /// Asks for the machine that an option chooses. One that gcc plans nothing for is left out.

@@ -33,6 +33,7 @@ mod refusing;
 mod row_texts;
 mod rows;
 mod shortening;
+mod temporary;
 mod texts_by_name;
 mod vendors;
 mod version;
@@ -107,7 +108,7 @@ fn act(rt: &HostRuntime, call: Result<Call, CallFault>) -> ExitCode {
     match call {
         Ok(Call::Help) => print(rt, HELP),
         Ok(Call::Version) => print_version(rt),
-        Ok(Call::Write(manner, output, gcc)) => end_call(rt, write_file(rt, manner, &output, &gcc)),
+        Ok(Call::Write(order)) => end_call(rt, write_file(rt, &order)),
         Ok(Call::Row(Fate::Added, path, options)) => {
             end_call(rt, add_words(rt, &path, options.as_slice()))
         }

@@ -1,9 +1,9 @@
 //! A spec file is written, tried and put in place.
 
 use crate::asking::{ask, question_about};
-use crate::calling::Manner;
+use crate::calling::{Manner, Order};
 use crate::checking::Pair;
-use crate::choosing::push_choosers;
+use crate::choosing::{options_text, push_choosers};
 use crate::devices::has_devices;
 use crate::fault::Fault;
 use crate::gathering::{Gathered, gather};
@@ -14,9 +14,10 @@ use crate::parts::{PARTS, part_of, whole_of};
 use crate::programs::{is_file, program_at};
 use crate::row_texts::Ways;
 use crate::rows::{multilibs, push_names, push_rows, suffix_of};
+use crate::temporary::remove_left;
 use crate::vendors::COPIES;
 use crate::wording::{with_refused, without_dropped};
-use crate::work_folder::{WorkFolder, absolute, join};
+use crate::work_folder::{WorkFolder, absolute, join, try_place};
 use drv_gcc::{gcc_file, spec_file, values};
 use drv_system::complain;
 use drv_words::{Listing, Word, split_at_last};
@@ -357,8 +358,24 @@ fn check(pair: Pair<'_>, manner: Manner, gathered: &mut Gathered) -> Result<(), 
     }
 }
 
-/// Makes the files of a gcc, of which this is known, and tries them.
-fn put_gathered(pair: Pair<'_>, manner: Manner, gathered: &mut Gathered) -> Result<(), Fault> {
+/// Compares the plans of lines with the options that the user names, if there are some.
+fn check_options(pair: Pair<'_>, manner: Manner, options: &Word) -> Result<(), Fault> {
+    if options.is_empty() {
+        return Ok(());
+    }
+    judge(pair, manner, pair.differences_with(options)?.as_slice())
+}
+
+/// Makes the files of a gcc, of which this is known, and tries them, also with these options.
+fn put_gathered(
+    pair: Pair<'_>,
+    manner: Manner,
+    options: &Word,
+    gathered: &mut Gathered,
+) -> Result<(), Fault> {
+    if !pair.takes(options)? {
+        return Err(Fault::Refuses(pair.gcc.clone()?, options.clone()?));
+    }
     gathered.choose(pair.rt.alloc())?;
     tell(
         pair.rt,
@@ -368,39 +385,50 @@ fn put_gathered(pair: Pair<'_>, manner: Manner, gathered: &mut Gathered) -> Resu
     put_beside(pair, gathered)?;
     refuse(gathered, pair.unnamed_options()?.as_slice())?;
     put_specs(pair, gathered)?;
-    check(pair, manner, gathered)
+    check(pair, manner, gathered)?;
+    check_options(pair, manner, options)
+}
+
+/// Whether there is a row of a key. That of no options is there by itself.
+fn has_row(gathered: &Gathered, key: &Word) -> bool {
+    key.is_empty()
+        || gathered
+            .rows
+            .as_slice()
+            .iter()
+            .any(|row| row.key.as_bytes() == key.as_bytes())
 }
 
 /// Makes the files of a gcc whose words for its machines are in rows, and tries them.
-fn put_with_rows(pair: Pair<'_>, manner: Manner) -> Result<(), Fault> {
+fn put_with_rows(pair: Pair<'_>, order: &Order) -> Result<(), Fault> {
+    let options = options_text(pair.rt.alloc(), order.options.as_slice())?;
     let mut gathered = gather(pair, Ways::Rows)?;
-    gathered.add_rows(pair)?;
-    put_gathered(pair, manner, &mut gathered)
+    let key = gathered.add_rows(pair, order.options.as_slice())?;
+    put_gathered(pair, order.manner, &options, &mut gathered)?;
+    match order.manner {
+        Manner::Compared if !has_row(&gathered, &key) => Err(Fault::NoRow(key)),
+        _ => Ok(()),
+    }
 }
 
 /// Makes the files of a gcc, and tries them. If the texts alone give other plans, or devices have
 /// spec files, rows do the work.
-fn put_all(pair: Pair<'_>, manner: Manner) -> Result<(), Fault> {
+fn put_all(pair: Pair<'_>, order: &Order) -> Result<(), Fault> {
     if has_devices(pair)? {
-        return put_with_rows(pair, manner);
+        return put_with_rows(pair, order);
     }
+    let options = options_text(pair.rt.alloc(), order.options.as_slice())?;
     let mut gathered = gather(pair, Ways::Texts)?;
-    match put_gathered(pair, manner, &mut gathered) {
-        Err(Fault::Differs(_)) => put_with_rows(pair, manner),
+    match put_gathered(pair, Manner::Compared, &options, &mut gathered) {
+        Err(Fault::Differs(_)) => put_with_rows(pair, order),
         done => done,
     }
 }
 
 /// Makes the files of a gcc in a folder of work, tries them, and puts them in place.
-fn write_in(
-    rt: &HostRuntime,
-    work: &WorkFolder,
-    manner: Manner,
-    stem: &Word,
-    gcc: &Word,
-) -> Result<(), Fault> {
-    put_all(Pair { rt, work, gcc }, manner)?;
-    work.place(rt, stem)
+fn write_in(pair: Pair<'_>, order: &Order, stem: &Word) -> Result<(), Fault> {
+    put_all(pair, order)?;
+    pair.work.place(pair.rt, stem)
 }
 
 /// The path of a spec file without its ending.
@@ -413,18 +441,20 @@ pub fn stem_of(rt: &HostRuntime, output: &Word) -> Result<Word, Fault> {
 
 /// Writes the spec file of a gcc, and the files beside it. If its plans differ from gcc's, nothing
 /// is written.
-pub fn write_file(
-    rt: &HostRuntime,
-    manner: Manner,
-    output: &Word,
-    gcc: &Word,
-) -> Result<(), Fault> {
-    let Some(path) = gcc_at(rt, gcc)? else {
-        return Err(Fault::NoGcc(gcc.clone()?));
+pub fn write_file(rt: &HostRuntime, order: &Order) -> Result<(), Fault> {
+    let Some(gcc) = gcc_at(rt, &order.gcc)? else {
+        return Err(Fault::NoGcc(order.gcc.clone()?));
     };
-    let stem = stem_of(rt, output)?;
-    let work = WorkFolder::new(rt, &stem, &driver_at(rt)?)?;
-    let done = write_in(rt, &work, manner, &stem, &path);
+    let stem = stem_of(rt, &order.output)?;
+    try_place(rt, &stem)?;
+    remove_left(rt)?;
+    let work = WorkFolder::new(rt, &driver_at(rt)?)?;
+    let pair = Pair {
+        rt,
+        work: &work,
+        gcc: &gcc,
+    };
+    let done = write_in(pair, order, &stem);
     work.remove(rt);
     done
 }

@@ -296,8 +296,8 @@ fn keys_of(asked: Asked<'_>) -> Result<Listing<Word>, Fault> {
     Ok(keys)
 }
 
-/// The options of which rows are written, each also with these others.
-fn all_keys(pair: Pair<'_>, choosers: &[Chooser]) -> Result<Listing<Word>, Fault> {
+/// The options of which rows are written, each also with these others, and this key.
+pub fn all_keys(pair: Pair<'_>, choosers: &[Chooser], key: &Word) -> Result<Listing<Word>, Fault> {
     let none = Word::empty(pair.rt.alloc());
     let mut all = Listing::new(pair.rt.alloc());
     for key in keys_of(pair.gcc_with(&none))?.as_slice() {
@@ -305,20 +305,20 @@ fn all_keys(pair: Pair<'_>, choosers: &[Chooser]) -> Result<Listing<Word>, Fault
             all.push(whole)?;
         }
     }
+    add_key(&mut all, key.clone()?)?;
     Ok(all)
 }
 
-/// The rows of a gcc with these folders, whose functions have these probes and which chooses words
-/// by these options too.
+/// The rows of these keys, for a gcc with these folders, whose functions have these probes.
 pub fn rows_of(
     pair: Pair<'_>,
     probes: &[Word],
     folders: &[Word],
     naming: FolderName,
-    choosers: &[Chooser],
+    keys: &[Word],
 ) -> Result<Listing<Row>, Fault> {
     let mut rows = Listing::new(pair.rt.alloc());
-    for key in all_keys(pair, choosers)?.as_slice() {
+    for key in keys {
         if let Some(row) = row_of(pair.gcc_with(key), probes, folders, naming)? {
             rows.push(row)?;
         }

@@ -3,14 +3,15 @@
 use crate::asking::{question_about, text};
 use crate::fault::Fault;
 use crate::gathering::PROBE;
+use crate::programs::is_folder;
+use crate::temporary::work_path;
 use crate::vendors::{COPIES, VendorsFile};
 use drv_gcc::with_mark;
-use drv_words::{Word, split_at_last};
-use itoa::Buffer;
+use drv_words::Word;
 use std::alloc::Global;
-use std::{env, fs, process};
+use std::{env, fs};
 
-/// A folder beside the spec file. Its own files are those that gcc-like drivers are tried with.
+/// A folder of temporary files. Its own files are those that gcc-like drivers are tried with.
 #[derive(Drop)]
 pub struct WorkFolder {
     /// The folder.
@@ -83,16 +84,26 @@ pub fn make_all(rt: &HostRuntime, path: &[u8]) -> Result<(), Fault> {
     Ok(fs::create_dir_all(rt, text(path)?)?)
 }
 
-/// The place of the folder for a spec file: in the same one, by the number of this process.
-fn work_path(rt: &HostRuntime, specs: &Word) -> Result<Word, Fault> {
-    let folder = match split_at_last(b'/', specs.as_bytes()) {
-        Some((folder, _)) => folder,
-        None => b".",
-    };
-    let mut path = question_about(rt.alloc(), folder, b"/.gdrv-write-specs.")?;
-    let number = process::id(rt.process());
-    path.extend_from_slice(Buffer::new().format(number).as_bytes())?;
-    Ok(path)
+/// Writes a file beside its place, and renames it. `stem` is the spec file without its ending.
+fn put_in_place(rt: &HostRuntime, stem: &Word, to: &Word, content: &[u8]) -> Result<(), Fault> {
+    let new = join(rt.alloc(), stem, b".new")?;
+    let (from, path) = (text(new.as_bytes())?, text(to.as_bytes())?);
+    let is_done = fs::write(rt, from, content).is_ok() && fs::rename(rt, from, path).is_ok();
+    if is_done {
+        return Ok(());
+    }
+    let _ = fs::remove_file(rt, from);
+    Err(Fault::NoPlace(to.clone()?))
+}
+
+/// Whether files can be put in place: one is made there, and removed.
+pub fn try_place(rt: &HostRuntime, stem: &Word) -> Result<(), Fault> {
+    let new = join(rt.alloc(), stem, b".new")?;
+    let path = text(new.as_bytes())?;
+    if fs::write(rt, path, b"").is_err() {
+        return Err(Fault::NoPlace(join(rt.alloc(), stem, b".specs")?));
+    }
+    Ok(fs::remove_file(rt, path)?)
 }
 
 impl WorkFolder {
@@ -138,13 +149,25 @@ impl WorkFolder {
         Ok(())
     }
 
-    /// The folder for a spec file, with the copy of a driver in it.
-    pub fn new(rt: &HostRuntime, specs: &Word, driver: &Word) -> Result<WorkFolder, Fault> {
-        let work = WorkFolder::at(rt.alloc(), work_path(rt, specs)?)?;
-        work.make_folders(rt)?;
-        work.copy_driver(rt, driver)?;
-        work.write_line_files(rt)?;
-        Ok(work)
+    /// Makes it, with the copy of a driver in it. One that a killed process of the same number left
+    /// goes first.
+    fn make(&self, rt: &HostRuntime, driver: &Word) -> Result<(), Fault> {
+        self.remove(rt);
+        self.make_folders(rt)?;
+        self.copy_driver(rt, driver)?;
+        self.write_line_files(rt)
+    }
+
+    /// The folder for this process, with the copy of a driver in it.
+    pub fn new(rt: &HostRuntime, driver: &Word) -> Result<WorkFolder, Fault> {
+        let work = WorkFolder::at(rt.alloc(), work_path(rt)?)?;
+        match work.make(rt, driver) {
+            Ok(()) => Ok(work),
+            Err(fault) => {
+                work.remove(rt);
+                Err(fault)
+            }
+        }
     }
 
     /// Writes a file of this ending, with its mark.
@@ -173,16 +196,18 @@ impl WorkFolder {
         let from = join(rt.alloc(), &self.stem, ending)?;
         let to = join(rt.alloc(), stem, ending)?;
         let _ = fs::remove_file(rt, text(to.as_bytes())?);
-        let _ = fs::rename(rt, text(from.as_bytes())?, text(to.as_bytes())?);
-        Ok(())
+        match fs::read(rt, text(from.as_bytes())?) {
+            Ok(content) => put_in_place(rt, stem, &to, content.as_slice()),
+            Err(_) => Ok(()),
+        }
     }
 
     /// Puts a file of this ending in place.
     pub fn place_file(&self, rt: &HostRuntime, stem: &Word, ending: &[u8]) -> Result<(), Fault> {
         let from = join(rt.alloc(), &self.stem, ending)?;
         let to = join(rt.alloc(), stem, ending)?;
-        match fs::rename(rt, text(from.as_bytes())?, text(to.as_bytes())?) {
-            Ok(()) => Ok(()),
+        match fs::read(rt, text(from.as_bytes())?) {
+            Ok(content) => put_in_place(rt, stem, &to, content.as_slice()),
             Err(_) => Err(Fault::NoPlace(to)),
         }
     }
@@ -211,12 +236,22 @@ impl WorkFolder {
         Ok(fs::remove_file(rt, text(self.copy_path(rt, name)?.as_bytes())?)?)
     }
 
-    /// Puts the folder of copies in place of an earlier one.
+    /// Puts the copies of vendors' files in place of earlier ones.
     fn place_copies(&self, rt: &HostRuntime, stem: &Word) -> Result<(), Fault> {
         let from = join(rt.alloc(), &self.stem, COPIES)?;
         let to = join(rt.alloc(), stem, COPIES)?;
         let _ = fs::remove_dir_all(rt, text(to.as_bytes())?);
-        let _ = fs::rename(rt, text(from.as_bytes())?, text(to.as_bytes())?);
+        if !is_folder(rt, from.as_bytes())? {
+            return Ok(());
+        }
+        make_folder(rt, &to)?;
+        for entry in fs::read_dir(rt, text(from.as_bytes())?)? {
+            let found = entry?;
+            let name = found.file_name().as_bytes();
+            let path = join(rt.alloc(), &from, name)?;
+            let content = fs::read(rt, text(path.as_bytes())?)?;
+            put_in_place(rt, stem, &join(rt.alloc(), &to, name)?, content.as_slice())?;
+        }
         Ok(())
     }
 
