@@ -48,7 +48,7 @@ fn push_alternatives(body: &mut Word, own: &[u8], others: &[ForMachine]) -> Resu
 pub(crate) fn push_choice(body: &mut Word, it: &Choice) -> Result<(), AllocError>
     ensures { OnOk result (body.new ≡ body.old ++ chosen it.now) }
 {
-    if it.others.as_slice().len() > 0 {
+    if !it.others.as_slice().is_empty() {
         return push_alternatives(body, it.own.as_bytes(), it.others.as_slice());
     }
     body.extend_from_slice(it.own.as_bytes())

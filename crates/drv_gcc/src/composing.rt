@@ -60,7 +60,7 @@ fn push_found(body: &mut Word, name: &[u8], path: &[u8]) -> Result<(), AllocErro
 fn push_file_body(body: &mut Word, name: &[u8], path: &[u8]) -> Result<(), AllocError>
     ensures { OnOk result (body.new ≡ body.old ++ file_body name.now path.now) }
 {
-    if path.len() > 0 {
+    if !path.is_empty() {
         return push_found(body, name, path);
     }
     body.extend_from_slice(name)?;
