@@ -70,6 +70,7 @@ module _ (F : Facts) (C : Context) where
       }) (λ w. refl))
       (λ u. give_well path)))
 
+  -- the name drawn last, or a new one, keeps a text well, whether a file of %@ is open (b) or not
   drawn_as : (drawing : Drawing) (suffix : List ℕ) (w : World) (b : Bool) (path : Option (List ℕ))
       → last_drawn drawing suffix w.drawn ≡ path → w.is_in_file ≡ b → WellDone b (drawn_or_new F C drawing suffix w)
   drawn_as drawing suffix w b None e i = rw e (after_well b [] (draw F C drawing suffix w) (fits_bare b [] refl)

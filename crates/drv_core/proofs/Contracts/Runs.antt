@@ -173,7 +173,7 @@ answered plan pass_codes old new run reply e moves =
     by (Some s) is = subst (λ o. IfMake (action_of o (status_from pass_codes old.code)) (λ step. new.events.items ≡ old.events.items
         ++ event step reply ∷ [])) (sym is) (ap (λ p. p.events) (moves s is) ∙ moved_events plan (run_state_of old) s reply)
 
--- without a choice
+-- a run whose caller has not called `choose`
 
 -- the step in the action that is made of a next step is that next step
 step_back : (o : Option Step) (n : ℕ) → step_in (action_of o n) ≡ o

@@ -5,11 +5,13 @@ use Rattle.drv_system.proofs.AskedCalls.{asked_further, extends_before}
 -- work_of_items (src/running.rt). What items of the driver's line ask for: the line judged, its spec files loaded, and its plan with what
 -- is done with it.
 
+-- where the line is refused, the call stops with that fault
 pub returns-in_err-line-clause-comes : goal.returns-in_err-line-clause-comes
 returns-in_err-line-clause-comes g c F e =
     reading_ends F c.args.given.now c.args.seed c.in_err-line.field-0.0 c.from_residual.result c.from_residual.ensures.1
     c.in_err-line.ensures.line
 
+-- where a spec file is refused, the call stops with that fault
 pub returns-in_err-set-clause-comes : goal.returns-in_err-set-clause-comes
 returns-in_err-set-clause-comes g c F e =
     loading_ends F c.args.given.now c.args.seed c.in_ok-line.line c.in_err-set.field-0.0 c.from_residual-in_err-set.result
@@ -17,6 +19,7 @@ returns-in_err-set-clause-comes g c F e =
     c.in_ok-line.ensures.line
     (c.in_err-set.ensures.loads F e (c.in_ok-prefixes.ensures.prefixes F (extends_before c.specs_of.ensures.asks e)))
 
+-- else the call does what the plan says, or stops with the plan's fault
 pub returns-clause-comes : goal.returns-clause-comes
 returns-clause-comes g c F e =
     let loaded = extends_before c.line_work-work.ensures.asks e in
