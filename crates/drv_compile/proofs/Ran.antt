@@ -9,6 +9,7 @@ use Rattle.drv_compile.specs.declared.running.DriverLine.{DriverLine}
 use Rattle.drv_plan.specs.declared.fault.PlanFault.TheVariants as plan_fault
 use Rattle.drv_plan.specs.declared.fault.PlanFault.{PlanFault}
 use Rattle.drv_run.specs.Drives.{specs_over, stopped_by_args, stopped_by_plan, stopped_by_specs, work_of}
+use Rattle.drv_run.specs.declared.ending.Ending.TheVariants as ending
 use Rattle.drv_run.specs.declared.ending.Ending.{Ending}
 use Rattle.drv_run.specs.declared.work.Work.{Work}
 use Rattle.drv_specs.specs.Builtin.{suffixes}
@@ -32,16 +33,21 @@ abbrev pub Comes : Facts → DriverLine → ℕ → Result Work Ending → Type 
 Comes F own seed result = MatchResult result (λ work. Works F own seed work) (λ ending. Stops F own seed ending)
 
 -- a step that fails is the end of `work_of_items`
-ended_as : (F : Facts) (own : DriverLine) (seed : ℕ) (ending : Ending) (result : Result Work Ending) → IsErrAnd result (λ e. e ≡ ending)
-    → Stops F own seed ending → Comes F own seed result
-ended_as F own seed ending (Ok work) is stops = absurd is
-ended_as F own seed ending (Err e) is stops = subst (λ e'. Stops F own seed e') (sym is) stops
+ended_as : (F : Facts) (own : DriverLine) (seed : ℕ) (stop : Ending) (result : Result Work Ending) → IsErrAnd result (λ e. e ≡ stop)
+    → Stops F own seed stop → Comes F own seed result
+ended_as F own seed stop (Ok work) is stops = absurd is
+ended_as F own seed stop (Err e) is stops = subst (λ e'. Stops F own seed e') (sym is) stops
 
 -- the refusal of a line ends it, or lack of memory
 args_stop : (F : Facts) (own : DriverLine) (seed : ℕ) (fault : ArgsFault) → (fault ≡ args_fault.Memory) ⊎ (line_given own ≡ Err fault)
     → Stops F own seed (stopped_by_args fault)
 args_stop F own seed fault (inl memory) = subst (λ f. Stops F own seed (stopped_by_args f)) (sym memory) lacks_memory
 args_stop F own seed fault (inr is) = not_read is
+
+-- lack of memory ends it
+pub memory_ends : (F : Facts) (own : DriverLine) (seed : ℕ) (result : Result Work Ending) → IsErrAnd result (λ e. e ≡ ending.OutOfMemory)
+    → Comes F own seed result
+memory_ends F own seed result is = ended_as F own seed ending.OutOfMemory result is lacks_memory
 
 -- the ending is what `line_given` answers: the refusal of a line, or lack of memory
 pub reading_ends : (F : Facts) (own : DriverLine) (seed : ℕ) (fault : ArgsFault) (result : Result Work Ending)
@@ -65,11 +71,11 @@ loading_ends F own seed line fault result is reads given =
 -- several sources with one output, and the plan
 
 -- a step that fails is the end of `line_work`
-unworked_as : (F : Facts) (line : Line) (set : Set) (seed : ℕ) (ending : Ending) (result : Result Work Ending)
-    → IsErrAnd result (λ e. e ≡ ending) → IsUnworked F line set seed ending
+unworked_as : (F : Facts) (line : Line) (set : Set) (seed : ℕ) (stop : Ending) (result : Result Work Ending)
+    → IsErrAnd result (λ e. e ≡ stop) → IsUnworked F line set seed stop
     → Worked F line set seed result
-unworked_as F line set seed ending (Ok work) is unworked = absurd is
-unworked_as F line set seed ending (Err e) is unworked = subst (λ e'. IsUnworked F line set seed e') (sym is) unworked
+unworked_as F line set seed stop (Ok work) is unworked = absurd is
+unworked_as F line set seed stop (Err e) is unworked = subst (λ e'. IsUnworked F line set seed e') (sym is) unworked
 
 -- several sources with one output end it, or lack of memory
 many_unworked : (F : Facts) (line : Line) (set : Set) (seed : ℕ) (fault : ArgsFault)

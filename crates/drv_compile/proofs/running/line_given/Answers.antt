@@ -6,6 +6,8 @@ use Rattle.std.proofs.Common.{subst}
 
 -- line_given (src/running.rt). The line that items give.
 
-pub returns-clause-line : goal.returns-clause-line
-returns-clause-line c = subst (λ items. Gives args_fault.Memory (λ line. line) c.line_of.result
-    (line_judged c.args.given.now.from_file items)) c.as_slice.ensures c.line_of.ensures.line
+pub returns : goal.returns
+returns c = record {
+  line = subst (λ items. Gives args_fault.Memory (λ line. line) c.line_of.result
+      (line_judged c.args.given.now.from_file items)) c.as_slice.ensures c.line_of.ensures.line;
+}

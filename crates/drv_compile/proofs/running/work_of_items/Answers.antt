@@ -1,4 +1,4 @@
-use Rattle.drv_compile.proofs.Ran.{loading_ends, reading_ends, working_comes}
+use Rattle.drv_compile.proofs.Ran.{loading_ends, memory_ends, reading_ends, working_comes}
 use Rattle.drv_compile.proofs.running.work_of_items.Goals as goal
 use Rattle.drv_system.proofs.AskedCalls.{asked_further, extends_before}
 
@@ -10,6 +10,11 @@ pub returns-in_err-line-clause-comes : goal.returns-in_err-line-clause-comes
 returns-in_err-line-clause-comes g c F e =
     reading_ends F c.args.given.now c.args.seed c.in_err-line.field-0.0 c.from_residual.result c.from_residual.ensures.1
     c.in_err-line.ensures.line
+
+-- where there is no memory for the prefixes, the call stops with that fault
+pub returns-in_err-prefixes-clause-comes : goal.returns-in_err-prefixes-clause-comes
+returns-in_err-prefixes-clause-comes g c F e =
+    memory_ends F c.args.given.now c.args.seed c.from_residual-in_err-prefixes.result c.from_residual-in_err-prefixes.ensures.1
 
 -- where a spec file is refused, the call stops with that fault
 pub returns-in_err-set-clause-comes : goal.returns-in_err-set-clause-comes
@@ -26,3 +31,7 @@ returns-clause-comes g c F e =
     let known = c.in_ok-prefixes.ensures.prefixes F (extends_before c.specs_of.ensures.asks loaded) in
     working_comes F c.args.given.now c.args.seed c.in_ok-line.line c.in_ok-set.set c.line_work-work.result c.in_ok-line.ensures.line
     (c.in_ok-set.ensures.loads F loaded known) (c.line_work-work.ensures.works F e known)
+
+-- the prefixes, the spec files and the plan are asked for one after the other
+pub returns-clause-asks : goal.returns-clause-asks
+returns-clause-asks g c = asked_further (asked_further c.prefixes_of.ensures.asks c.specs_of.ensures.asks) c.line_work-work.ensures.asks

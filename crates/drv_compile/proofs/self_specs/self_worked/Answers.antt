@@ -3,7 +3,7 @@ use Rattle.drv_compile.proofs.self_specs.self_worked.Goals as goal
 use Rattle.drv_compile.specs.Runs.{line_given}
 use Rattle.drv_compile.specs.SelfSpecs.{worked_by, worked_of}
 use Rattle.drv_specs.specs.Sets.{text_of}
-use Rattle.drv_system.proofs.AskedCalls.{extends_before}
+use Rattle.drv_system.proofs.AskedCalls.{asked_further, extends_before}
 use Rattle.std.proofs.Common.{codes, refl}
 
 -- self_worked (src/self_specs.rt). What the spec files of a line of the driver give a line whose switches these are.
@@ -33,3 +33,7 @@ returns-clause-works g c F e =
     (line_given c.args.first.now) c.in_ok-line.ensures.line
     (c.in_ok-set.ensures.loads F loaded known))
     (c.worked_by.ensures.works F e known)
+
+-- the prefixes, the spec files and the words of the text are asked for one after the other
+pub returns-clause-asks : goal.returns-clause-asks
+returns-clause-asks g c = asked_further (asked_further c.prefixes_of.ensures.asks c.specs_of.ensures.asks) c.worked_by.ensures.asks
