@@ -1,7 +1,9 @@
 use Rattle.drv_syntax.proofs.Continued.{rest_is}
 use Rattle.drv_syntax.proofs.Leads.{le_true}
+use Rattle.drv_syntax.proofs.Messages.{open_more}
 use Rattle.drv_syntax.proofs.ParsedGrammar.{allowed, parsed_refused, parsed_spelled}
 use Rattle.drv_syntax.specs.Code.Ending.{ending_in, goes_on}
+use Rattle.drv_syntax.specs.Code.Messages.{IsOpen, Says, said_to}
 use Rattle.drv_syntax.specs.Code.Parts.{IsKept, IsRead}
 use Rattle.drv_syntax.specs.Code.Whole.{rest_given, whole_given}
 use Rattle.drv_syntax.specs.Descent.{items}
@@ -76,6 +78,17 @@ module _ (text : List ℕ) (short : length text ≤ 1048576) where
   first_refused (Ok x) fault d h = tt
   first_refused (Err e) fault d (inl m) = inl (d ∙ m)
   first_refused (Err e) fault d (inr h) = inr (subst (λ (f : SyntaxFault). Refused text f) (sym d) (whole_refused fault h))
+
+-- what is kept of a text that goes on in a message, with the message longer, is kept of the longer text (`say_more`)
+pub said_kept : (text more all : List ℕ) (old p : TextParts) (end : ℕ) → IsRead text old → IsOpen text → Says more
+    → length text + length more ≤ 1048576 → all ≡ text ++ more → end ≡ length all
+    → said_to end more (Ok (old.tokens, old.labels)) ≡ Ok (p.tokens, p.labels) → IsRead all p × IsOpen all
+said_kept text more all old p end is goes says short e size h =
+    let n : end ≡ length text + length more = size ∙ ap (λ (t : List ℕ). length t) e ∙ length-append text more in
+    let given = goes more says ∙ ap (λ r. said_to (length text + length more) more r) (sym (listed_is text is.1) ∙ is.0)
+    ∙ ap (λ (i : ℕ). said_to i more (Ok (old.tokens, old.labels))) (sym n) ∙ h in
+    subst (λ (t : List ℕ). IsRead t p × IsOpen t) (sym e)
+    (whole_kept (text ++ more) (omega (arith, length-append text more, short)) p given, open_more text more goes says)
 
 -- a text without bytes has no tokens and no labels
 pub nothing_kept : (text : List ℕ) (p : TextParts) → text ≡ [] → p.tokens ≡ [] → p.labels ≡ [] → IsRead text p
@@ -168,6 +181,7 @@ short_listed text parts h = by (nat_le (length text) 1048576) refl
 -- a text of which anything is kept is no longer than a text may be
 pub short_kept : (text : List ℕ) (parts : Parts) → IsKept text parts → length text ≤ 1048576
 short_kept text (kept.Read p) is = is.1
+short_kept text (kept.Said p) is = is.0.1
 short_kept text (kept.Written tree) is = short_listed text (tree.tokens.now, marked_labels tree.words.now tree.marks.now) is.0
 
 -- what is kept of a text that was read is its tokens and labels

@@ -16,6 +16,7 @@ pub mod Meant
 pub mod MeantForms
 pub mod MeantWhole
 pub mod MeantWords
+pub mod Messages
 pub mod OwnedGiven
 pub mod ParsedGrammar
 pub mod PlainTokens

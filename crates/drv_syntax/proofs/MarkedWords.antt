@@ -1,5 +1,6 @@
 use Rattle.drv_syntax.specs.Labels.{Label, no_label, part_label, star_label, word_label}
 use Rattle.drv_syntax.specs.Code.Marks.{byte_labels, byte_marks}
+use Rattle.drv_syntax.specs.Code.Messages.{lengthened, with_last}
 use Rattle.drv_syntax.specs.Marks.{Within, marked_label, marked_labels}
 use Rattle.drv_syntax.specs.declared.labels.LabelMark.{LabelMark}
 use Rattle.drv_syntax.specs.declared.token.TestKind.TheVariants as asking
@@ -38,7 +39,7 @@ within_set n zero (x ∷ marks) m w a b = ((a, b), w.1)
 within_set n (suc k) (x ∷ marks) m w a b = (w.0, within_set n k marks m w.1 a b)
 
 -- the word of the mark at this place lies within n bytes
-within_get : (n : ℕ) (marks : List LabelMark) (place : ℕ) (d : LabelMark) → Within n marks → place < length marks
+pub within_get : (n : ℕ) (marks : List LabelMark) (place : ℕ) (d : LabelMark) → Within n marks → place < length marks
     → ((get_or marks place d).start ≤ (get_or marks place d).end) × ((get_or marks place d).end ≤ n)
 within_get n [] place d w h = absurd (omega arith)
 within_get n (x ∷ marks) zero d w h = w.0
@@ -171,3 +172,89 @@ pub marks_step : (old new all : List LabelMark) (place i : ℕ) (run : List ℕ)
 marks_step old new all place i run h e f = ap (λ ms. ms ++ byte_marks (place + 1) (drop (i + 1) run)) e
     ∙ append_assoc old (plain_mark place (place + 1) ∷ []) (byte_marks (place + 1) (drop (i + 1) run))
     ∙ ap (λ bs. old ++ byte_marks place bs) (sym (drop_more run i 0 h)) ∙ f
+
+-- the word of the last label goes on (`lengthen_last`)
+
+-- if the words of marks lie within some words, they lie within these with more after them
+pub within_grown : (n : ℕ) (words second : List ℕ) (marks : List LabelMark) → second ≡ words ++ drop (length words) second
+    → length second ≤ n → Within (length words) marks → Within n marks
+within_grown n words second marks e h w =
+    within_more (length words) n marks
+    (omega (arith, h, ap (λ (ws : List ℕ). length ws) e, length-append words (drop (length words) second))) w
+
+-- the word of a mark that is at this place lies within n bytes
+pub within_mark : (n : ℕ) (marks : List LabelMark) (place : ℕ) (m : LabelMark) → Within n marks → place < length marks
+    → m ≡ get_or marks place m → (m.start ≤ m.end) × (m.end ≤ n)
+within_mark n marks place m w h e =
+    subst (λ (x : LabelMark). (x.start ≤ x.end) × (x.end ≤ n)) (sym e) (within_get n marks place m w h)
+
+-- if the words of marks lie within some words, they lie within more with a mark in the place of another that goes on to the end
+pub within_longer : (words second third more : List ℕ) (marks : List LabelMark) (k : ℕ) (m : LabelMark) → Within (length words) marks
+    → second ≡ words ++ drop (length words) second → m.start ≤ length second → third ≡ second ++ more → m.end ≡ length third
+    → Within (length third) (set marks k m)
+within_longer words second third more marks k m w e h f g =
+    let size : length third ≡ length second + length more = ap (λ (ws : List ℕ). length ws) f ∙ length-append second more in
+    within_set (length third) k marks m (within_grown (length third) words second marks e (omega (arith, size)) w)
+    (omega (arith, h, g, size)) (omega (arith, g))
+
+-- a mark with these places in the place of its own
+abbrev moved_mark : LabelMark → ℕ → ℕ → LabelMark
+moved_mark m start end = record {
+  start = start;
+  end = end;
+  starred = m.starred;
+  negated = m.negated;
+  asks =
+      m.asks;
+  holds_star = m.holds_star;
+}
+
+-- the label of a mark, with this word
+abbrev with_word : LabelMark → List ℕ → Label
+with_word m word = record { word = word; starred = m.starred; negated = m.negated; asks = m.asks; holds_star = m.holds_star }
+
+-- a mark with the last word, which is longer, in the place of the last one: its label has the longer word
+longer_at : (words rest more : List ℕ) (m : LabelMark) (start end : ℕ) (marks : List LabelMark) (k : ℕ) → k + 1 ≡ length marks
+    → Within (length words) marks → m ≡ get_or marks k m
+    → take (end - start) (drop start (words ++ rest)) ≡ take (m.end - m.start) (drop m.start words) ++ more
+    → marked_labels (words ++ rest) (set marks k (moved_mark m start end))
+    ≡ with_last (λ label. lengthened label more) (marked_labels words marks)
+longer_at words rest more m start end [] k e w f h = absurd (omega (arith, e))
+longer_at words rest more m start end (x ∷ []) zero e w f h =
+    ap (λ (word : List ℕ). with_word m word ∷ []) h
+    ∙ ap (λ (y : LabelMark). lengthened (marked_label words y) more ∷ []) f
+longer_at words rest more m start end (x ∷ []) (suc k) e w f h = absurd (omega (arith, e))
+longer_at words rest more m start end (x ∷ y ∷ marks) zero e w f h = absurd (omega (arith, e))
+longer_at words rest more m start end (x ∷ y ∷ marks) (suc k) e w f h =
+    cc (part_kept words rest x.start x.end w.0.0 w.0.1, longer_at words rest more m start end (y ∷ marks) k (omega (arith, e)) w.1 f h)
+
+-- where the last word is at the end of the words, and more is added to it, its label is longer
+pub labels_longer : (words second third more : List ℕ) (marks : List LabelMark) (now : List Label) (m : LabelMark) (start end k : ℕ)
+    → marked_labels words marks ≡ now → Within (length words) marks → k + 1 ≡ length marks → m ≡ get_or marks k m
+    → second ≡ words ++ drop (length words) second → start ≤ length second
+    → drop start second ≡ take (m.end - m.start) (drop m.start words) → third ≡ second ++ more → end ≡ length third
+    → with_last (λ label. lengthened label more) now ≡ marked_labels third (set marks k (moved_mark m start end))
+labels_longer words second third more marks now m start end k e w f g kept place h t z =
+    let rest : List ℕ = drop (length words) second ++ more in
+    let whole : words ++ rest ≡ third =
+    sym (t ∙ ap (λ (ws : List ℕ). ws ++ more) kept ∙ append_assoc words (drop (length words) second) more) in
+    let word : List ℕ = take (m.end - m.start) (drop m.start words) in
+    let size : end - start ≡ length (word ++ more) =
+    omega (
+      arith,
+      z,
+      ap (λ (ws : List ℕ). length ws) t,
+      length-append second more,
+      length-append word more,
+      length-drop start second,
+      ap (λ (ws : List ℕ). length ws) h,
+      place,
+    ) in
+    let last : take (end - start) (drop start (words ++ rest)) ≡ word ++ more =
+    ap (λ (ws : List ℕ). take (end - start) (drop start ws)) (whole ∙ t)
+    ∙ ap (λ (ws : List ℕ). take (end - start) ws) (drop-append-le start second more place ∙ ap (λ (ws : List ℕ). ws ++ more) h)
+    ∙ ap (λ (i : ℕ). take i (word ++ more)) size
+    ∙ take-length (word ++ more) in
+    ap (λ (ls : List Label). with_last (λ label. lengthened label more) ls) (sym e)
+    ∙ sym (longer_at words rest more m start end marks k f w g last)
+    ∙ ap (λ (ws : List ℕ). marked_labels ws (set marks k (moved_mark m start end))) whole

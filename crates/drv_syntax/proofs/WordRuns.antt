@@ -72,7 +72,7 @@ plain_kept f w more v rest b whole g h i j k l = rw (j, k) (by v.rest.bytes g l)
 -- runs without a backslash at their front
 
 -- what the code counts in a run is no backslash, and of the class; and a byte that ends what it counts, but is no backslash, is not of it
-counted : (class : Class) (b : ℕ) → runs_in class b ≡ true → ((b == ascii.backslash) ≡ false) × (in_class class b ≡ true)
+pub counted : (class : Class) (b : ℕ) → runs_in class b ≡ true → ((b == ascii.backslash) ≡ false) × (in_class class b ≡ true)
 counted class b e = by (b == ascii.backslash) refl e
   where
     by : (t : Bool) → (b == ascii.backslash) ≡ t → (if t then false else in_class class b) ≡ true

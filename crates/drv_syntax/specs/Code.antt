@@ -2,6 +2,7 @@
 pub mod Ending
 pub mod Lists
 pub mod Marks
+pub mod Messages
 pub mod Parts
 pub mod Runs
 pub mod Tests

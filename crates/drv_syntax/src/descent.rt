@@ -18,4 +18,6 @@ mod tokens;
 mod words;
 
 pub use contexts::ListContext;
-pub use reading::{TextParts, ending_in, read_more, read_nothing, read_text};
+pub use reading::{
+    TextParts, ending_in, is_open, read_more, read_nothing, read_text, say_on, says,
+};

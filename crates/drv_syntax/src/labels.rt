@@ -1,9 +1,10 @@
 //! What the parts of a text name.
 
+ghost use Rattle.drv_syntax.specs.Code.Messages.{lengthened, with_last};
 ghost use Rattle.drv_syntax.specs.Labels.{no_label, part_label, star_label, word_label};
 ghost use Rattle.drv_syntax.specs.Code.Marks.{byte_labels, byte_marks};
-ghost use Rattle.std.specs.Prelude.{◌≡◌, ◌<◌, ◌≤◌, ◌+◌, ◌^◌, ◌++◌, ◌∷◌, [], false, length, Ok};
-ghost use Rattle.std.specs.Prelude.{slice_set, take, vec_capacity, vec_len};
+ghost use Rattle.std.specs.Prelude.{◌≡◌, ◌<◌, ◌≤◌, ◌+◌, ◌-◌, ◌^◌, ◌++◌, ◌∷◌, [], IfErr, IfOk, false, length, Ok};
+ghost use Rattle.std.specs.Prelude.{drop, slice_set, take, vec_capacity, vec_len};
 ghost use Rattle.drv_words.specs.Gives.{Gives};
 
 use crate::fault::SyntaxFault;
@@ -81,6 +82,25 @@ fn place_of(size: usize) -> Result<u32, SyntaxFault>
     Ok(size as u32)
 }
 
+/// The place of the word of a mark, once it is the last of all words; if it isn't, it is copied.
+fn last_start(mark: LabelMark, words: &mut Vec<u8>) -> Result<u32, SyntaxFault>
+    requires order { mark.start ≤ mark.end }
+    requires within { mark.end ≤ length words.old.items }
+    ensures kept { words.new.items
+        ≡ words.old.items ++ drop (length words.old.items) words.new.items }
+    ensures place { IfOk result (λ start. start ≤ length words.new.items) }
+    ensures word { IfOk result (λ start. drop start words.new.items
+        ≡ take (mark.end - mark.start) (drop mark.start words.old.items)) }
+    ensures fails { IfErr result (λ fault. fault ≡ SyntaxFault.Memory) }
+{
+    let end = words.len();
+    if mark.end as usize == end {
+        return Ok(mark.start);
+    }
+    words.extend_from_within(mark.start as usize..mark.end as usize)?;
+    place_of(end)
+}
+
 /// The marks of bytes that follow one another from this place on.
 fn push_marks(start: u32, run: &[u8], marks: &mut Vec<LabelMark>)
     requires place { start + length run.now < 2 ^ 32 }
@@ -141,6 +161,31 @@ impl Labels {
             asks: naming.asks,
             holds_star: false,
         });
+        Ok(())
+    }
+
+    /// The word of the last one goes on with these bytes.
+    #[tactic(auto, using(crate::proofs::MarkedWords::within_grown))]
+    pub fn lengthen_last(&mut self, more: &[u8]) -> Result<(), SyntaxFault>
+        ensures { Gives SyntaxFault.Memory (λ _. self.new) result
+            (Ok (with_last (λ label. lengthened label more.now) self.old)) }
+    {
+        let count = self.marks.len();
+        if count == 0 {
+            return Ok(());
+        }
+        let mark = self.marks[count - 1];
+        let start = last_start(mark, &mut self.words)?;
+        self.words.extend_from_slice(more)?;
+        let end = place_of(self.words.len())?;
+        self.marks[count - 1] = LabelMark {
+            start,
+            end,
+            starred: mark.starred,
+            negated: mark.negated,
+            asks: mark.asks,
+            holds_star: mark.holds_star,
+        };
         Ok(())
     }
 

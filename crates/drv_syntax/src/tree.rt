@@ -1,5 +1,7 @@
 //! A spec text that has a tree.
 
+ghost use Rattle.drv_syntax.specs.Code.Messages.{IsOpen, Says};
+ghost use Rattle.drv_syntax.specs.Code.Parts.{IsRead};
 ghost use Rattle.drv_syntax.specs.Faults.{MemoryOrRefused};
 ghost use Rattle.drv_syntax.specs.Labels.{label_at, labels_of};
 ghost use Rattle.drv_syntax.specs.Outcome.{parsed};
@@ -9,9 +11,11 @@ ghost use Rattle.drv_syntax.specs.Spelling.{Spells};
 ghost use Rattle.drv_syntax.specs.Tokens.{tokens_of};
 ghost use Rattle.drv_syntax.specs.Written.{IsTree};
 ghost use Rattle.drv_words.specs.Gives.{Gives};
-ghost use Rattle.std.specs.Prelude.{◌≡◌, ◌<◌, ◌≤◌, ◌-◌, ◌++◌, [], IfErr, IfOk, length, ℕ};
+ghost use Rattle.std.specs.Prelude.{◌≡◌, ◌<◌, ◌≤◌, ◌+◌, ◌-◌, ◌++◌, [], IfErr, IfOk, length, ℕ};
 
-use crate::descent::{TextParts, ending_in, read_more, read_nothing, read_text};
+use crate::descent::{
+    TextParts, ending_in, is_open, read_more, read_nothing, read_text, say_on, says,
+};
 use crate::fault::SyntaxFault;
 use crate::lent::LentLabels;
 use crate::token::{TestKind, Token};
@@ -27,6 +31,8 @@ const TEXT_LIMIT: usize = 1_048_576;
 enum Parts {
     /// What the text gave, as it was read.
     Read(TextParts),
+    /// The same of a text that ends in a text for the user, which could go on.
+    Said(TextParts),
     /// Constants of the code.
     Written(WrittenTree),
 }
@@ -85,7 +91,7 @@ impl SpecTree {
         ensures { result.now ≡ tokens_of (tree_of self.now) }
     {
         match &self.parts {
-            Parts::Read(read) => read.tokens.as_slice(),
+            Parts::Read(read) | Parts::Said(read) => read.tokens.as_slice(),
             Parts::Written(tree) => tree.tokens,
         }
     }
@@ -95,7 +101,7 @@ impl SpecTree {
         ensures { result ≡ labels_of (tree_of self.now) }
     {
         let tree = match &self.parts {
-            Parts::Read(read) => return read.labels.lend(),
+            Parts::Read(read) | Parts::Said(read) => return read.labels.lend(),
             Parts::Written(tree) => tree,
         };
         LentLabels::new(tree.words, tree.marks)
@@ -158,7 +164,8 @@ impl SpecTree {
 
     /// The tree of the text with more after it, or its first fault. What was read of the text isn't
     /// read again, unless its last bytes are a suffix, a hidden pattern or a text for the user. After
-    /// the first two a blank suffices.
+    /// the first two a blank suffices. After a text for the user that was read again once, bytes
+    /// without a backslash and a newline do.
     #[tactic(auto, using(crate::proofs::Kept::parsed_long, crate::proofs::Kept::tree_more, crate::proofs::Kept::fault_more, crate::proofs::Kept::more_kept, crate::proofs::Kept::short_kept))]
     pub fn extend(self, alloc: Global, more: &[u8]) -> Result<SpecTree, SyntaxFault>
         ensures tree { Gives SyntaxFault.Memory tree_of result (parsed (self ++ more.now)) }
@@ -171,19 +178,81 @@ impl SpecTree {
             return Err(SyntaxFault::TextTooLong);
         }
         let SpecTree { mut text, parts } = self;
-        text.extend_from_slice(more)?;
-        let Parts::Read(old) = parts else {
-            return parse(alloc, &text);
+        let old = match parts {
+            Parts::Read(old) => old,
+            Parts::Said(old) => {
+                if says(more) {
+                    return say_more(text, old, more);
+                }
+                return read_again(alloc, text, more);
+            }
+            Parts::Written(_) => return read_again(alloc, text, more),
         };
         if !ending_in(start, old.tokens.as_slice()).goes_on(more) {
-            return parse(alloc, text.as_slice());
+            return read_again(alloc, text, more);
         }
+        text.extend_from_slice(more)?;
         let read = read_more(alloc, start as u32, more, old)?;
         Ok(SpecTree {
             text,
             parts: Parts::Read(read),
         })
     }
+}
+
+/// A tree, of which is kept whether its text ends in a text for the user that could go on.
+fn mark_open(alloc: Global, tree: SpecTree) -> SpecTree
+    ensures { result ≡ tree }
+{
+    let SpecTree { text, parts } = tree;
+    let read = match parts {
+        Parts::Read(read) => read,
+        parts => return SpecTree { text, parts },
+    };
+    if is_open(alloc, text.as_slice(), read.tokens.as_slice()) {
+        return SpecTree {
+            text,
+            parts: Parts::Said(read),
+        };
+    }
+    SpecTree {
+        text,
+        parts: Parts::Read(read),
+    }
+}
+
+/// The tree of a text with more after it, or its first fault, where all of it is read.
+fn read_again(alloc: Global, text: Vec<u8>, more: &[u8]) -> Result<SpecTree, SyntaxFault>
+    ensures tree { Gives SyntaxFault.Memory tree_of result (parsed (text.items ++ more.now)) }
+    ensures text { IfOk result (λ t. t ≡ text.items ++ more.now) }
+    ensures spelled { IfOk result (λ t. Spells t (tree_of t)) }
+    ensures refused { IfErr result (MemoryOrRefused (text.items ++ more.now)) }
+{
+    let mut text = text;
+    text.extend_from_slice(more)?;
+    let tree = parse(alloc, text.as_slice())?;
+    Ok(mark_open(alloc, tree))
+}
+
+/// The tree of a text with more after it, where the text ends in a text for the user that goes on with
+/// these bytes.
+fn say_more(text: Vec<u8>, old: TextParts, more: &[u8]) -> Result<SpecTree, SyntaxFault>
+    requires kept { IsRead text.items old }
+    requires open { IsOpen text.items }
+    requires says { Says more.now }
+    requires size { length text.items + length more.now ≤ 1048576 }
+    ensures tree { Gives SyntaxFault.Memory tree_of result (parsed (text.items ++ more.now)) }
+    ensures text { IfOk result (λ t. t ≡ text.items ++ more.now) }
+    ensures spelled { IfOk result (λ t. Spells t (tree_of t)) }
+    ensures refused { IfErr result (MemoryOrRefused (text.items ++ more.now)) }
+{
+    let mut text = text;
+    text.extend_from_slice(more)?;
+    let read = say_on(text.len() as u32, more, old)?;
+    Ok(SpecTree {
+        text,
+        parts: Parts::Said(read),
+    })
 }
 
 /// The tree of a text, or its first fault.

@@ -36,6 +36,11 @@ abbrev pub begins : List ℕ → Bool
 begins [] = false
 begins (b ∷ text) = true
 
+-- the text ends in a message
+abbrev pub is_message : Ending → Bool
+is_message endings.Message = true
+is_message _ = false
+
 -- whether what was read can be kept where this follows it
 abbrev pub goes_on : Ending → List ℕ → Bool
 goes_on endings.Item more = begins more

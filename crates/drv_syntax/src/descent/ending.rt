@@ -17,6 +17,13 @@ pub enum Ending {
 }
 
 impl Ending {
+    /// Whether it is in a text for the user.
+    pub fn is_message(self) -> bool
+        ensures { result ≡ ending.is_message self }
+    {
+        matches!(self, Ending::Message)
+    }
+
     /// Whether what was read of a text that ends so can be kept where this follows it.
     pub fn goes_on(self, more: &[u8]) -> bool
         ensures { result ≡ ending.goes_on self more.now }

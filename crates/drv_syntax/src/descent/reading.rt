@@ -1,16 +1,20 @@
 //! A whole text.
 
 ghost use Rattle.drv_syntax.specs.Code.Ending.{ending_by, ending_in};
+ghost use Rattle.drv_syntax.specs.Code.Messages.{IsMessage, IsOpen, Says, said_to};
 ghost use Rattle.drv_syntax.specs.Code.Whole.{rest_given, whole_given};
 ghost use Rattle.drv_words.specs.Gives.{Gives};
-ghost use Rattle.std.specs.Prelude.{◌≡◌, ◌≤◌, ◌+◌, [], length};
+ghost use Rattle.std.specs.Prelude.{◌≡◌, ◌≤◌, ◌+◌, [], Ok, length, true};
 
 use crate::descent::contexts::{ListContext, ListKind, StarOwner};
 use crate::descent::ending::Ending;
 use crate::descent::lists::items;
 use crate::descent::reader::Reader;
 use crate::descent::rest::Rest;
+use crate::descent::runs::{RunKind, run_length};
 use crate::descent::tokens::Tokens;
+use crate::descent::words::{Class, first, second, word_run};
+use crate::directives::{Directive, directive_of};
 use crate::fault::SyntaxFault;
 use crate::labels::Labels;
 use crate::token::{Token, TokenKind};
@@ -121,6 +125,88 @@ pub fn read_more(
     let TextParts { tokens, labels } = old;
     let r = read(alloc, start, more, tokens, labels)?;
     let Reader { tokens, labels, .. } = r;
+    Ok(TextParts { tokens, labels })
+}
+
+/// Whether these bytes neither end a text for the user nor escape a byte of it.
+pub fn says(more: &[u8]) -> bool
+    ensures { result ≡ true → Says more.now }
+{
+    run_length(RunKind::Word(Class::Said(ListKind::Top)), more) == more.len()
+}
+
+/// Whether a text is one text for the user, which could go on.
+fn is_message(alloc: Global, text: &[u8]) -> bool
+    requires { length text.now ≤ 1048576 }
+    ensures { result ≡ true → IsMessage text.now }
+{
+    let Some(percent) = first(text) else {
+        return false;
+    };
+    if percent != b'%' {
+        return false;
+    }
+    let Some(letter) = second(text) else {
+        return false;
+    };
+    let Directive::WithSaying(_kind) = directive_of(letter) else {
+        return false;
+    };
+    let mut r = Reader {
+        rest: Rest::new(0, text),
+        tokens: Tokens::new(alloc),
+        labels: Labels::new(alloc),
+        holds_star: false,
+        word: Vec::new(alloc),
+    };
+    r.rest.take(2);
+    let Ok(Some(_word)) = word_run(Class::Said(ListKind::Top), &mut r) else {
+        return false;
+    };
+    let Some(_more) = r.rest.first() else {
+        return true;
+    };
+    false
+}
+
+/// Whether a text with these tokens ends in a text for the user that could go on. What precedes that is
+/// read once more.
+pub fn is_open(alloc: Global, text: &[u8], tokens: &[Token]) -> bool
+    requires { length text.now ≤ 1048576 }
+    ensures { result ≡ true → IsOpen text.now }
+{
+    let Some(token) = tokens.last() else {
+        return false;
+    };
+    if !ending_in(text.len(), tokens).is_message() {
+        return false;
+    }
+    let start = token.start as usize;
+    if start > text.len() {
+        return false;
+    }
+    let message = &text[start..];
+    let Ok(front) = read_text(alloc, &text[..start]) else {
+        return false;
+    };
+    if !ending_in(start, front.tokens.as_slice()).goes_on(message) {
+        return false;
+    }
+    is_message(alloc, message)
+}
+
+/// The tokens and the labels of a text of which these are known, where the last part goes on with these
+/// bytes up to this place.
+pub fn say_on(end: u32, more: &[u8], old: TextParts) -> Result<TextParts, SyntaxFault>
+    ensures { Gives SyntaxFault.Memory (λ p. (p.tokens, p.labels)) result
+        (said_to end more.now (Ok (old.tokens, old.labels))) }
+{
+    let TextParts {
+        mut tokens,
+        mut labels,
+    } = old;
+    tokens.end_last(end);
+    labels.lengthen_last(more)?;
     Ok(TextParts { tokens, labels })
 }
 

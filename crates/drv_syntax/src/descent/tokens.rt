@@ -1,5 +1,6 @@
 //! The tokens of a text, while it is read.
 
+ghost use Rattle.drv_syntax.specs.Code.Messages.{ended, with_last};
 ghost use Rattle.drv_syntax.specs.Code.Tokens.{open_token, plain_tokens, whole_token};
 ghost use Rattle.drv_words.specs.Gives.{Gives};
 ghost use Rattle.std.specs.Prelude.{◌≡◌, ◌<◌, ◌≤◌, ◌^◌, ◌+◌, ◌++◌, ◌∷◌, [], Ok, length};
@@ -154,6 +155,22 @@ impl Tokens {
                 start: part.start,
                 end,
                 next,
+            };
+        }
+    }
+
+    /// The last one ends at this place.
+    pub fn end_last(&mut self, end: u32)
+        ensures { self.new ≡ with_last (λ token. ended token end) self.old }
+    {
+        let count = self.list.len();
+        if count != 0 {
+            let token = self.list[count - 1];
+            self.list[count - 1] = Token {
+                kind: token.kind,
+                start: token.start,
+                end,
+                next: token.next,
             };
         }
     }
