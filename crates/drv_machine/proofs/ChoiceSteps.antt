@@ -257,7 +257,8 @@ each_is F C negated (tree.HasSuffix word) own X levels star others e = absurd cc
 each_is F C negated (tree.HasLanguage word) own X levels star others e = absurd cc
 each_is F C negated (tree.HasResult name items) own X levels star others e = absurd cc
 
--- an X whose test was found true: `own` is whether it has a %* of its own, and b and c are what the code computes of that and of the test
+-- an X whose test was found true: `own` is whether it has a %* of its own, b whether moreover the test asks for switches, and c the same as
+-- the code has it
 module _ (F : Facts) (C : Context) (text : List ℕ) (s : Machine) (test middle end : ℕ) (negated : Bool) (asked : Asked) (items : Items)
     (levels : Levels) (star : List ℕ) (others : Step (Unit {0}))
     (label : label_at (tree_of text) test ≡ test_label negated asked) (own : Bool) (owns : own ≡ has_star items) (b c : Bool)

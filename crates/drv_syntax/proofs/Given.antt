@@ -50,8 +50,7 @@ use Rattle.std.specs.Prelude.{Err, None, Ok, Option, Result, Some, ◌&&◌, ◌
 
 -- What the code gives of the tests and of the inside of braces, by what it gives of the parts in them: each lemma is a function of
 -- src/descent/lists.rt in the words of the clauses of those that it calls. `v` is the text that is left before a part and what is written
--- so
--- far, and `u` the same after it. `outer` is the place of the outermost directive that is open, if one is.
+-- so far, and `u` the same after it. `outer` is the place of the outermost directive that is open, if one is.
 
 -- the lists in a list of at least one level, in a context that the code has made, are those with a level less
 pub near_is : (c g k : ListContext) → 1 ≤ c.levels → g.levels ≡ c.levels - 1 → k ≡ g → (rest : Left)
@@ -541,8 +540,8 @@ module _ (outer : Option ℕ) (at : ℕ) (order : Order) (so_far : Option Choice
 pub deep_enough : (level : ℕ) → 1 ≤ level → (level ≡ 1 → ⊥) → (level - 1 == 0) ≡ false
 deep_enough level h g = differs (level - 1) 0 (λ e. g (omega (arith, e, h)))
 
--- patterns after an ampersand: a pattern that the code has read after white space, and the white space after it, lead to what the byte
--- after it says
+-- patterns (`patterns` of lists.rt), as T after & in %{S*&T*}: a pattern with the white space around it is one turn of Descent's loop, and
+-- the byte behind says whether another turn follows
 pub patterns_turn : (outer : Option ℕ) (at : ℕ) (v : Reading) (rest : Left) → rest ≡ past_white v.rest → (start : ℕ) → start ≡ rest.at
     → (p : Pattern) (u : Reading) → value_given outer (at_rest rest v) (d.pattern_at at rest) ≡ Ok (p, u)
     → (end : ℕ) → end ≡ u.rest.at → (last : Left) → last ≡ past_white u.rest → patterns_given outer v (d.patterns at v.rest)

@@ -31,6 +31,9 @@ use Rattle.std.specs.Prelude.{◌-◌, ◌==◌}
 -- What a test asks, and a whole test with the byte after it: what Descent makes of them is what the grammar says. A mark is the `.` or `,`
 -- of a test. `Tried` is a test that may still be a pattern, with the byte after it. Descent is the grammar as functions (specs/Descent).
 -- The grammar itself has cases (specs/Spelling, Fronts, Refusals).
+--
+-- Names: at: the place of the directive; g: its context; t, u, v, q: what is left of the text from step to step; k: the place of the byte
+-- that is refused. `TestBad` and `emit_bad`: the test, or the pattern, is refused there with that fault.
 
 -- right after a mark alone: white space, or the end of a pattern
 pub data Bared : List ℕ → Type 0 where

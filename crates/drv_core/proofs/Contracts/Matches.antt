@@ -271,6 +271,7 @@ flown_matches plan room p c phase a h = subst (λ (t : Bool). Matches plan room 
     not_ran None e = refl
     not_ran (Some job) e = ap (λ (u : Bool). if u then job else no_job) e
 
+    -- once the sources have ended, a run whose link begins is still as far as the code's: no count of files or jobs changes
     link_alike : Alike plan room (record p { leftovers = record p.leftovers { linked = true } })
         (record c { link = begin (link_of plan.link) })
     link_alike = record {

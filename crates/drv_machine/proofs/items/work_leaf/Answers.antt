@@ -10,6 +10,9 @@ use Rattle.std.proofs.Common.{ap, refl, rules, sym, ◌∙◌}
 
 -- work_leaf (src/items.rt). Works a directive that is whole with its byte.
 
+-- Names: `reached n m` is the machine m where n items were reached. `then_ok` says what follows an answer that is known, and `by_leaf`
+-- that the definition does for this directive what its variant says.
+
 -- %i of a link, which has no input
 pub returns-in_err-input_name-in-InputName-clause-does : goal.returns-in_err-input_name-in-InputName-clause-does
 returns-in_err-input_name-in-InputName-clause-does g c n F e =
