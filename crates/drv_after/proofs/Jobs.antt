@@ -5,6 +5,7 @@ use Rattle.std.specs.Option.{option_to_list, unwrap_or}
 use Rattle.std.specs.Prelude.{◌≡◌, ◌++◌, List, [], ◌∷◌, None, Option, Some, get_or, length, slice_get, ℕ}
 
 -- For the places of a plan: its jobs by their numbers.
+-- Names: `no_job`: a job that has nothing to do.
 
 -- the job of the number after the sources is the link
 pub the_link : (jobs : List Job) (link : Option Job) (k : ℕ) → k ≡ length jobs

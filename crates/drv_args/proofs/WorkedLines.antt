@@ -16,6 +16,7 @@ use Rattle.std.specs.Prelude.{Err, None, Ok, Result, Some}
 
 -- Examples of lines, which the prover computes: each form of each option. The expected lines were derived by hand from the manual and the
 -- profile.
+-- Names: `item`: what a front adds to the line. `line_judged`: the line of items, or its refusal.
 
 -- a switch without an argument, and one with an argument
 abbrev alone : List ℕ → Switch

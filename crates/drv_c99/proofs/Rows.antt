@@ -7,6 +7,7 @@ use Rattle.std.specs.List.{slice_split}
 use Rattle.std.specs.Prelude.{Err, Ok, Result}
 
 -- Examples of c99 lines, which the prover computes.
+-- Names: `front_of`: the driver's words for a line of c99.
 
 -- the words of a text, separated by blanks
 abbrev words : List ℕ → List (List ℕ)

@@ -21,6 +21,14 @@ use Rattle.std.specs.Bool.{⊤}
 use Rattle.std.specs.List.{list_any}
 
 -- For `Items::with_names` (src/items.rt): reading a line again by names of options changes only the unknown words.
+-- Names: `known` is the text of the names beyond the table, a line each; `[]` in its place is no names. `word` is a word of the line, and
+-- `name` what it is read as, of which `b` is the first byte. `r` is a row of the option table. `i` is an item. `result` is what the code's
+-- call gives. `t`, `u` and `v` are values of tests, so that `by` can go by both. `first_row` is the row that decides a word. `meant_option`
+-- is the name that a word without a row is read as. `beyond` is the item of a word that no row fits. `again` is an item read once more by
+-- names. `start_of` is how a word begins: an item, or a row that takes the next word. `is_known` says that a text has a name, `accepts`
+-- that the compiler takes it, `judges` that gcc's driver judges its argument. `turns_off` is for a -Wno- that is left to the compiler.
+-- `is_passed_over` is for what newer compilers ignore. `item name argument spelling role` makes an item. `again` is in specs/Code/Known,
+-- the others in specs/Items.
 
 -- No row of the option table is for an unknown word, so an option of the table is never asked again. The table is computed to see it.
 no_row : list_any (λ r. is_unknown r.role) table ≡ false
@@ -53,6 +61,7 @@ found_passes p q [] r e missed = absurd cc
 found_passes p q (x ∷ rows) r e missed = by (p x) refl e (both_false (q x) (list_any q rows) missed)
     (λ found none. found_passes p q rows r found none)
   where
+    -- Plan: `by` goes by both answers of `p x`.
     by : (t : Bool) → p x ≡ t → cond t (Some x) (find p rows) ≡ Some r → (q x ≡ false) × (list_any q rows ≡ false)
         → (find p rows ≡ Some r → list_any q rows ≡ false → (p r ≡ true) × (q r ≡ false)) → (p r ≡ true) × (q r ≡ false)
     by true is e missed ih = let same_one : x ≡ r = cc in (ap p (sym same_one) ∙ is, ap q (sym same_one) ∙ missed.0)
@@ -112,6 +121,7 @@ unknown_some (b ∷ name) some = refl
 some_head : (b : ℕ) (name more : List ℕ) → 0 < length (head_of (b ∷ name) ++ more)
 some_head b name more = by (b == equals)
   where
+    -- Plan: `by` goes by both answers of `b == equals`.
     by : (t : Bool) → 0 < length (cond t (b ∷ []) (b ∷ head_of name) ++ more)
     by true = omega arith
     by false = omega arith
@@ -123,6 +133,7 @@ no_value b name =
     ap (is_known []) (sym (append-nil (head_of (b ∷ name)))) ∙ unknown_some (head_of (b ∷ name) ++ []) (some_head b name []) in
     rw (head, by (is_number (value_of (b ∷ name))) head) refl
   where
+    -- Plan: `by` goes by both answers of `is_number (value_of (b ∷ name))`.
     by : (t : Bool) → is_known [] (head_of (b ∷ name)) ≡ false
         → is_known [] (cond t (head_of (b ∷ name) ++ codes "#") (head_of (b ∷ name))) ≡ false
     by true head = unknown_some (head_of (b ∷ name) ++ codes "#") (some_head b name (codes "#"))
@@ -132,6 +143,7 @@ no_value b name =
 none_accepted : (b : ℕ) (name : List ℕ) → accepts [] (b ∷ name) ≡ false
 none_accepted b name = by (is_open (b ∷ name))
   where
+    -- Plan: `by` goes by both answers of `is_open (b ∷ name)`.
     by : (t : Bool) → cond t (takes_value [] (b ∷ name)) (takes_value [] (b ∷ name)) ≡ false
     by true = no_value b name
     by false = no_value b name
@@ -161,11 +173,13 @@ other_begins : (name : List ℕ) → begins (codes "-Wno-") name ≡ true → be
 other_begins [] e = refl
 other_begins (a ∷ []) e = by (45 == a)
   where
+    -- Plan: `by` goes by both answers of `45 == a`.
     by : (t : Bool) → (t && false) ≡ false
     by true = refl
     by false = refl
 other_begins (a ∷ b ∷ name) e = by (45 == a) (109 == b) (87 == b) refl refl e
   where
+    -- Plan: `by` goes by the cases of `45 == a`, `109 == b` and `87 == b`.
     by : (t u v : Bool) → (109 == b) ≡ u → (87 == b) ≡ v → (t && (v && begins (codes "no-") name)) ≡ true
         → (t && (u && begins (codes "cpu=") name)) ≡ false
     by false u v m w e = refl
@@ -184,11 +198,13 @@ off_begins : (word : List ℕ) → begins (codes "-Wno-") word ≡ true → fals
 off_begins [] e = absurd cc
 off_begins (a ∷ []) e = by (45 == a)
   where
+    -- Plan: `by` goes by both answers of `45 == a`.
     by : (t : Bool) → false ≡ (t && false)
     by true = refl
     by false = refl
 off_begins (a ∷ b ∷ word) e = by (45 == a) (45 == b) (87 == b) refl refl e
   where
+    -- Plan: `by` goes by the cases of `45 == a`, `45 == b` and `87 == b`.
     by : (t u v : Bool) → (45 == b) ≡ u → (87 == b) ≡ v → (t && (v && begins (codes "no-") word)) ≡ true → false ≡ (t && (u && true))
     by false u v m w e = refl
     by true false v m w e = refl
@@ -241,6 +257,7 @@ beyond_again : (known word : List ℕ) (b : ℕ) (name : List ℕ) → meant_opt
     → again known (beyond [] word (b ∷ name)) ≡ beyond known word (b ∷ name)
 beyond_again known word b name is = by (is_passed_over (b ∷ name)) (turns_off [] word) refl refl
   where
+    -- Plan: `by` goes by the cases of `is_passed_over (b ∷ name)` and `turns_off [] word`.
     by : (t u : Bool) → is_passed_over (b ∷ name) ≡ t → turns_off [] word ≡ u
         → again known (beyond [] word (b ∷ name)) ≡ beyond known word (b ∷ name)
     by true u e e' = ap (again known) (ap (passed_or [] word (b ∷ name)) e) ∙ ap (beyond known word) is
@@ -253,6 +270,7 @@ beyond_again known word b name is = by (is_passed_over (b ∷ name)) (turns_off 
 some_left : (n : ℕ) (word : List ℕ) → n < length word → (b : ℕ) × (rest : List ℕ) × (drop n word ≡ b ∷ rest)
 some_left n word less = by (drop n word) refl
   where
+    -- Plan: `by` goes by whether `drop n word` is empty; it isn't, since n is less than the length of the word.
     by : (left : List ℕ) → drop n word ≡ left → (b : ℕ) × (rest : List ℕ) × (drop n word ≡ b ∷ rest)
     by [] e = absurd (omega (arith, less, sym (length-drop n word) ∙ ap length e))
     by (b ∷ rest) e = (b, rest, e)
@@ -271,6 +289,7 @@ two_true false b e = absurd cc
 some_named : (b : ℕ) (word : List ℕ) → (c : ℕ) × (rest : List ℕ) × (meant_option (b ∷ word) ≡ c ∷ rest)
 some_named b word = by (find (is_longer (b ∷ word)) renames) refl
   where
+    -- Plan: `none` says that a test that always fails finds nothing; `by` goes by what `find (is_longer (b ∷ word)) renames` gives.
     none : (rows : List (List ℕ × List ℕ)) → list_any (λ r. false) rows ≡ false
     none [] = refl
     none (x ∷ rows) = none rows
@@ -289,6 +308,7 @@ renamed_begun : (known word : List ℕ) (b : ℕ) (name : List ℕ) → meant_op
     → Begun known (start_renamed [] word (b ∷ name) (first_row (b ∷ name))) (start_renamed known word (b ∷ name) (first_row (b ∷ name)))
 renamed_begun known word b name is = by (first_row (b ∷ name)) refl
   where
+    -- Plan: `by` goes by whether `first_row (b ∷ name)` finds one.
     by : (found : Option OptionRow) → first_row (b ∷ name) ≡ found
         → Begun known (start_renamed [] word (b ∷ name) found) (start_renamed known word (b ∷ name) found)
     by None e = (ap Whole (beyond_again known word b name is), tt)
@@ -299,6 +319,7 @@ option_begun : (known : List ℕ) (b : ℕ) (word : List ℕ)
     → Begun known (start_option [] (b ∷ word) (first_row (b ∷ word))) (start_option known (b ∷ word) (first_row (b ∷ word)))
 option_begun known b word = by (first_row (b ∷ word)) refl
   where
+    -- Plan: `by` goes by whether `first_row (b ∷ word)` finds one.
     by : (found : Option OptionRow) → first_row (b ∷ word) ≡ found
         → Begun known (start_option [] (b ∷ word) found) (start_option known (b ∷ word) found)
     by None e =
@@ -311,6 +332,7 @@ begun : (known word : List ℕ) → Begun known (start_of [] word) (start_of kno
 begun known [] = (refl, tt)
 begun known (b ∷ word) = by (is_file (b ∷ word)) refl
   where
+    -- Plan: `by` goes by both answers of `is_file (b ∷ word)`.
     by : (t : Bool) → is_file (b ∷ word) ≡ t → Begun known (start_of [] (b ∷ word)) (start_of known (b ∷ word))
     by true e = rw e (refl, tt)
     by false e = rw e (option_begun known b word)
@@ -329,6 +351,7 @@ items_again known (Some r) (word ∷ words) fit = rw (row_again known r word fit
 items_again known None (word ∷ words) fit = by (start_of [] word) (start_of known word) (begun known word)
     (λ w h. items_again known w words h)
   where
+    -- Plan: `by` goes by the cases of `start_of [] word` and `start_of known word`.
     by : (before after : Start) → Begun known before after
         → ((w : Option OptionRow) → IsFitting w → map (again known) (items_of [] w words) ≡ items_of known w words)
         → map (again known) (with_start before (λ wanting. items_of [] wanting words))
@@ -368,6 +391,7 @@ own_switch known word machine passed off taken same machine_is other passed_is s
     ∙ by (turns_off known word || accepts known word) found ∙ ap
     (λ t. if t then machine_item known (drop (length (codes "-mcpu=")) word) else item word [] Alone Switch) none
   where
+    -- Plan: `by` goes by both answers of `turns_off known word || accepts known word`.
     by : (t : Bool) → t ≡ true
         → (if t then known_item known word else if judges known word then plain Question word else plain Unknown word)
         ≡ known_item known word
@@ -398,6 +422,7 @@ pub none_named : {E : Type 0} (known word name : List ℕ) (off : Bool) (result 
 none_named known word name off (Err e) none some off_is not_off is = tt
 none_named known word name off (Ok made) none some off_is not_off is = is ∙ sym (by (is_passed_over name) refl)
   where
+    -- Plan: `by` goes by both answers of `is_passed_over name`.
     by : (t : Bool) → is_passed_over name ≡ t → beyond known word name ≡ plain Unknown word
     by true e = rw (e, none_left known none) refl
     by false e =
@@ -417,6 +442,7 @@ near_accepted known name head opens true begun opens_is closed head_is here ther
 near_accepted known name head opens false begun opens_is closed head_is here there either =
     rw (sym opens_is ∙ closed, ap (is_known known) (sym head_is) ∙ there either) (second (is_known known name))
   where
+    -- Plan: `second` goes by both answers of `is_known known name`.
     second : (t : Bool) → (t || true) ≡ true
     second true = refl
     second false = refl
@@ -430,6 +456,7 @@ found_switch known word machine passed found same machine_is other passed_is sta
     own_switch known word machine passed (turns_off known word) (accepts known word) same machine_is other passed_is stays refl refl
     (either (turns_off known word) (accepts known word) (known_is so))
   where
+    -- Plan: `either` goes by the cases of `turns_off known word` and `accepts known word`.
     either : (a b : Bool) → b ≡ true → (a || b) ≡ true
     either true b is = refl
     either false b is = is

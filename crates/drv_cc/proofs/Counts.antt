@@ -7,6 +7,9 @@ use Rattle.std.specs.List.{list_all}
 
 -- For the sources and suffixes of a line (src/sources.rt and src/sides.rt): what the code counts of a list is what the definitions say of
 -- it.
+-- Names: `names` is a list of names. `ends` is the suffixes of sources, of which `end` is the first. `others` is those after it. `count_of`
+-- is the count of a list: none, one alone, or many. `all_noted` counts different names only. `suffix_words` is the words for suffixes, and
+-- `suffixes_words` those for their count (specs/Code/Building).
 
 -- Once there are more than one, a further name changes nothing of the count.
 many_stays : (names : List (List ℕ)) → all_counted Many names ≡ Many
@@ -42,6 +45,7 @@ one_noted : (end : List ℕ) (others : List (List ℕ))
 one_noted end [] = refl
 one_noted end (other ∷ others) = by (same end other) refl (one_noted end others)
   where
+    -- Plan: `by` goes by both answers of `same end other`.
     by : (is : Bool) → same end other ≡ is → all_noted (Single end) others ≡ (if list_all (same end) others then Single end else Many)
         → all_noted (Single end) (other ∷ others) ≡ (if list_all (same end) (other ∷ others) then Single end else Many)
     by true is rest = rw is rest
@@ -52,6 +56,7 @@ pub suffixes_of : (ends : List (List ℕ)) → suffixes_words (all_noted Zero en
 suffixes_of [] = refl
 suffixes_of (end ∷ others) = by (list_all (same end) others) refl
   where
+    -- Plan: `by` goes by both answers of `list_all (same end) others`.
     by : (is : Bool) → list_all (same end) others ≡ is → suffixes_words (all_noted (Single end) others) ≡ suffix_words (end ∷ others)
     by true is = rw (one_noted end others) (rw is refl)
     by false is = rw (one_noted end others) (rw is refl)

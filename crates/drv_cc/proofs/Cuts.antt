@@ -7,6 +7,9 @@ use Rattle.std.proofs.lemmas.List.{take_all}
 use Rattle.std.specs.List.{position, position_or_len}
 
 -- For the name of an option up to its `=` (src/values.rt), and a first line (src/known.rt): a text is cut at the first byte of a kind.
+-- Names: `text` is the text that is cut. `mark` is the byte at which it is cut. `i` is a place in the text. `before mark text` is how many
+-- bytes precede the first such byte. `head_of` is a name up to its first `=`, and that too. `first_line` is a text up to the end of its
+-- first line.
 
 -- The test of a byte by which std's `position` looks.
 abbrev is_mark : ℕ → ℕ → Bool
@@ -20,6 +23,7 @@ before mark text = position_or_len (is_mark mark) text
 place_is : (mark : ℕ) (text : List ℕ) (i : ℕ) → position (is_mark mark) text ≡ Some i → before mark text ≡ i
 place_is mark text i is = by (nat_lt (before mark text) (length text)) is
   where
+    -- Plan: `by` goes by both answers of `nat_lt (before mark text) (length text)`.
     by : (below : Bool) → cond below (Some (before mark text)) None ≡ Some i → before mark text ≡ i
     by true e = cc
     by false e = absurd cc
@@ -28,6 +32,7 @@ place_is mark text i is = by (nat_lt (before mark text) (length text)) is
 no_place : (mark : ℕ) (text : List ℕ) → position (is_mark mark) text ≡ None → length text ≤ before mark text
 no_place mark text none = by (nat_lt (before mark text) (length text)) refl none
   where
+    -- Plan: `by` goes by both answers of `nat_lt (before mark text) (length text)`.
     by : (below : Bool) → nat_lt (before mark text) (length text) ≡ below → cond below (Some (before mark text)) None ≡ None
         → length text ≤ before mark text
     by true is e = absurd cc
@@ -42,6 +47,7 @@ head_is : (text : List ℕ) → take (before equals text + 1) text ≡ head_of t
 head_is [] = refl
 head_is (b ∷ text) = by (b == equals) (head_is text)
   where
+    -- Plan: `n` is how many bytes precede the first `=` of the rest; `by` goes by whether the first byte is `=`.
     n : ℕ
     n = before equals text
 

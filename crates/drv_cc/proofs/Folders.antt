@@ -6,6 +6,9 @@ use Rattle.std.proofs.lemmas.List.{flat_map_more, map-append}
 use Rattle.std.specs.List.{flat_map}
 
 -- For the folders of COMPILER_PATH and LIBRARY_PATH (src/adding.rt and src/line_adding.rt): each folder of such a path gives its words.
+-- Names: `f` gives the words of one folder. `words` is the words before, `words'` those after. `done` is the folders that were added, and
+-- `after` those and one more. `named_folder` is a folder's name, with an empty one as the folder of the call. `words_for Any` is a folder
+-- as one word.
 
 -- For `add_path` (src/adding.rt) before its first folder.
 pub no_folder : (f : List ℕ → List (List ℕ)) (words : List (List ℕ)) → words ≡ words ++ flat_map f (map named_folder [])

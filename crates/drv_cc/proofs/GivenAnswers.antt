@@ -11,6 +11,10 @@ use Rattle.std.proofs.Common.{◌≡◌, ◌∷◌, ◌∙◌, ◌<◌, [], Err,
 use Rattle.std.proofs.lemmas.Bool.Decides.{nat_tests}
 
 -- For `front_with` (src/giving.rt): what its text gives a line is refused, or the line is run with it.
+-- Names: `known` is the names beyond the table. `named` is the switches that the line's spec files name. `words` is the line. `around` is
+-- the compiler and its folders. `given` has the words that the text left and those that it gives. `refused` is what of these is refused.
+-- `live items left` is the items that the text left. `front_with` is the answer to a line with what its text gives (specs/SelfSpecs.antt
+-- and Front.antt).
 
 -- the answer by these refusals, where there are some
 refusing : (around : Surroundings) (items left given : List Item) (refused : List Refusal) → (refused ≡ [] → ⊥)

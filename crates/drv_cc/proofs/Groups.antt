@@ -14,6 +14,12 @@ use Rattle.std.specs.List.{filter}
 use Rattle.std.specs.Option.{option_map, option_or}
 
 -- For the look-up of options (src/table.rt): the first row of the table that fits a word is in the group of its key.
+-- Names: `word` is a word of the line. `option` is the text of a row. `takes` is how its option takes an argument. `rows` is some rows of
+-- the table. `p`, `a` and `b` are tests, or bytes where a word is cut into bytes. `x`, `y` and `t` are values of tests, so that `by` can go
+-- by both. `fits` says that a row fits a word, `option_fits` the same of an option by how it takes its argument. `begins option word` says
+-- that the word begins with the option. `first_row` is the row that decides a word. `whole_key` and `begun_key` are the groups in which a
+-- word is looked up, as a whole option or by its beginning. `whole_at` and `begun_at` are the rows of a group. `is_short` says that an
+-- option is in each group (specs/Code/Groups).
 
 -- rows that pass both tests are found among those that pass one, where the other follows
 find_both : (p a b : OptionRow → Bool) → ((r : OptionRow) → p r ≡ true → a r ≡ true → b r ≡ true) → (rows : List OptionRow)
@@ -21,6 +27,7 @@ find_both : (p a b : OptionRow → Bool) → ((r : OptionRow) → p r ≡ true �
 find_both p a b follows [] = refl
 find_both p a b follows (r ∷ rows) = by (p r) (a r) (b r) refl refl refl (find_both p a b follows rows)
   where
+    -- Plan: `by` goes by the cases of `p r`, `a r` and `b r`.
     by : (x y z : Bool) → p r ≡ x → a r ≡ y → b r ≡ z → find p (filter (λ s. a s && b s) rows) ≡ find p (filter a rows)
         → find p (filter (λ s. a s && b s) (r ∷ rows)) ≡ find p (filter a (r ∷ rows))
     by x false z ep ea eb ih = rw ea ih
@@ -35,6 +42,7 @@ same_is [] (y ∷ b) e = absurd cc
 same_is (x ∷ a) [] e = absurd cc
 same_is (x ∷ a) (y ∷ b) e = by (x == y) refl (same_is a b) e
   where
+    -- Plan: `by` goes by both answers of `x == y`.
     by : (t : Bool) → (x == y) ≡ t → (same a b ≡ true → a ≡ b) → (t && same a b) ≡ true → x ∷ a ≡ y ∷ b
     by true ex rest e = ap (λ z. z ∷ a) (eqb-true x y ex) ∙ ap (λ l. y ∷ l) (rest e)
     by false ex rest e = absurd cc
@@ -83,6 +91,7 @@ two_alike : (a b x y : ℕ) (word : List ℕ) → b ≡ y
     → (is_short (a ∷ b ∷ []) || (begun_key (a ∷ b ∷ []) == begun_key (x ∷ y ∷ word))) ≡ true
 two_alike a b x y word same_byte = by (is_parted b) refl
   where
+    -- Plan: `by` goes by both answers of `is_parted b`.
     by : (t : Bool) → is_parted b ≡ t → (is_short (a ∷ b ∷ []) || (begun_key (a ∷ b ∷ []) == begun_key (x ∷ y ∷ word))) ≡ true
     by true e = rw e refl
     by false e =
@@ -191,6 +200,7 @@ find_shown : {A B : Type 0} (f : A → B) (p : B → Bool) (xs : List A) → opt
 find_shown f p [] = refl
 find_shown f p (x ∷ xs) = by (p (f x)) refl (find_shown f p xs)
   where
+    -- Plan: `by` goes by both answers of `p (f x)`.
     by : (t : Bool) → p (f x) ≡ t → option_map f (find (λ y. p (f y)) xs) ≡ find p (map f xs)
         → option_map f (find (λ y. p (f y)) (x ∷ xs)) ≡ find p (map f (x ∷ xs))
     by true e ih = rw e refl
@@ -201,6 +211,7 @@ pub found_shown : {R A B : Type 0} (seen : R → A) (shown : A → B) (p : B →
     → option_map seen found ≡ find (λ x. p (shown x)) xs → option_map (λ r. shown (seen r)) found ≡ find p (map shown xs)
 found_shown {R} seen shown p xs found is = twice found ∙ ap (option_map shown) is ∙ find_shown shown p xs
   where
+    -- Plan: `twice` says that to show what is found in two steps is to show it in one.
     twice : (r : Option R) → option_map (λ x. shown (seen x)) r ≡ option_map shown (option_map seen r)
     twice None = refl
     twice (Some r) = refl
@@ -212,6 +223,7 @@ pub end_differs : (option word : List ℕ) (own other : ℕ) (differs : Bool) �
 end_differs [] word own other differs is are some so here = absurd cc
 end_differs (a ∷ option) word own other differs is are some so here = by (begins (a ∷ option) word) refl
   where
+    -- Plan: `by` goes by both answers of `begins (a ∷ option) word`.
     by : (t : Bool) → begins (a ∷ option) word ≡ t → t ≡ false
     by false e = refl
     by true e =

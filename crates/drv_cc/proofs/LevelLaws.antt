@@ -8,6 +8,11 @@ use Rattle.std.specs.List.{list_any}
 use Rattle.std.specs.Option.{is_some, unwrap_or}
 
 -- For last_level_counts (src/laws.rt): of the options of debugging the last one that names a level decides.
+-- Names: `d` is level, version and toggle so far. `before` and `after` are the items on both sides of the option `i`. `name` is an option's
+-- name. `o` is what it names, if anything. `debugging_of d items` is `d` after these items, `debugged_by` after one option. `no_debugging`
+-- is what holds before the first. `level_named`, `version_named` and `toggle_named` are what an option names. `NoneNames f items` says that
+-- no item names one by `f`. `level_after` is a level after options that name none. `raised_by` raises a level to the usual one, if records
+-- are asked for.
 
 -- The options of a line are read in turn, so those after an option start from what those before it set.
 append_debugged : (d : Debugging) (before after : List Item) → debugging_of d (before ++ after) ≡ debugging_of (debugging_of d before) after
@@ -19,6 +24,7 @@ raised_twice : (first rest : Bool) (level : ℕ) → raised_by rest (raised_by f
 raised_twice false rest level = refl
 raised_twice true rest level = by (nat_lt level 50) rest refl
   where
+    -- Plan: `by` goes by whether the level is below the usual one, and by whether the others ask for records.
     by : (low rest : Bool) → nat_lt level 50 ≡ low → raised_by rest (raised_by true level) ≡ raised_by true level
     by true true e = rw e refl
     by true false e = rw e refl
@@ -50,6 +56,7 @@ no_level : (d : Debugging) (items : List Item) → NoneNames level_named items �
 no_level d [] e = refl
 no_level d (i ∷ items) e = by (level_named i.name) refl e (no_level (debugged_by d i.name) items)
   where
+    -- Plan: `by` goes by the cases of `level_named i.name`.
     by : (o : Option ℕ) → level_named i.name ≡ o → (is_some o || list_any (λ i. is_some (level_named i.name)) items) ≡ false
         → (NoneNames level_named items → (debugging_of d (i ∷ items)).level ≡ level_after items (debugged_by d i.name).level)
         → (debugging_of d (i ∷ items)).level ≡ level_after (i ∷ items) d.level
@@ -63,6 +70,7 @@ no_version : (d : Debugging) (items : List Item) → NoneNames version_named ite
 no_version d [] e = refl
 no_version d (i ∷ items) e = by (version_named i.name) refl e (no_version (debugged_by d i.name) items)
   where
+    -- Plan: `by` goes by the cases of `version_named i.name`.
     by : (o : Option ℕ) → version_named i.name ≡ o → (is_some o || list_any (λ i. is_some (version_named i.name)) items) ≡ false
         → (NoneNames version_named items → (debugging_of d (i ∷ items)).version ≡ (debugged_by d i.name).version)
         → (debugging_of d (i ∷ items)).version ≡ d.version
@@ -74,6 +82,7 @@ no_toggle : (d : Debugging) (items : List Item) → NoneNames toggle_named items
 no_toggle d [] e = refl
 no_toggle d (i ∷ items) e = by (toggle_named i.name) refl e (no_toggle (debugged_by d i.name) items)
   where
+    -- Plan: `by` goes by the cases of `toggle_named i.name`.
     by : (o : Option Bool) → toggle_named i.name ≡ o → (is_some o || list_any (λ i. is_some (toggle_named i.name)) items) ≡ false
         → (NoneNames toggle_named items → (debugging_of d (i ∷ items)).toggled ≡ (debugged_by d i.name).toggled)
         → (debugging_of d (i ∷ items)).toggled ≡ d.toggled

@@ -13,6 +13,10 @@ use Rattle.std.specs.List.{list_any, onto_first, slice_split, starts_with}
 use Rattle.std.specs.Prelude.{slice_index_or}
 
 -- For the look-up of a word among the names of options beyond the table (src/known.rt): a line of a text begins with it, or doesn't.
+-- Names: `text` is the names, a line each. `line` is the name that is looked for. `rest` is what follows it in the text. `before` and
+-- `after` are the texts on both sides of the end of a line. `b` is one byte. `a` and `b` are values of tests where there are two. `ends b`
+-- says that a byte ends a line. `lines` cuts a text into lines. `is_known text line` says that one of them is this name. `is_ended` says
+-- that a line ends where a text begins (specs/Code/Known).
 
 -- The test of a byte by which std's `slice_split` cuts lines.
 abbrev ends : ℕ → Bool
@@ -37,6 +41,7 @@ cut : (before after : List ℕ) → lines (before ++ newline ∷ after) ≡ line
 cut [] after = slice_split-cons_yes ends newline after refl
 cut (b ∷ before) after = by (ends b) refl (cut before after)
   where
+    -- Plan: `by` goes by both answers of `ends b`.
     by : (here : Bool) → ends b ≡ here → lines (before ++ newline ∷ after) ≡ lines before ++ lines after
         → lines (b ∷ before ++ newline ∷ after) ≡ lines (b ∷ before) ++ lines after
     by true is rest =

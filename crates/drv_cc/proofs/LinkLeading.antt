@@ -5,6 +5,8 @@ use Rattle.std.proofs.Common.{◌≡◌, ◌∙◌, List, None, Option, Some, ap
 
 -- For `link_beginning` (src/leading.rt): what leads the names of a link's side files is what the base and the folder that options give lead
 -- to.
+-- Names: `items` is the items of the line. `base` is the name of -dumpbase. `folder` is the folder that options give. `link_leading` is
+-- what leads the names of a link's side files, and `link_leading_in` the same by both (specs/Code/Leading).
 
 -- The code takes the folder of the options as an argument, which the definition looks up.
 leading_so : (items : List Item) (base : Option (List ℕ)) → link_leading_in items base (given_folder items) ≡ link_leading_by items base

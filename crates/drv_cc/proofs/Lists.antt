@@ -11,11 +11,16 @@ use Rattle.std.specs.Option.{option_map, option_or}
 
 -- For the lists of option names (src/classes.rt): a name that is in one is in the group of its key. And the ring of an option is found
 -- among the options of all rings.
+-- Names: `name` is the name that is looked for. `key` is its group. `names` is a list of names. `p` is a test of names. `ring` is a text of
+-- options of which the last one counts, and `options` such options, each with its ring as a pair `r`. `found` is what the code found.
+-- `is_among` says that a list has the name. `list_key` is a name's group, of 16. `texts` cuts a text of names at its blanks. `option_is`
+-- tests the option of a pair.
 
 -- another name passes no test that this one passes
 differs : (p : List ℕ → Bool) (a b : List ℕ) → p a ≡ true → p b ≡ false → same a b ≡ false
 differs p a b here there = by (same a b) refl
   where
+    -- Plan: `by` goes by both answers of `same a b`.
     by : (t : Bool) → same a b ≡ t → t ≡ false
     by false e = refl
     by true e = absurd (let clash : true ≡ false = sym here ∙ ap p (same_is a b e) ∙ there in cc)
@@ -25,6 +30,7 @@ passing : (p : List ℕ → Bool) (names : List (List ℕ)) (name : List ℕ) �
 passing p [] name here = refl
 passing p (other ∷ names) name here = by (p other) refl (passing p names name here)
   where
+    -- Plan: `by` goes by both answers of `p other`.
     by : (t : Bool) → p other ≡ t → is_among (filter p names) name ≡ is_among names name
         → is_among (filter p (other ∷ names)) name ≡ is_among (other ∷ names) name
     by true e rest = rw e (ap (λ t. same name other || t) rest)
@@ -46,6 +52,7 @@ pub joined_key : (a b : ℕ) (rest : List ℕ) (third : ℕ) → third ≡ get_o
 joined_key a b rest third is =
     ap (λ t. (t + (length rest + 2) % 16) % 16) is ∙ ap (λ n. (get_or rest 0 0 + n % 16) % 16) (two_more (length rest))
   where
+    -- Plan: `two_more` says that the two bytes before the rest count two.
     two_more : (n : ℕ) → n + 2 ≡ suc (suc n)
     two_more n = omega arith
 
@@ -65,6 +72,7 @@ found_passing : (p : List ℕ → Bool) (name : List ℕ) → p name ≡ true �
 found_passing p name here [] = refl
 found_passing p name here (r ∷ options) = by (p r.0) refl (found_passing p name here options)
   where
+    -- Plan: `by` goes by both answers of `p r.0`.
     by : (t : Bool) → p r.0 ≡ t → find (option_is name) (filter (λ r. p r.0) options) ≡ find (option_is name) options
         → find (option_is name) (filter (λ r. p r.0) (r ∷ options)) ≡ find (option_is name) (r ∷ options)
     by true e rest = rw e (ap (cond (same name r.0) (Some r)) rest)
@@ -77,6 +85,7 @@ in_ring : (name ring : List ℕ) (others : Option (List ℕ × List ℕ)) (optio
 in_ring name ring others [] = refl
 in_ring name ring others (option ∷ options) = by (same name option) refl (in_ring name ring others options)
   where
+    -- Plan: `by` goes by both answers of `same name option`.
     by : (b : Bool) → same name option ≡ b
         → option_map (λ r. r.1) (option_or (find (option_is name) (map (λ o. (o, ring)) options)) others)
         ≡ (if is_among options name then Some ring else option_map (λ r. r.1) others)
@@ -94,6 +103,7 @@ in_rings name (ring ∷ rings) =
     ∙ in_ring name ring (find (option_is name) (flat_map ringed_by rings)) (texts ring)
     ∙ by (is_among (texts ring) name) refl (in_rings name rings)
   where
+    -- Plan: `by` goes by both answers of `is_among (texts ring) name`.
     by : (b : Bool) → is_among (texts ring) name ≡ b
         → option_map (λ r. r.1) (find (option_is name) (flat_map ringed_by rings)) ≡ find (λ r. is_among (texts r) name) rings
         → (if is_among (texts ring) name then Some ring else option_map (λ r. r.1) (find (option_is name) (flat_map ringed_by rings)))

@@ -5,6 +5,8 @@ use Rattle.std.proofs.Common.{◌≡◌, ◌∙◌, Bool, List, [], ◌∷◌, �
 use Rattle.std.proofs.lemmas.List.{append-nil}
 
 -- For the macros of a line that names a vendor's spec file (src/macros.rt).
+-- Names: `i` is an item of the line. `words` is the words before, and `after` those after it. `test` is the answer to whether it is a -D.
+-- `macro_word` is the word for a macro.
 
 -- For `add_macro`: the word of an item that is a macro.
 pub macro_put : (i : Item) (words after : List (List ℕ)) (name argument : List ℕ) (test : Bool) → name ≡ i.name → argument ≡ i.argument

@@ -10,6 +10,9 @@ use Rattle.std.proofs.lemmas.List.{append-nil}
 use Rattle.std.specs.List.{list_any}
 
 -- For the libraries of checks (src/checks.rt): a line that turns no check on needs none.
+-- Names: `check` is the name of a check, such as address. `items` is the items of the line. `i` is one of them. `has name items` says that
+-- an option of this name is there. `is_checked items check` says that a check is on after all items, `checked_by` after one. `library_word`
+-- is the word for a library, if it is needed.
 
 -- The option that turns checks on. A line without it is what the code asks for first (`add_check_words`, src/checks.rt).
 abbrev turns_on : List ℕ
@@ -19,6 +22,7 @@ turns_on = codes "-fsanitize="
 differs : (name : List ℕ) → same turns_on name ≡ false → same name turns_on ≡ false
 differs name other = by (same name turns_on) refl
   where
+    -- Plan: `by` goes by both answers of `same name turns_on`.
     by : (b : Bool) → same name turns_on ≡ b → b ≡ false
     by true e = absurd (let both : false ≡ true = sym other ∙ ap (same turns_on) (same_is name turns_on e) in cc)
     by false e = refl
@@ -27,6 +31,7 @@ differs name other = by (same name turns_on) refl
 stays_off : (check : List ℕ) (i : Item) → same i.name turns_on ≡ false → checked_by check i false ≡ false
 stays_off check i e = rw e (by (same i.name (codes "-fno-sanitize=") && speaks_of check i.argument))
   where
+    -- Plan: `by` goes by both answers of `same i.name (codes "-fno-sanitize=") && speaks_of check i.argument`.
     by : (off : Bool) → (if off then false else false) ≡ false
     by true = refl
     by false = refl
@@ -36,6 +41,7 @@ off : (check : List ℕ) (items : List Item) → has turns_on items ≡ false �
 off check [] e = refl
 off check (i ∷ items) e = by (same turns_on i.name) refl e (off check items)
   where
+    -- Plan: `by` goes by both answers of `same turns_on i.name`.
     by : (b : Bool) → same turns_on i.name ≡ b → (b || has turns_on items) ≡ false
         → (has turns_on items ≡ false → checked_from false check items ≡ false)
         → checked_from false check (i ∷ items) ≡ false
@@ -61,6 +67,7 @@ no_library address hardware thread leak undefined ea eh et el eu = rw (ea, eh, e
 pub none_needed : (words : List (List ℕ)) (items : List Item) → has (codes "-fsanitize=") items ≡ false → words ≡ words ++ check_words items
 none_needed words items e = sym (ap (λ more. words ++ more) none ∙ append-nil words)
   where
+    -- Plan: `none` says that the definition adds no word: each of the five checks is off.
     none : check_words items ≡ []
     none =
         no_library (is_checked items (codes "address")) (is_checked items (codes "hwaddress")) (is_checked items (codes "thread"))

@@ -4,6 +4,9 @@ use Rattle.drv_cc.specs.declared.item.Item.{Item}
 use Rattle.std.proofs.Common.{◌≡◌, ◌∙◌, List, [], ◌∷◌, ◌++◌, None, Some, ap, append_assoc, ℕ}
 
 -- For `front` (src/fronting.rt): each word of a line is noted as the table says.
+-- Names: `known` is the names beyond the table. `items` is the items so far. `word` is the word at hand, and `rest` the words after it. `r`
+-- is a row that waits for its argument. `i` is the word's item. `items_of known wanting words` is the items of words, where `wanting` is a
+-- row that still waits. `start_of` is how a word begins.
 
 -- For `note_word` (src/reading.rt), where an option waited for this word as its argument.
 pub wanted_noted : (known : List ℕ) (items : List Item) (word : List ℕ) (r : OptionRow) (rest : List (List ℕ))

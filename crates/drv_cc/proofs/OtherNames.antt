@@ -5,11 +5,14 @@ use Rattle.std.proofs.Common.{◌≡◌, ◌==◌, ◌∙◌, Bool, List, ap, fa
 use Rattle.std.proofs.lemmas.Bool.{eq-eqb}
 
 -- For `is` (src/classes.rt), which compares lengths and last bytes before all bytes.
+-- Names: `a` and `b` are two names. `x` and `y` are their last bytes. `of` gives a number of a name. `same` says that two texts have the
+-- same bytes.
 
 -- Names that a number tells apart are not the same.
 apart : (of : List ℕ → ℕ) (a b : List ℕ) → (of a == of b) ≡ false → false ≡ same a b
 apart of a b other = by (same a b) refl
   where
+    -- Plan: `by` goes by both answers of `same a b`.
     by : (t : Bool) → same a b ≡ t → false ≡ t
     by false e = refl
     by true e = absurd (let clash : true ≡ false = sym (eq-eqb (of a) (of b) (ap of (same_is a b e))) ∙ other in cc)

@@ -4,6 +4,8 @@ use Rattle.drv_cc.specs.declared.answer.Surroundings.{Surroundings}
 use Rattle.std.proofs.Common.{◌≡◌, ◌∙◌, List, ◌++◌, ap, append_assoc, map, ℕ}
 
 -- For the folders that the front adds as prefixes (src/line_adding.rt): those of COMPILER_PATH, of copied spec files, and gcc's own.
+-- Names: `around` is the compiler and its folders. `old` is the items before. `first`, `second` and `third` are the items after each of the
+-- three lists `named`, `copies` and `own`. `prefixes` is what the definition adds.
 
 -- For `add_all_prefixes` (src/line_adding.rt), which adds three lists one after the other.
 pub all_added : (around : Surroundings) (old first second third : List LineItem) (named copies own : List (List ℕ))

@@ -14,6 +14,11 @@ use Rattle.std.specs.List.{list_any}
 use Rattle.std.specs.Prelude.{reverse}
 
 -- For the items that stay (src/keeping.rt and src/fronting.rt): of each class the last one, found from the end of the line.
+-- Names: `items` is all items of the line. `left` is those that the loop has still before it, and `before` those without the last of them,
+-- `i`. `following` is those after it. `stay` is what stays so far, the last one first, and `now` that after `i`. `p` is any class, and
+-- `seen p` says whether an item of it was met; `new` is that after `i`. `goes i following` says that one of `i`'s class follows.
+-- `effective_items` is the items that stay, and `all_stay` says that all do. `stays_before`, `kept_before`, `Notes`, `Keeping` and
+-- `KeepingAll` are in specs/Code/Staying.
 
 -- nothing was seen yet
 pub keeping_starts : (items stay : List Item) (seen : List ℕ → Bool) → stay ≡ [] → ((p : List ℕ) → seen p ≡ false)
@@ -31,6 +36,7 @@ goes_by : (i : Item) (following : List Item) (seen : List ℕ → Bool)
     → goes i following ≡ (nat_lt 0 (length i.class) && seen i.class)
 goes_by i following seen are = by i.class refl
   where
+    -- Plan: `by` goes by whether the item's class is empty.
     by : (class : List ℕ) → class ≡ i.class → (nat_lt 0 (length class) && list_any (λ j. same class j.class) following)
         ≡ (nat_lt 0 (length class) && seen class)
     by [] is = refl
@@ -41,6 +47,7 @@ kept_on : (i : Item) (following : List Item) (stays : Bool) → stays ≡ not (g
     → effective_items (i ∷ following) ≡ (if stays then i ∷ effective_items following else effective_items following)
 kept_on i following stays is = by (goes i following) refl
   where
+    -- Plan: `by` goes by both answers of `goes i following`.
     by : (t : Bool) → goes i following ≡ t → (if t then effective_items following else i ∷ effective_items following)
         ≡ (if stays then i ∷ effective_items following else effective_items following)
     by true e = ap (λ b. if b then i ∷ effective_items following else effective_items following) (sym (is ∙ ap not e))
@@ -51,6 +58,7 @@ pub noted_class : (p class key : List ℕ) (new old : Bool) → key ≡ class �
 noted_class p class key new old key_is is =
     is ∙ by (same key p) ∙ ap (λ b. b || old) (nat_list_eq_equiv.symm key p ∙ ap (same p) key_is)
   where
+    -- Plan: `by` goes by both answers of `same key p`.
     by : (t : Bool) → cond t true old ≡ (t || old)
     by true = refl
     by false = refl
@@ -85,6 +93,7 @@ keeping_more items left before stay now i seen new h parts is notes = record {
   seen_are = λ p some. notes p some ∙ ap (λ b. same p i.class || b) (h.seen_are p some);
 }
   where
+    -- Plan: `by` goes by both answers of `stays_before i.class seen`.
     by : (t : Bool) → reverse (if t then stay ++ i ∷ [] else stay)
         ≡ (if t then i ∷ effective_items h.following else effective_items h.following)
     by true = reverse-append stay (i ∷ []) ∙ ap (λ l. i ∷ l) h.stays
@@ -125,6 +134,7 @@ not_all_behind [] rest e = e
 not_all_behind (i ∷ before) rest e =
     ap (λ (b : Bool). not (goes i (before ++ rest)) && b) (not_all_behind before rest e) ∙ by (not (goes i (before ++ rest)))
   where
+    -- Plan: `by` goes by both answers of `not (goes i (before ++ rest))`.
     by : (t : Bool) → (t && false) ≡ false
     by true = refl
     by false = refl
@@ -142,6 +152,7 @@ kept_all : (items : List Item) → all_stay items ≡ true → effective_items i
 kept_all [] e = refl
 kept_all (i ∷ items) e = by (goes i items) e (kept_all items)
   where
+    -- Plan: `by` goes by both answers of `goes i items`.
     by : (t : Bool) → (not t && all_stay items) ≡ true → (all_stay items ≡ true → effective_items items ≡ items)
         → (if t then effective_items items else i ∷ effective_items items) ≡ i ∷ items
     by true e all = absurd cc

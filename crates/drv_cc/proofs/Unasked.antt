@@ -12,6 +12,9 @@ use Rattle.std.proofs.Common.{◌≡◌, ◌∙◌, ◌&&◌, ◌||◌, Bool, Li
 use Rattle.std.specs.List.{list_all, list_any}
 
 -- For `is_asked` (src/asking.rt): a line whose items may not ask is no question for gcc.
+-- Names: `items` is the items of the line. `i` is one of them. `r` is its role. `name` is its name, and `n` a name that gcc judges. `a`,
+-- `b`, `t` and the variables of `none_of_seven` are values of tests. `may_ask` says that an item may make its line a question, `is_judged`
+-- that gcc judges options of this name (specs/Code/Asking). `asks` says that one item is a question, and `is_asked` that the line is.
 
 -- Parts a test of two into each of them.
 both_false : (a b : Bool) → (a || b) ≡ false → (a ≡ false) × (b ≡ false)
@@ -39,6 +42,7 @@ not_speaking Lacking e = (refl, refl)
 other_name : (n name : List ℕ) → is_judged n ≡ true → is_judged name ≡ false → same n name ≡ false
 other_name n name judged not_judged = by (same n name) refl
   where
+    -- Plan: `by` goes by both answers of `same n name`.
     by : (t : Bool) → same n name ≡ t → t ≡ false
     by false e = refl
     by true e = absurd (let clash : true ≡ false = sym judged ∙ ap is_judged (same_is n name e) ∙ not_judged in cc)
@@ -50,6 +54,7 @@ in_no_list [] name all none = refl
 in_no_list (other ∷ names) name all none =
     by (same name other) refl (both_true (is_judged other) (list_all is_judged names) all) (λ more. in_no_list names name more none)
   where
+    -- Plan: `by` goes by both answers of `same name other`.
     by : (t : Bool) → same name other ≡ t → (is_judged other ≡ true) × (list_all is_judged names ≡ true)
         → (list_all is_judged names ≡ true → is_among names name ≡ false) → (t || is_among names name) ≡ false
     by false e (first, more) rest = rest more
@@ -78,6 +83,7 @@ asks_not i e =
     by (is_question i.role) (is_among (texts (codes "-fsanitize= -fno-sanitize=")) i.name) (is_among numeric i.name) _ _ (role_of i e).0
     (in_no_list (texts (codes "-fsanitize= -fno-sanitize=")) i.name refl (name_of i e)) (in_no_list numeric i.name refl (name_of i e))
   where
+    -- Plan: `by` says that none of the three questions is there: by the role, by the check of an argument, by a number.
     by : (q check number refused none : Bool) → q ≡ false → check ≡ false → number ≡ false
         → (q || ((check && refused) || (number && none))) ≡ false
     by q check number refused none eq ec en = rw (eq, ec, en) refl

@@ -11,6 +11,8 @@ use Rattle.std.specs.Prelude.{Option}
 -- Worked lines whose spec files give them options, by computation: the line, the words of its switches that are left, and those that are
 -- given. What stays of each was compared with COLLECT_GCC_OPTIONS of gcc 12. Nothing cites them: each fails where a definition of specs/
 -- changes what it gives.
+-- Names: `given_line args left words` is the words of the line `args` that is carried out, where the text left these switches and gives
+-- these words. `gives` is the words that are expected. `known` and `nowhere` are those of WorkedLines.
 
 -- The answer to a line by its words, those that the text `self_spec` left, and those that it gives.
 abbrev given : List ℕ → List ℕ → List ℕ → Answer

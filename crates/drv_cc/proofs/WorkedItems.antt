@@ -10,6 +10,8 @@ use Rattle.std.specs.Prelude.{None, Some}
 
 -- Worked items: what gcc hands on of a library, a folder and pieces without a text, and of options of each spelling. Nothing cites them:
 -- each fails where a definition of specs/ changes what it gives.
+-- Names: `item name argument spelling role` is an item of gcc's line, and `plain` one by its role alone. `item_of effect option argument`
+-- is one of the driver's line. `line_item` makes the second of the first (specs/LineItems).
 
 -- -l with an empty argument is handed on as a library, as gcc does.
 no_library : line_item (item (codes "-l") [] Joined Library) ≡ Some (item_of effect.Library (codes "-l") [])

@@ -13,7 +13,7 @@ use Rattle.std.specs.List.{flat_map}
 use Rattle.std.specs.Prelude.{None, Option, Some}
 
 -- Worked lines of gcc, by computation. What stays of each was compared with COLLECT_GCC_OPTIONS of gcc 12 and with the words that it
--- hands to the compiler.
+-- hands to the compiler. Names: `line`, `line_by`: the words of a line by the names `known`, or by others. `gives`: those expected.
 
 -- The names of options beyond the table that these lines are read with.
 abbrev pub known : List ℕ

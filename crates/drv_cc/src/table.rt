@@ -70,7 +70,7 @@ pub(crate) enum Role {
 /// A row of the option table.
 #[derive(Clone, Copy)]
 pub(crate) struct Row {
-    /// The option.
+    /// The bytes that a word must be, or begin with.
     pub(crate) option: &'static [u8],
     /// How it takes its argument.
     pub(crate) takes: Takes,

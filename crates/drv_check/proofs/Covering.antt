@@ -15,6 +15,10 @@ use Rattle.std.specs.List.{filter, range_with_len, starts_with}
 use Rattle.std.specs.Prelude.{nat_le, nat_lt}
 
 -- A pattern that names all that another one names hits a switch wherever that one does. For `covered_tests_are_true` (src/laws.rt).
+-- Names: `first` and `second` are the labels of two tests. `p` and `q` are the words of two patterns, and `a` and `b` whether each has a
+-- star. `name` is a switch's name. `names` is all switches of the line, and `hidden` says which are hidden. `i` is the place of one. `k`
+-- and `l` are what two tests ask. `names_all first second`: each switch that the second names is named by the first. `is_hit` says that a
+-- pattern hits a switch (drv_match). `covers` says that the first test is true wherever the second is (specs/Branches).
 
 -- Equal by comparison is equal: tests of words become equations.
 same : (a b : List ℕ) → pointwise nat_eq a b ≡ true → a ≡ b
@@ -88,6 +92,7 @@ some_too : (f g : ℕ → Bool) → ((i : ℕ) → f i ≡ true → g i ≡ true
 some_too f g more [] is = absurd cc
 some_too f g more (x ∷ xs) is = by (f x) (g x) refl refl (some_too f g more xs) is
   where
+    -- Plan: `by` goes by the cases of `f x` and `g x`.
     by : (t u : Bool) → f x ≡ t → g x ≡ u → (nat_lt 0 (length (filter f xs)) ≡ true → nat_lt 0 (length (filter g xs)) ≡ true)
         → nat_lt 0 (length (if t then x ∷ filter f xs else filter f xs)) ≡ true
         → nat_lt 0 (length (if u then x ∷ filter g xs else filter g xs)) ≡ true

@@ -10,6 +10,10 @@ use Rattle.std.proofs.Common.{refl, sym, take, true, ℕ}
 use Rattle.std.specs.List.{list_all}
 
 -- For check_files (src/checking.rt): a text is cut into lines, one after another.
+-- Names: `text` is a text. `line` is its first line, and `rest` what follows. `found` is the place of the first newline, if there is one,
+-- and `at` that place, or the place of the line in the text. `n` is the number of the line. `begun` is the piece that goes on before the
+-- line, and `next` after it. `before` and `after` are the pieces that have ended then, and `all` is all pieces. `lines_of` is the lines of
+-- a text. `pieces_from` is the pieces of lines (specs/Pieces).
 
 -- a line without a newline, and one after it, is the first line of a text
 first_of : (text line rest : List ℕ) → text ≡ line ++ newline ∷ rest → list_all (λ b. not (ends_line b)) line ≡ true
@@ -36,7 +40,8 @@ more : (begun : Option Piece) (n at : ℕ) (line : List ℕ) (rest : List (List 
 more None n at line rest = refl
 more (Some piece) n at line rest = refl
 
--- The loop takes one more line: the pieces that it ends are added, and the piece that goes on is kept.
+-- If the pieces that ended and those of the lines left are all, then they still are after one line more: what it ends is added, and what
+-- goes on is kept.
 pub pieces_more : (before after all : List Piece) (begun next : Option Piece) (n at : ℕ) (line : List ℕ) (lines rest : List (List ℕ))
     → before ++ pieces_from begun n at lines ≡ all → lines ≡ line ∷ rest → after ≡ before ++ ended_by begun n at line
     → next ≡ begun_after begun n at line

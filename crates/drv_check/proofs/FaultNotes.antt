@@ -18,6 +18,11 @@ use Rattle.drv_system.specs.Known.{◌>>=◌, Is, Known, Unasked}
 use Rattle.std.proofs.Common.{◌≡◌, ◌∙◌, ◌++◌, ◌∷◌, Err, IfOk, List, None, Ok, Option, Result, Some, [], ap, if◌then◌else◌, refl, sym, ℕ}
 
 -- For `fault_note` (src/fault_notes.rt): files are checked, and what is found first is noted.
+-- Names: `F` is what is known of the outside. `prefixes` is where files are searched for. `set` is the set that files are loaded over, and
+-- `names` these files. `c` is a check at its end. `finding` is one finding, `note` what it says, and `findings` several. `fault` is a
+-- refusal. `known` is what the driver makes of the files. `result` is what the code's call gives. `faults_of` is the faults of findings, in
+-- order. `first_fault` is the first finding that tells one. `Agrees faults known`: the driver refuses with the first of them, or there is
+-- none (specs/Agreement).
 
 module _ (F : Facts) (prefixes : Prefixes) (set : Set) (names : List (List ℕ)) where
   -- The note is that of the check which starts over the set: so it is the one that the definition names.
@@ -56,6 +61,7 @@ none_first : (findings : List Finding) → faults_of findings ≡ [] → first_f
 none_first [] none = refl
 none_first (finding ∷ findings) none = by finding.note refl (none_first findings)
   where
+    -- Plan: `by` goes by the cases of `finding.note`.
     by : (note : Note) → finding.note ≡ note → (faults_of findings ≡ [] → first_fault findings ≡ None)
         → first_fault (finding ∷ findings) ≡ None
     by (Fault fault) is later = absurd (let all : fault ∷ faults_of findings ≡ [] = sym (both finding findings (Fault fault) is) ∙ none in
@@ -91,6 +97,7 @@ some_first : (findings : List Finding) (fault : SpecsFault) (more : List SpecsFa
 some_first [] fault more are = absurd cc
 some_first (finding ∷ findings) fault more are = by finding.note refl (some_first findings fault more)
   where
+    -- Plan: `by` goes by the cases of `finding.note`.
     by : (note : Note) → finding.note ≡ note → (faults_of findings ≡ fault ∷ more → Finds findings fault) → Finds (finding ∷ findings) fault
     by (Fault other) is later = found_here finding findings other fault more is (sym (both finding findings (Fault other) is) ∙ are)
     by (Warned warning) is later =

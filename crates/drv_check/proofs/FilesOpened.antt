@@ -16,6 +16,11 @@ use Rattle.drv_system.specs.declared.event.ReadAnswer.{ReadAnswer}
 use Rattle.std.proofs.Common.{◌≡◌, ◌∙◌, ◌<◌, ◌-◌, Err, IfOk, List, None, Ok, Option, Result, Some, ap, arith, refl, suc, sym, zero, ℕ}
 
 -- For check_files (src/checking.rt): an included file is opened within the limits, or the reason is noted.
+-- Names: `F` and `G` are what is known of the outside. `prefixes` is where files are searched for. `c` is the check before the file is
+-- opened, `new` after it, and `d` with one file fewer to be read. `from` is where it is included. `inclusion` is its name, and whether it
+-- may be missing. `levels` is how deep files may still be within one another, and `left` how many may still be read. `path` and `text` are
+-- those that were found. `noted c from note` is a check with one more finding. `opened` and `opened_of` are the check after the file is
+-- opened, and the file (specs/Checks). `result` is what the code's call gives.
 
 module _ (F : Facts) (prefixes : Prefixes) (c : Checking) (from : Option Spot) (inclusion : Inclusion) where
   -- No file is opened within too many others: the reason is noted.

@@ -33,6 +33,14 @@ use Rattle.std.proofs.lemmas.List.{drop_all}
 use Rattle.std.specs.Prelude.{get_or}
 
 -- For sources_of (src/seeking.rt): a check opens what %include names, whatever its set is and whatever it finds.
+-- Names: `F` is what is known of the outside. `prefixes` is where files are searched for. `c` is a check before a step, and `new` after it.
+-- `before` is the check at the start of a loop, and `after` the one after what a step opened was gone over. `file` is the open file,
+-- `piece` one of its pieces, and `next` the file that it opens, if it does. `from` is where that is included. `levels` is how deep files
+-- may still be within one another, and `left` how many may still be read. `set` and `findings` are others than those of the check, and
+-- `set'` and `findings'` what these become. `n` is the place of the piece or name at hand. `whole` is the whole check. `names` is the files
+-- of the line. `result` is what the code's call gives, or what the driver makes of the piece. `step`, `opened`, `entered` and `called` are
+-- the steps of a check (specs/Checks). `beside c set findings` is a check with another set and other findings. `sought`, `Goes`, `Seeks`
+-- and `IsFile` are in specs/Code/Seeking.
 
 -- Each piece of a file is a directive, so the one at each place is.
 read_at : (pieces : List Piece) (directives : List Directive) (n : ℕ) (piece : Piece) → AreRead pieces directives → n < length pieces
@@ -105,6 +113,7 @@ module _ (F : Facts) (prefixes : Prefixes) where
   stays_alone levels c file piece directive read none set findings =
       by (known_alone set piece directive read none).0 (known_alone set piece directive read none).1
     where
+      -- Plan: `by` goes by what the driver makes of the piece: another set, or a fault.
       by : (result : Result Set SpecsFault) → loaded F prefixes set piece.text ≡ Is result
           → Steps levels (beside c set findings) file piece c None
       by (Ok new) loads = (
@@ -169,6 +178,7 @@ module _ (F : Facts) (prefixes : Prefixes) where
       → Steps levels (beside c set findings) file piece new next
   steps_beside levels c new file piece directive next read is set findings = by (inclusion_in piece.text) refl is
     where
+      -- Plan: `by` goes by the cases of `inclusion_in piece.text`.
       by : (inclusion : Option Inclusion) → inclusion_in piece.text ≡ inclusion
           → sought_by F prefixes levels c file piece inclusion ≡ Is (new, next) → Steps levels (beside c set findings) file piece new next
       by None none stays =
@@ -189,7 +199,7 @@ module _ (F : Facts) (prefixes : Prefixes) where
       → Goes c c (λ x. file_checked F prefixes levels x file) (pieces_left levels file 0)
   none_sought levels c file set findings = (set, findings, sym (begins F prefixes levels (beside c set findings) file))
 
-  -- The loop takes one more piece, with the file that it opens.
+  -- If the whole is what the pieces left make of the check so far, then it still is after one piece more, with the file that it opens.
   pub piece_sought : (levels : ℕ) (before c new after : Checking) (file : OpenFile) (items : List Piece) (n : ℕ) (piece : Piece)
       (next : Option OpenFile) (whole : Checking → Known Checking)
       → IsFile file → items ≡ file.pieces → n < length items → piece ≡ get_or items n piece
@@ -262,7 +272,7 @@ module _ (F : Facts) (prefixes : Prefixes) where
       → Seeks c d (λ x. called F prefixes x name)
   called_without c d name is = called_sought c d d name None is (λ is_file set findings. (set, findings, refl))
 
-  -- The loop takes one more file of the line.
+  -- If the whole is what the names left make of the check so far, then it still is after one file more of the line.
   pub name_sought : (before c after : Checking) (names : List (List ℕ)) (n : ℕ) (name : List ℕ) (whole : Checking → Known Checking)
       → n < length names → name ≡ get_or names n name → Seeks c after (λ x. called F prefixes x name)
       → Goes before c whole (λ x. all_called F prefixes x (drop n names))

@@ -20,6 +20,11 @@ use Rattle.std.specs.declared.cmp.Ordering.TheVariants.{Equal, Greater, Less}
 
 -- For first_fault_is_refusal and pieces_are_directives (src/laws.rt): the file that a piece includes is the one that its directive
 -- includes.
+-- Names: `m` and `n` are two numbers of a line. `line` is the line, `word` its first word, and `words` the others. `text` is what follows
+-- %include. `missing` says what the driver does with a file that isn't there, and `may` the same for the check. `path` and `answer` are the
+-- file and what its reading gave. `rest` is the rest of a line. `IncludesAs inclusion directive`: the two include the same file, or none
+-- (specs/Numbers). `inclusion_of` is the file that a directive includes. `by_keyword` is the directive of a line that begins with %
+-- (drv_specs).
 
 -- An ordering that is tested as equal is equal.
 is_equal : (o : Ordering) → is_eq o ≡ true → o ≡ Equal
@@ -50,6 +55,7 @@ included_as : (m n : ℕ) (missing : _) (may : Bool) (text : List ℕ)
 included_as m n missing may [] alike = refl
 included_as m n missing may (b ∷ text) alike = by (b == less_than && ends_with nat_eq text (greater_than ∷ []))
   where
+    -- Plan: `by` goes by both answers of `b == less_than && ends_with nat_eq text (greater_than ∷ [])`.
     by : (t : Bool) → IncludesAs (inclusion_of may (if t then Include missing (take (length text - 1) text) else Bad m))
         (if t then Include missing (take (length text - 1) text) else Bad n)
     by true = (may, refl, alike)
@@ -101,6 +107,7 @@ keyword_as m n line (word ∷ words) =
     by (pointwise nat_eq word (codes "%rename")) refl (pointwise nat_eq word (codes "%include")) refl
     (pointwise nat_eq word (codes "%include_noerr")) refl
   where
+    -- Plan: `by` goes by both answers of `pointwise nat_eq word (codes "%rename")`.
     by : (r : Bool) → pointwise nat_eq word (codes "%rename") ≡ r → (i : Bool) → pointwise nat_eq word (codes "%include") ≡ i
         → (e : Bool) → pointwise nat_eq word (codes "%include_noerr") ≡ e → Alike m n line word words
     by true r i i' e e' = rw r (renamed_as m n (pointwise nat_eq word (codes "%include_noerr")) words)
@@ -117,6 +124,7 @@ front_kept : (first rest : List ℕ) → is_empty_line first ≡ false
 front_kept [] rest full = absurd cc
 front_kept (b ∷ line) rest full = by (is_blank b) refl full (front_kept line rest)
   where
+    -- Plan: `by` goes by both answers of `is_blank b`.
     by : (t : Bool) → is_blank b ≡ t → (t && is_empty_line line) ≡ false
         → (is_empty_line line ≡ false → without_front is_blank (line ++ rest) ≡ without_front is_blank line ++ rest)
         → (if t then without_front is_blank (line ++ rest) else b ∷ line ++ rest) ≡ (if t then without_front is_blank line else b ∷ line)

@@ -4,6 +4,8 @@ use Rattle.std.proofs.Common.{◌≡◌, Bool, List, [], ◌∷◌, None, codes,
 use Rattle.std.specs.Cmp.Lexicographic.{pointwise}
 
 -- For check_files (src/checking.rt): a line that renames a text includes no file.
+-- Names: `line` is the line. `word` is its first word, `words` the others, and `all` is both. `missing` says whether a file may be missing.
+-- `inclusion_of` is the file that a directive includes, if it does.
 
 -- However many words a line %rename has, it includes nothing.
 none_renamed : (missing : Bool) (words : List (List ℕ)) → inclusion_of missing (rename_directive 1 words) ≡ None

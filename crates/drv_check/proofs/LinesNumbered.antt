@@ -17,6 +17,9 @@ use Rattle.std.specs.Map.{set_key}
 use Rattle.std.specs.Prelude.{⊤}
 
 -- For first_fault_is_refusal (src/laws.rt): the faults of a directive have no number of a line, unless the line is none.
+-- Names: `n` is the number of a line. `set` is the set that a directive changes. `name` is the name of a text, `key` that of a pair, and
+-- `body` what follows the colon. `x` and `y` are results. `Same n result`: the number changes nothing of the result's fault. `with_body`
+-- and its like are the changes of the driver (drv_specs).
 
 -- A refusal stays as it is when it gets the number of a line.
 abbrev pub Same : ℕ → {X : Type 0} → Result X SpecsFault → Type 0

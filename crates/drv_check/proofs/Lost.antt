@@ -4,8 +4,12 @@ use Rattle.drv_syntax.specs.declared.token.Token.{Token}
 use Rattle.std.proofs.Common.{◌≡◌, ◌∙◌, ◌++◌, ◌∷◌, Bool, List, Option, Some, ap, append_assoc, sym, ℕ}
 
 -- Directives that mark no word, one after another. For `push_all_lost` (src/lost_marks.rt).
+-- Names: `start` is where the text begins in its piece. `last` is the token before, and `next` this one as the code keeps it. `left` is the
+-- tokens that are left: `token` and those after it, `rest`. `lost` says whether it marks no word. `before` and `after` are the warnings
+-- before it and after it, and `whole` is all of them. `lost_marks` is the warnings of tokens (specs/LostMarks).
 
--- The loop takes one more token, which is lost or not by those beside it.
+-- If the warnings so far and those of the tokens left are all, then they still are after one token more, which is lost or not by those
+-- beside it.
 pub lost_next : (start : ℕ) (last next : Option Token) (token : Token) (left rest : List Token) (lost : Bool)
     (before after whole : List Mark) → left ≡ token ∷ rest
     → next ≡ Some token → lost ≡ is_lost last token rest → after ≡ before ++ lost_mark start token lost

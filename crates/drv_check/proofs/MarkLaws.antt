@@ -4,6 +4,9 @@ use Rattle.std.proofs.Common.{◌≡◌, ◌+◌, ◌-◌, ◌++◌, ◌∷◌, 
 use Rattle.std.specs.Prelude.{take}
 
 -- A dump with marks is the dump with marks between its bytes, numbered one after another. For `marks_are_in_order` (src/mark_laws.rt).
+-- Names: A mark is a number between two bytes of 1, before a part of a text. `n` is the number of the next mark, and `m` the one after the
+-- last. `at` is the place in the dump, and `k` a number of bytes. `text` is what is left of the dump, and `marked` the same with marks.
+-- `parts` is the parts that get one. `Marked n m text marked`: the second is the first with the marks from n up to m (specs/MarkWords).
 
 -- A text without marks is itself: this ends the induction over the parts.
 unmarked : (n : ℕ) (text : List ℕ) → Marked n n text text

@@ -22,8 +22,16 @@ use Rattle.std.specs.List.{position}
 use Rattle.std.specs.Prelude.{nat_lt}
 
 -- For marked_parts (src/marking.rt): the parts of a text that have a mark, one after another.
+-- Names: A mark is a number between two bytes of 1, before a part of a text. `text` is the text, and `head` what precedes its colon. `left`
+-- is the tokens that are left: `token` and those after it, `rest`. `reading` is what precedes the token, and `next` what precedes the one
+-- after it. `joint` is how the mark before the token is put, if it has one. `last` is what the part's last item is for marks, and `at`
+-- where that ends. `before` and `after` are the parts before a step and after it, and `whole` is all of them. `own` is a text of the piece,
+-- `start` its place in the dump, in some lemmas also named `at`, and `spots` the spots of its bytes in files. `colon` is the place of the
+-- colon. `result` is what the code's call gives. `part_end` is where a part ends (specs/MarkedParts). `headed_parts` and `tree_parts` are
+-- the parts of a text, by its head and by its tree (specs/Markings).
 
--- The loop takes one more token, and the part that begins with it, if that has a mark.
+-- If the parts so far and those of the tokens left are all, then they still are after one token more, and the part that begins with it, if
+-- that has a mark.
 pub extent_next : (text : List ℕ) (reading next : Reading) (token : Token) (left rest : List Token) (joint : Option Joint)
     (before after whole : List Extent) → left ≡ token ∷ rest → joint ≡ joint_of reading token → next ≡ read_by text reading token
     → after ≡ before ++ part_if joint token rest

@@ -19,8 +19,14 @@ use Rattle.std.specs.List.{position}
 use Rattle.std.specs.Prelude.{get_or}
 
 -- For namings_of (src/naming.rt): the parts of a text that name switches, one after another.
+-- Names: A naming is a part of a text that names a switch. `head` is what precedes the colon of a text, `text` the text or its piece, and
+-- `own` the text as the code reads it. `spots` is the spots of its bytes in files. `items` is its tree. `token` is the one at place `n` of
+-- `tokens`. `before` and `after` are the namings before a step and after it, and `whole` is all of them. `sources` and `files` are the
+-- files that were read, as texts and as pieces. `colon` is the place of the colon. `result` is what the code's call gives. `tree_of` is the
+-- tree of a text (drv_syntax), and `own_tree` that of a piece's text. `tree_namings` and `headed_namings` are the namings of a tree and of
+-- a text with a head (specs/Namings).
 
--- The loop takes one more token, and the naming that it is.
+-- If the namings so far and those of the tokens left are all, then they still are after one token more.
 pub tokens_next : (head text : List ℕ) (spots : List Spot) (items : Items) (n : ℕ) (tokens : List Token) (token : Token)
     (before after whole : List Naming) → n < length tokens → token ≡ get_or tokens n token
     → after ≡ before ++ token_namings head text spots token (label_at items n)
@@ -79,6 +85,7 @@ of_colon sources files head text at colon before after (Ok x) is found grows =
 no_names : (sources : List Source) (files : List OpenFile) (head text : List ℕ) → headed_namings sources files (Some head) text none ≡ []
 no_names sources files head text = by (is_run head text) refl
   where
+    -- Plan: `by` goes by both answers of `is_run head text`.
     by : (runs : Bool) → is_run head text ≡ runs → headed_namings sources files (Some head) text none ≡ []
     by true is = rw is refl
     by false is = rw is refl

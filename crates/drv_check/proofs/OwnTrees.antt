@@ -9,6 +9,7 @@ use Rattle.std.specs.Cmp.Lexicographic.{pointwise}
 use Rattle.std.specs.Prelude.{nat_eq}
 
 -- For check_files (src/checking.rt): a text that the grammar refuses has no tree, so its tokens get no warnings.
+-- Names: `text` is the text of a piece. `fault` is the refusal of the grammar. `known` is a text of the set.
 
 -- for `own_tree` where the grammar refuses the text: no tree is what the definition has
 pub refused : (text : List ℕ) (fault : SyntaxFault) → parsed text ≡ Err fault → none ≡ tree_of text

@@ -16,6 +16,10 @@ use Rattle.drv_system.specs.Known.{Is, Known}
 use Rattle.std.proofs.Common.{◌≡◌, ◌∙◌, Err, IfOk, None, Ok, Option, Result, Some, ap, sym, ℕ}
 
 -- For check_files (src/checking.rt): a piece changes the set, adds its fault, or opens a file.
+-- Names: `F` is what is known of the outside. `prefixes` is where files are searched for. `levels` is how deep files may still be within
+-- one another. `c` is the check before the piece, `d` with its warnings, and `new` after it. `file` is the open file, and `piece` its
+-- piece. `known` is what the driver makes of the piece. `inclusion` is the file that it includes, and `spot` where. `fault` is a refusal.
+-- `result` is what the code's call gives. `changed` and `step` are a check after a piece (specs/Checks).
 
 -- Where the driver changes the set, so does the check.
 pub changes : (c : Checking) (file : OpenFile) (piece : Piece) (known : Known (Result Set SpecsFault)) (set : Set)

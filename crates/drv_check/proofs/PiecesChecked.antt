@@ -12,6 +12,12 @@ use Rattle.std.proofs.lemmas.List.{drop_more}
 use Rattle.std.specs.Prelude.{get_or}
 
 -- For check_files (src/checking.rt): pieces and files are checked one after another.
+-- Names: `F` is what is known of the outside. `prefixes` is where files are searched for. `levels` is how deep files may still be within
+-- one another. `enters` is how an open file is checked. `c` is the check before a step, `new` or `d` after the file or piece is opened, and
+-- `after` after what it opened was checked. `file` is the open file, `piece` the one at place `n` of its `pieces`, and `next` the file that
+-- it opens, if it does. `items` is these pieces as the code holds them. `inner` is that file. `name` is a file of the call. `whole` is the
+-- end of the check. `result` is what the code's call gives. `step`, `entered`, `pieces_checked`, `file_checked` and `called` are the steps
+-- of a check (specs/Checks).
 
 module _ (F : Facts) (prefixes : Prefixes) where
   -- what a file of so many levels enters
@@ -29,7 +35,7 @@ module _ (F : Facts) (prefixes : Prefixes) where
   begins (suc levels) c file = refl
 
   module _ (levels : ℕ) (enters : Enters) (c : Checking) (file : OpenFile) (pieces : List Piece) (n : ℕ) (piece : Piece) where
-    -- The loop takes one more piece.
+    -- The check of the pieces from n on is the step of piece n, with the file that it opens, and then the check of those behind it.
     one : n < length pieces → piece ≡ get_or pieces n piece
         → pieces_checked F prefixes levels enters c file (drop n pieces)
         ≡ (step F prefixes levels c file piece >>= λ next. entered enters next.0 next.1
@@ -39,7 +45,7 @@ module _ (F : Facts) (prefixes : Prefixes) where
         ∙ ap (λ p. step F prefixes levels c file p >>= λ next. entered enters next.0 next.1
         >>= λ c'. pieces_checked F prefixes levels enters c' file (drop (n + 1) pieces)) (sym here)
 
-    -- So the loop's state after it gives the same end.
+    -- If the pieces from n on lead to this end, then so do those behind piece n, from the check after it.
     pub piece_done : (new after : Checking) (next : Option OpenFile) (whole : Known Checking) → n < length pieces
         → piece ≡ get_or pieces n piece
         → step F prefixes levels c file piece ≡ Is (new, next) → entered enters new next ≡ Is after
@@ -64,7 +70,7 @@ module _ (F : Facts) (prefixes : Prefixes) where
         → called F prefixes c name ≡ Is d
     called_out opens = ap (λ k. k >>= λ next. entered (file_checked F prefixes 15) next.0 next.1) opens
 
-  -- The loop takes one more file of the call.
+  -- If the files from n on lead to this end, then so do those behind file n, from the check after it.
   pub name_done : (c after : Checking) (names : List (List ℕ)) (n : ℕ) (name : List ℕ) (whole : Known Checking) → n < length names
       → name ≡ get_or names n name → called F prefixes c name ≡ Is after → all_called F prefixes c (drop n names) ≡ whole
       → all_called F prefixes after (drop (n + 1) names) ≡ whole
@@ -73,7 +79,7 @@ module _ (F : Facts) (prefixes : Prefixes) where
       ∙ ap (λ m. called F prefixes c m >>= λ c'. all_called F prefixes c' (drop (n + 1) names)) (sym here)
       ∙ ap (λ k. k >>= λ c'. all_called F prefixes c' (drop (n + 1) names)) checks) ∙ before
 
--- The same loop over the list that the code holds, which is the file's.
+-- The same over the list that the code holds, which is the file's.
 pub piece_gone : (F : Facts) (prefixes : Prefixes) (levels : ℕ) (c : Checking) (file : OpenFile) (items : List Piece) (n : ℕ)
     (piece : Piece)
     (new after : Checking) (next : Option OpenFile) (whole : Known Checking) → items ≡ file.pieces → n < length items

@@ -25,6 +25,13 @@ use Rattle.std.specs.Cmp.Lexicographic.{pointwise}
 use Rattle.std.specs.List.{ends_with, join_with_byte, list_all, position}
 
 -- For pieces_are_directives (src/laws.rt): each piece of a settled text, read alone, is one of its directives.
+-- Names: `n` and `m` are numbers of a line. `at` is its place in the text, or that of its colon. `line` is a line, and `lines` those after
+-- it. `first` is the first line of a piece, and `body` the others. `piece` is a piece that goes on. `text` is the text of a piece, and
+-- `rest` what is read after it. `back` says that a backslash precedes. `words` is the words of a line, and `word` one of them. `b` is one
+-- byte, and `t`, `e`, `r` and `i` are values of tests, so that `by` can go by both. `is_line_byte` says that a line may have the byte.
+-- `is_settled back text` says that no backslash hides a newline. `renumbered n directive` is a directive that is none with another number
+-- (specs/Numbers). `by_colon` and `by_keyword` are the directives of a line (drv_specs), and `start_of` says which of them it begins.
+-- `IsRead piece directive`: the piece is that directive, and `AreRead` the same of lists.
 
 -- the number of a line changes a directive that is none, and no other
 
@@ -33,6 +40,7 @@ key_renumbered : (n : ℕ) (key body : List ℕ) → renumbered n (by_key key bo
 key_renumbered n [] body = refl
 key_renumbered n (b ∷ key) body = by (b == asterisk)
   where
+    -- Plan: `by` goes by both answers of `b == asterisk`.
     by : (t : Bool) → renumbered n (if t then Text key body else Pair (b ∷ key) body) ≡ (if t then Text key body else Pair (b ∷ key) body)
     by true = refl
     by false = refl
@@ -56,6 +64,7 @@ include_renumbered : (m n : ℕ) (missing : _) (text : List ℕ) → renumbered 
 include_renumbered m n missing [] = refl
 include_renumbered m n missing (b ∷ text) = by (b == less_than && ends_with nat_eq text (greater_than ∷ []))
   where
+    -- Plan: `by` goes by both answers of `b == less_than && ends_with nat_eq text (greater_than ∷ [])`.
     by : (t : Bool) → renumbered m (if t then Include missing (take (length text - 1) text) else Bad n)
         ≡ (if t then Include missing (take (length text - 1) text) else Bad m)
     by true = refl
@@ -68,6 +77,7 @@ keyword_renumbered m n line (word ∷ words) =
     by (pointwise nat_eq word (codes "%rename")) refl (pointwise nat_eq word (codes "%include")) refl
     (pointwise nat_eq word (codes "%include_noerr")) refl
   where
+    -- Plan: `by` goes by both answers of `pointwise nat_eq word (codes "%rename")`.
     by : (r : Bool) → pointwise nat_eq word (codes "%rename") ≡ r → (i : Bool) → pointwise nat_eq word (codes "%include") ≡ i
         → (e : Bool) → pointwise nat_eq word (codes "%include_noerr") ≡ e
         → renumbered m (by_keyword n line (word ∷ words)) ≡ by_keyword m line (word ∷ words)
@@ -83,6 +93,7 @@ body_again : (lines : List (List ℕ)) → body_lines (body_lines lines) ≡ bod
 body_again [] = refl
 body_again (line ∷ lines) = by (is_empty_line line) refl (body_again lines)
   where
+    -- Plan: `by` goes by both answers of `is_empty_line line`.
     by : (e : Bool) → is_empty_line line ≡ e → body_lines (body_lines lines) ≡ body_lines lines
         → body_lines (if e then [] else line ∷ body_lines lines) ≡ (if e then [] else line ∷ body_lines lines)
     by true is again = refl
@@ -167,6 +178,7 @@ begins : (line : List ℕ) → Begins line
 begins [] = begins_nothing (λ n lines. refl)
 begins (b ∷ line) = by (b == number_sign) refl (b == percent) refl
   where
+    -- Plan: `by` goes by both answers of `b == number_sign`.
     by : (c : Bool) → (b == number_sign) ≡ c → (k : Bool) → (b == percent) ≡ k → Begins (b ∷ line)
     by true c k k' = begins_nothing (λ n lines. rw c refl)
     by false c true k' = begins_alone (λ n lines. rw c (rw k' refl))
@@ -215,10 +227,12 @@ entry_as : (inclusion : Option Inclusion) (n : ℕ) (line : List ℕ) (lines : L
 entry_as inclusion n line lines None is = is
 entry_as inclusion n line lines (Some at) is = by (take at line)
   where
+    -- Plan: `by` goes by the key: an empty one, one with a star (`by_star`), or that of a pair.
     by : (key : List ℕ) → IncludesAs inclusion (by_key key (body_of (drop (at + 1) line) lines))
     by [] = is
     by (b ∷ key) = by_star (b == asterisk)
       where
+        -- Plan: `by_star` goes by both answers of `b == asterisk`.
         by_star : (t : Bool) → IncludesAs inclusion (if t then Text key (body_of (drop (at + 1) line) lines)
             else Pair (b ∷ key) (body_of (drop (at + 1) line) lines))
         by_star true = is
@@ -273,6 +287,8 @@ inside_more : (line : List ℕ) (lines : List (List ℕ)) → list_all is_line_b
     → (lines ≡ []) ⊎ (ends_with_backslash line ≡ false) → Outside lines → Inside lines → Inside (line ∷ lines)
 inside_more line lines bytes ends out within piece first body n at g = by (is_empty_line line) refl
   where
+    -- Plan: `goal e` is the claim where `e` says whether the line is empty, and `by` goes by that. `longer_goes` says that the piece with
+    -- this line goes on, with `solid` and `still` for its backslashes.
     f : List ℕ
     f = without_front is_blank first
 
@@ -318,6 +334,8 @@ outside_more : (line : List ℕ) (lines : List (List ℕ)) → list_all is_line_
     → (lines ≡ []) ⊎ (ends_with_backslash line ≡ false) → Outside lines → Inside lines → Outside (line ∷ lines)
 outside_more line lines bytes ends out within n at = by (is_empty_line line) refl
   where
+    -- Plan: `whole e` is the claim where `e` says whether the line is empty, and `by` goes by that. `goal` is the claim by what a line
+    -- begins that is not empty, and `by_start` goes by that. `goes` says that a piece with a body goes on.
     f : List ℕ
     f = without_front is_blank line
 

@@ -36,6 +36,13 @@ use Rattle.std.specs.List.{list_any}
 
 -- For noted_fault_is_refusal (src/laws.rt): a check up to the first fault finds none exactly where the driver loads the files, and else its
 -- refusal.
+-- Names: `F` is what is known of the outside. `prefixes` is where files are searched for. `c` is a check before a step, `c'` at the end,
+-- and `d` or `c''` after the step. `file` is the open file, and `pieces` its pieces. `from` is where a file is included. `levels` is how
+-- deep files may still be within one another, and `left` how many may still be read. `known` is what the driver makes of a step. `missing`
+-- and `may` say what is done with a file that isn't there. `names` is the files of the call. `is_refused` says that a check has a fault.
+-- `faults_of` is the faults of findings, in order. `pieces_until`, `file_until` and `all_until` are checks up to the first fault
+-- (specs/UntilFault). `Follows` and `Loads` say that a check ends as the driver does (Agreeing). `including` and `all_carried` are the
+-- driver's: a file that is included, and directives (drv_specs).
 
 -- a fault was found where there is one among all of them
 
@@ -49,6 +56,7 @@ some_told : (findings : List Finding) → list_any tells_fault findings ≡ has_
 some_told [] = refl
 some_told (finding ∷ findings) = by finding.note (some_told findings)
   where
+    -- Plan: `by` goes by what the first finding says: a fault, or a warning.
     by : (note : Note) → list_any tells_fault findings ≡ has_some (faults_of findings)
         → (is_fault note || list_any tells_fault findings) ≡ has_some (fault_in note ++ faults_of findings)
     by (Fault fault) later = refl
@@ -92,6 +100,8 @@ module _ (F : Facts) (prefixes : Prefixes) where
       (step F prefixes levels c file piece) refl
       (sym (pieces_next F prefixes levels (enters_until F prefixes levels) c file piece pieces goes) ∙ is)
     where
+      -- Plan: `by_step` goes by whether the step of the piece is known, `by_entered` by whether the check of what it opens is, and `by_end`
+      -- by whether the check is refused then.
       by_end : ((d : Checking) → is_refused d ≡ false
           → pieces_until F prefixes levels (enters_until F prefixes levels) d file pieces ≡ Is c'
           → Follows (faults_of d.findings) c' (all_carried (including F prefixes levels) (carried_of d) directives))
@@ -239,6 +249,7 @@ module _ (F : Facts) (prefixes : Prefixes) where
       by (λ d well more. all_load d c' names well more) (called_until F prefixes c name) refl
       (sym (names_next F prefixes c name names goes) ∙ is)
     where
+      -- Plan: `by` goes by whether the check of the file is known, and `by_end` by whether it is refused then.
       by_end : ((d : Checking) → is_refused d ≡ false → all_until F prefixes d names ≡ Is c'
           → Loads F prefixes (faults_of d.findings) c' (all_loaded F prefixes d.set names))
           → (c'' : Checking) → called_until F prefixes c name ≡ Is c'' → all_until F prefixes c'' names ≡ Is c' → (t : Bool)

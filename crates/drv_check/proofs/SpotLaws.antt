@@ -8,6 +8,10 @@ use Rattle.std.proofs.lemmas.Bool.Decides.{nat_tests}
 use Rattle.std.specs.Prelude.{nat_lt, slice_get}
 
 -- Where a byte of a text has a spot, a file has the byte there. For `spots_have_bytes` (src/spot_laws.rt).
+-- Names: A spot is a place in a file. `sources` is the files that were read. `spots` is the spots of a text's last bytes, and `spot` one of
+-- them. `text` is the text, and `head` what precedes its colon. `n`, `i` and `k` are places. `a`, `b` and `t` are values of tests, and `b`
+-- is a byte in `is_there`. `byte_at sources spot` is the byte at a spot. `agree sources spots text`: the files have these bytes there.
+-- `spot_at` is the spot of the byte at a place (specs/Origins).
 
 -- A byte that is found and compares as equal is that byte.
 is_there : (found : Option ℕ) (b : ℕ) → is_byte found b ≡ true → found ≡ Some b
@@ -54,6 +58,7 @@ placed : (sources : List Source) (spots : List Spot) (text : List ℕ) (n : ℕ)
     → byte_at sources spot ≡ slice_get text n
 placed sources spots text n spot is = by (nat_lt n before) refl
   where
+    -- Plan: `before` is how many bytes precede those with spots; `by` goes by whether the byte is among them.
     before : ℕ
     before = length text - length spots
 
@@ -69,6 +74,7 @@ placed sources spots text n spot is = by (nat_lt n before) refl
 nothing : (text : List ℕ) (n : ℕ) (spot : Spot) → spot_at [] (length text) n ≡ Some spot → ⊥
 nothing text n spot has = by (nat_lt n (length text - 0)) has
   where
+    -- Plan: `by` goes by both answers of `nat_lt n (length text - 0)`.
     by : (t : Bool) → (if t then None else slice_get [] (n - (length text - 0))) ≡ Some spot → ⊥
     by true has = cc
     by false has = cc
@@ -78,6 +84,7 @@ pub spot_has_byte : (sources : List Source) (files : List OpenFile) (head text :
     → spot_at (text_spots sources files head text) (length text) n ≡ Some spot → byte_at sources spot ≡ slice_get text n
 spot_has_byte sources files head text n spot = by (agree sources spots (drop (length text - length spots) text)) refl
   where
+    -- Plan: `spots` is the spots before they are compared; `by` goes by whether the files agree with the text.
     spots : List Spot
     spots = last_spots (files_spots head [] files) text
 

@@ -17,6 +17,10 @@ use Rattle.std.specs.List.{list_any}
 use Rattle.std.specs.Prelude.{◌||◌, get_or}
 
 -- The switches that texts name, part by part. For the loops of src/switch_names.rt.
+-- Names: `name` is the name of a switch. `items` is the tree of a text. `token` is the one at place `n` of its `tokens`. `whole` is the
+-- answer for all parts. `piece` is a directive, and `own` its text as the code keeps it. `set` is a set, `dump` its dump, and `pieces` the
+-- directives of that. `result` is what the code's call gives. `label_at` is what the part at a place names (drv_syntax). `part_names` and
+-- `parts_name` say that a part, or one of several, names the switch (specs/SwitchNames).
 
 module _ (name : List ℕ) (items : Items) (n : ℕ) (tokens : List Token) (token : Token) where
   -- What parts name is what the next one names, or what the rest does.
@@ -27,14 +31,14 @@ module _ (name : List ℕ) (items : Items) (n : ℕ) (tokens : List Token) (toke
       ap (parts_name name items n) (drop_more tokens n token below)
       ∙ ap (λ t. part_names t.kind (label_at items n) name || parts_name name items (n + 1) (drop (n + 1) tokens)) (sym here)
 
-  -- The loop passes over a part that doesn't name the switch.
+  -- If part n doesn't name the switch, then whether one from n on does is whether one behind it does.
   pub parts_next : (whole : Bool) → n < length tokens → token ≡ get_or tokens n token
       → part_names token.kind (label_at items n) name ≡ false
       → parts_name name items n (drop n tokens) ≡ whole → parts_name name items (n + 1) (drop (n + 1) tokens) ≡ whole
   parts_next whole below here is rest =
       sym (parts_at below here ∙ ap (λ b. b || parts_name name items (n + 1) (drop (n + 1) tokens)) is) ∙ rest
 
-  -- It ends at a part that does.
+  -- If part n names the switch, then one from n on does.
   pub parts_here : (whole : Bool) → n < length tokens → token ≡ get_or tokens n token → part_names token.kind (label_at items n) name ≡ true
       → parts_name name items n (drop n tokens) ≡ whole → true ≡ whole
   parts_here whole below here is rest =

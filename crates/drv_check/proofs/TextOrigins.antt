@@ -27,6 +27,11 @@ use Rattle.std.specs.List.{position}
 use Rattle.std.specs.Prelude.{get_or, nat_eq, slice_get, take}
 
 -- For sources_of (src/seeking.rt): the prefixes are found first.
+-- Names: A spot is a place in a file. `F` is what is known of the outside. `names` is the files of the line, `sources` those that were
+-- read, and `source` the one at index `n`. `files` is the same as pieces, and `file` one of them. `piece` is the one at place `n` of
+-- `pieces`. `head` is what precedes the colon of a text. `spots` is the spots of the text's bytes so far, and `spots'` after one step more.
+-- `before`, `after` and `whole` are a list before a step, after it, and at the end. `line` is a line without the blanks at its front.
+-- `result` is what the code's call gives. `pieces_spots`, `files_spots` and `agree` are in specs/Origins.
 
 -- The prefixes that the call finds are those of the definition.
 pub opens_sources : {E : Type 0} (F : Facts) (found : Prefixes) (prefixes names : List (List ℕ)) (result : Result (List Source) E)
@@ -37,7 +42,7 @@ opens_sources F found prefixes names (Ok sources) is opens = ap (λ known. known
 
 -- For namings_of: the places of bytes, file by file and piece by piece.
 
--- The loop opens one more file.
+-- If the files opened so far and those of the sources left are all, then they still are after one file more.
 pub files_next : (n : ℕ) (sources : List Source) (source : Source) (file : OpenFile) (before after whole : List OpenFile)
     → n < length sources
     → source ≡ get_or sources n source → file ≡ open_file n source.text → after ≡ before ++ file ∷ []
@@ -49,7 +54,8 @@ files_next n sources source file before after whole below here opens grows is =
     ∙ ap (λ s. before ++ files_from n (s ∷ drop (n + 1) sources)) here
     ∙ ap (λ ss. before ++ files_from n ss) (sym (drop_more sources n source below)) ∙ is
 
--- The loop takes one more piece of a file, which may put the text or add to it.
+-- If the pieces left make the end of the spots so far, then those behind piece n make it of the spots after that piece, which may put the
+-- text or add to it.
 pub piece_next : (head : List ℕ) (file : OpenFile) (n : ℕ) (pieces : List Piece) (piece : Piece) (spots spots' whole : List Spot)
     → n < length pieces
     → piece ≡ get_or pieces n piece → spots' ≡ spots_by head file spots piece
@@ -59,7 +65,7 @@ piece_next head file n pieces piece spots spots' whole below here grows is =
     ∙ ap (λ p. pieces_spots head file (spots_by head file spots p) (drop (n + 1) pieces)) here
     ∙ ap (λ ps. pieces_spots head file spots ps) (sym (drop_more pieces n piece below)) ∙ is
 
--- The loop takes one more file, in the order in which they were opened.
+-- If the files left make the end of the spots so far, then those behind file n make it of the spots after that file.
 pub file_next : (head : List ℕ) (n : ℕ) (files : List OpenFile) (file : OpenFile) (spots spots' whole : List Spot) → n < length files
     → file ≡ get_or files n file → spots' ≡ pieces_spots head file spots file.pieces
     → files_spots head spots (drop n files) ≡ whole → files_spots head spots' (drop (n + 1) files) ≡ whole
@@ -68,7 +74,7 @@ file_next head n files file spots spots' whole below here grows is =
     ∙ ap (λ f. files_spots head (pieces_spots head f spots f.pieces) (drop (n + 1) files)) here
     ∙ ap (λ fs. files_spots head spots fs) (sym (drop_more files n file below)) ∙ is
 
--- The loop compares one more byte with the one at its spot.
+-- If a file has the byte at the first spot, then the spots agree with the bytes exactly if the others do.
 pub agree_next : (sources : List Source) (spot : Spot) (spots spots' : List Spot) (byte : ℕ) (bytes bytes' : List ℕ)
     → spots ≡ spot ∷ spots' → bytes ≡ byte ∷ bytes' → is_byte (byte_at sources spot) byte ≡ true
     → agree sources spots bytes ≡ agree sources spots' bytes'
@@ -88,6 +94,7 @@ pub other_head : (head : List ℕ) (piece : Piece) (line : List ℕ) → line �
 other_head head piece line is lacks =
     by (position is_colon line) refl ∙ ap (λ l. is_key head (head_before (position is_colon l) l)) is
   where
+    -- Plan: `same` says that the two heads differ where the line has a colon; `by` goes by whether it has one.
     same : (at : ℕ) (test : Bool) → pointwise nat_eq head (take at line) ≡ test → position is_colon line ≡ Some at → false ≡ test
     same at false test found = refl
     same at true test found =

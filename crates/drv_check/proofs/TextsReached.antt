@@ -10,6 +10,11 @@ use Rattle.std.specs.Option.{unwrap_or}
 use Rattle.std.specs.Prelude.{get_or, if◌then◌else◌, nat_lt, option_and_then, slice_get}
 
 -- For reached_dump (src/reached.rt): the names of the texts that a plan can use, one after another.
+-- Names: `set` is the set of texts. `names` is the names so far, and `name` the one at place `n`. `tree` is the text of that name, if it
+-- has one that is run. `texts` is the names of texts that are run. `pairs` is the pairs of the set. `before` and `after` are the names
+-- before a step and after it, and `whole` is all of them. `start` is those at first, and `yielded` those that the loop has taken. `d` is of
+-- no meaning: it is what a look-up gives where there is nothing. `with_names` adds names that are new. `reached_from set left n names` is
+-- all names that are reached, where so many texts may still be looked into (specs/Reached).
 
 -- one name more is added behind several
 with_one : (names others : List (List ℕ)) (name : List ℕ)
@@ -17,13 +22,14 @@ with_one : (names others : List (List ℕ)) (name : List ℕ)
 with_one names [] name = refl
 with_one names (other ∷ others) name = with_one (with_name names other) others name
 
--- The loop has added one name more.
+-- If the names so far are those at first and the ones that the loop took, then they still are after one name more.
 pub name_next : (start before after yielded : List (List ℕ)) (name : List ℕ) → after ≡ with_name before name
     → before ≡ with_names start yielded → after ≡ with_names start (yielded ++ name ∷ [])
 name_next start before after yielded name grows so_far =
     grows ∙ ap (λ ns. with_name ns name) so_far ∙ sym (with_one start yielded name)
 
--- It has added the names that one pair more names, where its text is one of these.
+-- If the names so far and those of the pairs left are all, then they still are after one pair more, whose names count where its text is one
+-- of these.
 pub pair_next : (texts : List (List ℕ)) (pairs : List (List ℕ × List ℕ)) (n : ℕ) (d : List ℕ × List ℕ) (text : List ℕ)
     (tree : Option (List ℕ)) (before after whole : List (List ℕ)) → n < length pairs → text ≡ (get_or pairs n d).1
     → tree ≡ option_and_then worked_text (slice_get pairs n)
@@ -43,7 +49,7 @@ is_most : most_texts ≡ 65536
 unfolding most_texts
 is_most = refl
 
--- It has added the names that the text of one name more names.
+-- If the names so far and those that the texts from place n on reach are all, then they still are after the text of one name more.
 pub text_next : (set : Set) (names : List (List ℕ)) (n : ℕ) (name d : List ℕ) (tree : Option (List ℕ)) (after whole : List (List ℕ))
     → n < 65536 → n < length names → name ≡ get_or names n d → tree ≡ text_of set name → after ≡ with_names names (text_names tree)
     → reached_from set (most_texts - n) n names ≡ whole → reached_from set (most_texts - (n + 1)) (n + 1) after ≡ whole
@@ -56,7 +62,7 @@ text_next set names n name d tree after whole few below here has grows is =
     (grows ∙ ap (λ t. with_names names (text_names t)) (has ∙ ap (text_of set) (here ∙ same)))
     ∙ sym (ap (λ m. reached_from set m n names) left ∙ rw test refl) ∙ is
 
--- No more texts are looked into.
+-- If the most texts were looked into, then the names so far are all.
 pub most_reached : (set : Set) (names : List (List ℕ)) (n : ℕ) (whole : List (List ℕ)) → 65536 ≤ n
     → reached_from set (most_texts - n) n names ≡ whole → names ≡ whole
 most_reached set names n whole many is =
@@ -68,7 +74,7 @@ none_left : (set : Set) (left n : ℕ) (names : List (List ℕ)) → nat_lt n (l
 none_left set zero n names past = refl
 none_left set (suc left) n names past = rw past refl
 
--- All texts were looked into.
+-- If all texts were looked into, then the names so far are all.
 pub all_reached : (set : Set) (names : List (List ℕ)) (n : ℕ) (whole : List (List ℕ)) → length names ≤ n
     → reached_from set (most_texts - n) n names ≡ whole → names ≡ whole
 all_reached set names n whole past is =

@@ -14,8 +14,11 @@ use Rattle.std.proofs.lemmas.List.{append-nil, drop_more}
 use Rattle.std.specs.Prelude.{get_or}
 
 -- For check_files (src/checking.rt): the warnings of the tokens of a text, one after another.
+-- Names: A mark is here a warning at a byte of a piece. `set` is the set so far. `text` is the text of the piece, `items` its tree, and
+-- `start` its place in the piece. `token` is the one at place `n` of `tokens`, and `at` where it begins. `before` and `after` are the
+-- warnings before it and after it, and `whole` is all of them. `tokens_marks` is the warnings of tokens (specs/TokenWarnings).
 
--- The loop takes one more token, with its warning.
+-- If the warnings so far and those of the tokens left are all, then they still are after one token more.
 pub marks_next : (set : Set) (text : List ℕ) (items : Items) (start n at : ℕ) (tokens : List Token) (token : Token)
     (warning : Option Warning)
     (before after whole : List Mark) → n < length tokens → token ≡ get_or tokens n token

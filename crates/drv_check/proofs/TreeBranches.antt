@@ -23,6 +23,12 @@ use Rattle.std.proofs.lemmas.Bool.{le-ltb, lt-ltb}
 use Rattle.std.proofs.lemmas.List.{drop_all, get_or-drop}
 
 -- Branches that no line reaches: what the code finds in the flat list of parts is what the tree has. For `push_choices` (src/branches.rt).
+-- Names: `items` is the tree of the whole text. `xs` and `ys` are lists, or parts of a tree. `n` and `m` are places in the flat list of its
+-- parts. `kind`, `label`, `s` and `inner` are what a part is, what it names, its bytes and the parts inside it, and `others` is those after
+-- it. `start` is where the text begins in its piece. `earlier` is the tests of the branches before. `f` gives something of a part. `end` is
+-- the place behind a part, and `next` the one before which tokens are inside another part. `tokens_of`, `nodes_of`, `flat` and `labels` are
+-- views of a tree (drv_syntax): its tokens, its parts, and tokens and labels of parts. `of_tree` are the definitions of specs/Branches.
+-- `parts_from`, `branch_in`, `test_in`, `listed_marks` and `parts_marks` are in specs/Code/Branching.
 
 -- where a part of a list is in the whole
 

@@ -13,6 +13,11 @@ use Rattle.std.proofs.lemmas.List.{drop_all, drop_more}
 use Rattle.std.specs.Prelude.{get_or, nat_lt}
 
 -- Branches that no line reaches, one after another, as the code finds them. For the loops of src/branches.rt.
+-- Names: `items` is the tree of a text. `tokens` is its tokens, and `token` the one at place `n`. `end` is the place behind the part, and
+-- `next` the one before which tokens are inside another part. `f` gives something of a part. `branches` is the branches of a choice, and
+-- `branch` the one at place `n`. `earlier` is the tests of the branches before it, and `earlier'` those with its own `tests`. `start` is
+-- where the text begins in its piece. `before` and `after` are what was gathered before a step and after it, and `whole` is all. `here`,
+-- `beyond`, `parts_from` and their like are in specs/Code/Branching.
 
 -- what the parts inside a part give
 
@@ -35,7 +40,8 @@ pub parts_over : {X : Type 0} → (f : ℕ → Token → List X) (end next n : �
 parts_over f end next n all tokens before whole are over is =
     sym (append-nil before) ∙ ap (λ ts. before ++ parts_from f end next n ts) (sym (ap (drop n) (sym are) ∙ drop_all n all over)) ∙ is
 
--- The loop takes one more part, and what is inside it is passed over.
+-- If what was gathered and what the tokens left give are all, then they still are after one token more; what is inside its part gives
+-- nothing.
 parts_next : {X : Type 0} → (f : ℕ → Token → List X) (end next n : ℕ) (tokens : List Token) (token : Token) (before after whole : List X)
     → n < length tokens → token ≡ get_or tokens n token → nat_lt n end ≡ true → after ≡ before ++ here f next n token
     → before ++ parts_from f end next n (drop n tokens) ≡ whole
@@ -50,7 +56,7 @@ parts_next f end next n tokens token before after whole below is_here inside gro
 
 -- the tests of a branch
 
--- for `tests_of`: the loop takes one token more, and its test, if it is one
+-- For `tests_of`: if the tests so far and those of the tokens left are all, then they still are after one token more.
 pub tests_next : (items : Items) (end next n : ℕ) (tokens : List Token) (token : Token) (before after whole : List Label)
     → n < length tokens → token ≡ get_or tokens n token → nat_lt n end ≡ true → after ≡ before ++ here (test_in items) next n token
     → before ++ tests_from items end next n (drop n tokens) ≡ whole
@@ -60,7 +66,7 @@ tests_next items end next n tokens token before after whole below is_here inside
 
 -- the branches of a choice
 
--- for `branches_of`: the loop takes one token more, and its branch, if it is one
+-- For `branches_of`: if the branches so far and those of the tokens left are all, then they still are after one token more.
 pub branches_next : (end next n : ℕ) (tokens : List Token) (token : Token) (before after whole : List Branch)
     → n < length tokens → token ≡ get_or tokens n token → nat_lt n end ≡ true → after ≡ before ++ here branch_in next n token
     → before ++ branches_from end next n (drop n tokens) ≡ whole
@@ -70,7 +76,8 @@ branches_next end next n tokens token before after whole below is_here inside gr
 
 -- the marks of the branches of a choice
 
--- for `push_branches`: the loop takes one branch more, whose tests are earlier ones for the next
+-- For `push_branches`: if the warnings so far and those of the branches left are all, then they still are after one branch more, whose
+-- tests are earlier ones then.
 pub marks_next : (items : Items) (start n : ℕ) (unreachable : Bool) (earlier earlier' tests : List Label) (branches : List Branch)
     (branch : Branch)
     (before after whole : List Mark) → n < length branches → branch ≡ get_or branches n branch → tests ≡ tests_of items branch
@@ -92,7 +99,8 @@ marks_next items start n unreachable earlier earlier' tests branches branch befo
 
 -- the marks of the parts of a text
 
--- for `push_choices`: the loop takes one token more, and the warnings of its branches
+-- For `push_choices`: if the warnings so far and those of the tokens left are all, then they still are after one token more, with the
+-- warnings on its branches.
 pub choices_next : (items : Items) (start n : ℕ) (tokens : List Token) (token : Token) (branches : List Branch)
     (before after whole : List Mark)
     → n < length tokens → token ≡ get_or tokens n token → branches ≡ branches_of items token.next (n + 1)

@@ -13,6 +13,13 @@ use Rattle.std.proofs.lemmas.List.{drop_more}
 use Rattle.std.specs.Prelude.{get_or}
 
 -- For fault_note (src/fault_notes.rt): pieces and files are checked one after another, up to the first fault.
+-- Names: `F` is what is known of the outside. `prefixes` is where files are searched for. `levels` is how deep files may still be within
+-- one another. `enters` is how an open file is checked. `c` is the check before a step, `new` or `d` after the file or piece is opened, and
+-- `after` after what it opened was checked. `file` is the open file, `piece` the one at place `n` of its `pieces`, and `next` the file that
+-- it opens, if it does. `items` is these pieces as the code holds them. `inner` is that file. `name` is a file of the call. `whole` is the
+-- end of the check. `result` is what the code's call gives. `is_refused` says that a check has a fault. `pieces_until`, `file_until`,
+-- `called_until` and `all_until` are checks up to the first fault (specs/UntilFault). `step` and `entered` are the steps of a check
+-- (specs/Checks).
 
 module _ (F : Facts) (prefixes : Prefixes) where
   -- what a file of so many levels enters
@@ -62,7 +69,8 @@ module _ (F : Facts) (prefixes : Prefixes) where
       ap (λ t. if t then Is c else (called_until F prefixes c name >>= λ c'. all_until F prefixes c' names)) goes
 
   module _ (levels : ℕ) (enters : Enters) (c : Checking) (file : OpenFile) (pieces : List Piece) (n : ℕ) (piece : Piece) where
-    -- The loop takes one more piece, before a fault.
+    -- Before a fault the check of the pieces from n on is the step of piece n, with the file that it opens, and then the check of those
+    -- behind it.
     one : n < length pieces → piece ≡ get_or pieces n piece → is_refused c ≡ false
         → pieces_until F prefixes levels enters c file (drop n pieces)
         ≡ (step F prefixes levels c file piece >>= λ next. entered enters next.0 next.1
@@ -72,7 +80,7 @@ module _ (F : Facts) (prefixes : Prefixes) where
         ∙ ap (λ p. pieces_until F prefixes levels enters c file (p ∷ drop (n + 1) pieces)) (sym here)
         ∙ pieces_next levels enters c file piece (drop (n + 1) pieces) goes
 
-    -- So the loop's state after it gives the same end.
+    -- If the pieces from n on lead to this end before a fault, then so do those behind piece n, from the check after it.
     done : (new after : Checking) (next : Option OpenFile) (whole : Known Checking) → n < length pieces
         → piece ≡ get_or pieces n piece → is_refused c ≡ false
         → step F prefixes levels c file piece ≡ Is (new, next) → entered enters new next ≡ Is after
@@ -92,7 +100,7 @@ module _ (F : Facts) (prefixes : Prefixes) where
     called_in_until file new (Err e) opens goes = goes
     called_in_until file new (Ok x) opens goes = ap (λ k. k >>= λ next. entered (file_until F prefixes 15) next.0 next.1) opens ∙ goes
 
-  -- The loop takes one more file of the call, before a fault.
+  -- If the files from n on lead to this end before a fault, then so do those behind file n, from the check after it.
   pub name_gone : (c after : Checking) (names : List (List ℕ)) (n : ℕ) (name : List ℕ) (whole : Known Checking) → n < length names
       → name ≡ get_or names n name → is_refused c ≡ false → called_until F prefixes c name ≡ Is after
       → all_until F prefixes c (drop n names) ≡ whole
@@ -103,7 +111,7 @@ module _ (F : Facts) (prefixes : Prefixes) where
       ∙ names_next c name (drop (n + 1) names) goes
       ∙ ap (λ k. k >>= λ c'. all_until F prefixes c' (drop (n + 1) names)) checks) ∙ before
 
--- The same loop over the list that the code holds, which is the file's.
+-- The same over the list that the code holds, which is the file's.
 pub piece_gone_until : (F : Facts) (prefixes : Prefixes) (levels : ℕ) (c : Checking) (file : OpenFile) (items : List Piece) (n : ℕ)
     (piece : Piece)
     (new after : Checking) (next : Option OpenFile) (whole : Known Checking) → items ≡ file.pieces → n < length items

@@ -14,12 +14,13 @@ use Rattle.std.specs.Cmp.Lexicographic.{pointwise}
 use Rattle.std.specs.Prelude.{◌-◌, ◌==◌, ◌&&◌, ◌||◌, Bool, List, [], ◌∷◌, ◌++◌, None, Option, Some, codes, false, if◌then◌else◌, nat_eq}
 use Rattle.std.specs.Prelude.{nat_le, nat_lt, not, slice_get, true, ℕ}
 
--- The parts of a text that have a mark (this project's profile). Blanks, newlines and pipes cut a list of items into parts. So does the end
--- of an item that may have marks inside: a choice, a named text, or what a function gives. A part has a mark where another part precedes it
--- in its list and its command, or where a text begins with it that others name. A part without one belongs to the part that its list is in.
--- A text that is run by itself begins without a mark, since one would be a command where it gives none. Where no blank precedes the
--- part, its mark is joined to the word, so it cuts none. A list whose test has a star has a mark at its beginning, since it may give words
--- more than once. Items inside a test, a function, %W and %@ have none: they give no words of their own.
+-- The parts of a text that have a mark (this project's profile). A mark is a number between two bytes of 1 (MarkWords), by which the words
+-- of a plan show what gave them. Blanks, newlines and pipes cut a list of items into parts. So does the end of an item that may have marks
+-- inside: a choice, a named text, or what a function gives. A part has a mark where another part precedes it in its list and its command,
+-- or where a text begins with it that others name. A part without one belongs to the part that its list is in. A text that is run by itself
+-- begins without a mark, since one would be a command where it gives none. Where no blank precedes the part, its mark is joined to the
+-- word, so it cuts none. A list whose test has a star has a mark at its beginning, since it may give words more than once. Items inside a
+-- test, a function, %W and %@ have none: they give no words of their own.
 -- For clauses of src/marking.rt.
 
 -- what a token is for marks

@@ -1,5 +1,7 @@
 //! Where spec files are refused, as a note.
 
+// In clauses: `Extends F G` says that G has every answer of F. `Asked` says that a call only asked,
+// and that the table has the answers.
 ghost use Rattle.drv_check.specs.FaultNotes.{fault_note, first_fault, note_at, note_in, note_of};
 ghost use Rattle.drv_check.specs.FaultNotes.{noted_along, unchecked_over};
 ghost use Rattle.drv_system.specs.Asking.{Asks, Extends};

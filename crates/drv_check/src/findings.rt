@@ -47,7 +47,8 @@ pub enum Warning {
     Unreachable,
     /// A directive that marks a word, with white space on both sides, so that no word has the mark.
     LostMark,
-    /// A text that no text works, and that gcc and the driver don't work themselves.
+    /// A text that no text works, and that neither the driver works itself nor gcc, where its names
+    /// count.
     UnusedText,
 }
 

@@ -1,4 +1,4 @@
-//! Directives that mark a word, where there is none.
+//! Directives that mark a word (`%d`, `%w`, `%s`, `%T`), where there is none.
 
 ghost use Rattle.drv_check.specs.LostMarks.{begins_space, ends_space, is_lost, is_mark, is_space, lost_mark};
 ghost use Rattle.drv_check.specs.LostMarks.{lost_marks};

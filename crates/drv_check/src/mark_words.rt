@@ -1,4 +1,4 @@
-//! Marks in a text.
+//! Marks in a text: numbers between two bytes 1, each before a part (`marking.rt`).
 
 ghost use Rattle.drv_check.specs.MarkWords.{mark_text, mark_word, marked_text, with_marks};
 ghost use Rattle.std.specs.Prelude.{◌≡◌, ◌++◌, IfOk, OnOk, drop, length, take};

@@ -1,4 +1,7 @@
 //! The parts of a set's texts that have a mark.
+//!
+//! A mark is a number between two bytes 1. It is put before a part of a text, so that the plan's
+//! words show which part gave them (`drv_why`).
 
 ghost use Rattle.drv_check.specs.MarkedParts.{after_blank, after_role, after_test, before_at, ends_starred, first_in, goes_on, has_left};
 ghost use Rattle.drv_check.specs.MarkedParts.{inside_until, is_entered, is_item, is_named, is_nested, is_passed, joint_after, joint_of};
@@ -51,8 +54,8 @@ pub enum Joint {
 pub(crate) enum Before {
     /// Nothing, or blanks.
     Opens,
-    /// Nothing, in a list that gives words for each of several switches, or in a text that others
-    /// name.
+    /// Nothing, in a list that may give words for each of several switches, or in a text that
+    /// others name: its words may be given more than once, so each time begins with a mark.
     Loops,
     /// An item without marks inside.
     Follows,

@@ -1,5 +1,7 @@
 //! Files whose directives are checked.
 
+// In clauses: `Extends F G` says that G has every answer of F. `Asked` says that a call only asked,
+// and that the table has the answers.
 ghost use Rattle.drv_check.specs.Checks.{by_text, found_text, open_file, opened};
 ghost use Rattle.drv_check.specs.Includes.{read_text};
 ghost use Rattle.drv_system.specs.Asking.{Extends};

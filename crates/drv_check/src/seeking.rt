@@ -1,5 +1,7 @@
 //! The files that a line loads, found by what their directives include.
 
+// In clauses: `Extends F G` says that G has every answer of F. `Asked` says that a call only asked,
+// and that the table has the answers.
 ghost use Rattle.drv_check.specs.Checks.{all_called, called, file_checked};
 ghost use Rattle.drv_check.specs.Code.Seeking.{IsFile, Seeks, sought};
 ghost use Rattle.drv_check.specs.Origins.{sources_found, sources_of};

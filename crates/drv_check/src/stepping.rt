@@ -1,5 +1,7 @@
 //! One piece of a file is checked.
 
+// In clauses: `Extends F G` says that G has every answer of F. `Asked` says that a call only asked,
+// and that the table has the answers.
 ghost use Rattle.drv_check.specs.Checks.{changed, faulty, finding_of, spot_in, step, warned};
 ghost use Rattle.drv_check.specs.Checks.{with_number};
 ghost use Rattle.drv_specs.specs.Loading.{loaded};

@@ -1,5 +1,7 @@
 //! Spec files are checked up to their first fault.
 
+// In clauses: `Extends F G` says that G has every answer of F. `Asked` says that a call only asked,
+// and that the table has the answers.
 ghost use Rattle.drv_check.specs.UntilFault.{all_until, called_until, file_until, is_refused};
 ghost use Rattle.drv_system.specs.Asking.{Extends};
 ghost use Rattle.drv_system.specs.Code.Asked.{Asked};

@@ -14,12 +14,19 @@ use Rattle.std.proofs.lemmas.List.{append-nil, drop_all, drop_more}
 use Rattle.std.specs.Prelude.{get_or, is_some}
 
 -- For the inputs of a line (src/inputs.rt): those that are not there, and those that are the output, one after another.
+-- Names: `F` is what is known of the outside. `inputs` is the names of the line's inputs, and `input` is the one at index `i`. `name` is
+-- that of the program. `kind` is what is at a path. `done` is the text before input i, and `after` the text after it; where these are
+-- events, `before` is the notes before the search, `so` those so far, and `after` those after it. `given` is the line's -o, and `output`
+-- its name. `path` is where the output leads. `answer` and `found` are what the host answered. `result` is what the code's call gives.
+-- `Noted before after P`: events were added, of which P holds. `Reaches path inputs events found`: by these events an input leads to that
+-- path, or none does. `Overwrites` says the same of an output (specs/Inputs). `Resolved` is the event of one such question. `absent_of` is
+-- the text of all inputs that are not there.
 
 -- the text so far, and then others
 abbrev pub after_text : List ℕ → Known (List ℕ) → Known (List ℕ)
 after_text done others = others >>= λ lines. Is (done ++ lines)
 
--- `absent` begins with no text: all of it is still to come
+-- If no text is there yet, all of it is still to come: so `absent_inputs_text` begins.
 pub text_begins : (others : Known (List ℕ)) → after_text [] others ≡ others
 text_begins Unasked = refl
 text_begins (Is lines) = refl
@@ -30,7 +37,8 @@ text_further : (done after line : List ℕ) (others : Known (List ℕ)) → afte
 text_further done after line Unasked is = refl
 text_further done after line (Is lines) is = rw (is, append_assoc) refl
 
--- `absent` adds the line of one input more, if that isn't there
+-- For `absent_inputs_text`: if the line of input i was added, or none since that is there, then the text so far and what the inputs after it add are
+-- still the whole.
 pub absent_more : (F : Facts) (name : List ℕ) (inputs : List (List ℕ)) (i : ℕ) (input : List ℕ) (kind : PathKind) (done after : List ℕ)
     → i < length inputs → input ≡ get_or inputs i input → kind_of F input ≡ Some kind → after ≡ done ++ absent_by name input kind
     → after_text done (absent_of F name (drop i inputs)) ≡ absent_of F name inputs
@@ -51,7 +59,7 @@ set_objects F name inputs value (Err e) known some is = tt
 set_objects F name inputs None (Ok text) known some is = absurd (false≢true some)
 set_objects F name inputs (Some set) (Ok text) known some is = ap (λ v. v >>= λ w. objection_by F name inputs w) known ∙ ap Is (sym is)
 
--- `objection` goes on to the inputs where the variable is not set
+-- For `objection`: if the variable is not set, then what speaks against the line is what its inputs add.
 pub unset_objects : {E : Type 0} (F : Facts) (name : List ℕ) (inputs : List (List ℕ)) (value : Option (List ℕ)) (result : Result (List ℕ) E)
     → asked (variable_of F (codes "GCC_EXEC_PREFIX")) ≡ Is value → is_some value ≡ false
     → IfOk result (λ text. absent_of F name inputs ≡ Is text)
@@ -60,7 +68,7 @@ unset_objects F name inputs value (Err e) known none is = tt
 unset_objects F name inputs (Some set) (Ok text) known none is = absurd (false≢true (sym none))
 unset_objects F name inputs None (Ok text) known none is = ap (λ v. v >>= λ w. objection_by F name inputs w) known ∙ is
 
--- `reaches` goes on behind an input that leads elsewhere
+-- If input i leads elsewhere, then what holds of the inputs after it gives what holds of all: so `reaches` goes on.
 pub reaches_more : (path : List ℕ) (inputs : List (List ℕ)) (i : ℕ) (input : List ℕ) (answer : Option (List ℕ))
     (before so after : List HostEvent)
     → i < length inputs → input ≡ get_or inputs i input → is_at path answer ≡ false
@@ -80,7 +88,7 @@ reaches_more path inputs i input answer before so after below here differs grown
       (to_another differs reaches))),
 )
 
--- `reaches` ends at an input that leads to the output
+-- For `reaches`: if input i leads to the output, then an input is the output, by the events so far and this one.
 pub reaches_it : (path : List ℕ) (inputs : List (List ℕ)) (i : ℕ) (input : List ℕ) (answer : Option (List ℕ))
     (before so after : List HostEvent)
     → i < length inputs → input ≡ get_or inputs i input → is_at path answer ≡ true
@@ -96,7 +104,7 @@ reaches_it path inputs i input answer before so after below here same grown (eve
       (sym (drop_more inputs i input below ∙ ap (λ x. x ∷ drop (i + 1) inputs) (sym here))) (to_it same)),
 )
 
--- `reaches` finds no input that leads to the output, after all were asked for
+-- For `reaches`: if all inputs were asked for and none led to the output, then none is the output.
 pub reaches_none : (path : List ℕ) (inputs : List (List ℕ)) (i : ℕ) (before so : List HostEvent) → length inputs ≤ i
     → Noted before so (λ events. (more : List HostEvent) (found : Bool) → Reaches path (drop i inputs) more found
     → Reaches path inputs (events ++ more) found)
@@ -118,18 +126,18 @@ no_file given output some is = ap file_of some ∙ ap (λ t. if t then None else
 own_file : (given : Option (List ℕ)) (output : List ℕ) → given ≡ Some output → is_no_file output ≡ false → file_of given ≡ Some output
 own_file given output some is = ap file_of some ∙ ap (λ t. if t then None else Some output) is
 
--- `overwrites` asks the host nothing for a line without an output
+-- For `overwrites`: if the line has no output, then it overwrites nothing, and the host is asked nothing.
 pub none_written : (inputs : List (List ℕ)) (given : Option (List ℕ)) (notes : List HostEvent) → given ≡ None
     → Noted notes notes (λ events. Overwrites inputs given events false)
 none_written inputs given notes none = ([], sym (append-nil notes), subst (λ o. IsRead inputs o [] false) (sym (ap file_of none)) no_output)
 
--- `overwrites` asks the host nothing for an output that is no file
+-- For `overwrites`: if the output is no file, then the line overwrites nothing, and the host is asked nothing.
 pub sink_written : (inputs : List (List ℕ)) (given : Option (List ℕ)) (output : List ℕ) (notes : List HostEvent) → given ≡ Some output
     → is_no_file output ≡ true → Noted notes notes (λ events. Overwrites inputs given events false)
 sink_written inputs given output notes some is =
     ([], sym (append-nil notes), subst (λ o. IsRead inputs o [] false) (sym (no_file given output some is)) no_output)
 
--- `overwrites` asks one thing for an output that isn't there
+-- For `overwrites`: if the output isn't there, then the line overwrites nothing, by one event.
 pub new_written : (inputs : List (List ℕ)) (given : Option (List ℕ)) (output : List ℕ) (found : Option (List ℕ))
     (before after : List HostEvent) → given ≡ Some output → is_no_file output ≡ false → found ≡ None
     → after ≡ before ++ Resolved output found ∷ [] → Noted before after (λ events. Overwrites inputs given events false)
@@ -139,7 +147,7 @@ new_written inputs given output found before after some file none grown = (
   subst (λ o. IsRead inputs o (Resolved output None ∷ []) false) (sym (own_file given output some file)) new_output,
 )
 
--- `overwrites` asks one thing for an output that isn't there, and else for the inputs too, whose answer it hands on
+-- For `overwrites`: if the output is there, then the line overwrites an input exactly if an input leads to the output's path.
 pub old_written : {E : Type 0} (inputs : List (List ℕ)) (given : Option (List ℕ)) (output path : List ℕ) (found : Option (List ℕ))
     (before mid after : List HostEvent) (result : Result Bool E)
     → given ≡ Some output → is_no_file output ≡ false → found ≡ Some path → mid ≡ before ++ Resolved output found ∷ []

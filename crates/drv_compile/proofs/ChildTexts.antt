@@ -5,6 +5,9 @@ use Rattle.std.proofs.lemmas.List.{take_all}
 use Rattle.std.specs.List.{starts_with}
 
 -- For `without` (src/children.rt): the steps of the loop that looks for the part.
+-- Names: `left` is what is left of the text. `part` is what is taken out. `made` is the text so far, and `after` the text with what this
+-- step adds. `rest` is what follows the part. `whole` is the whole result. `without part left` is a text without the first such part
+-- (specs/Machines).
 
 -- all that follows the first byte
 after_first : (b : ℕ) (text : List ℕ) → take (length (b ∷ text) - 1) text ≡ text

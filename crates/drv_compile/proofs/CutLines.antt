@@ -10,6 +10,8 @@ use Rattle.std.specs.List.{list_all, onto_first}
 use Rattle.std.specs.Prelude.{None, Option, Some}
 
 -- For the files beside a spec file (src/compilers.rt): the search for the end of a line gives the first line.
+-- Names: `text` is the text of a file. `line` is one line, and `after` what follows its newline. `found` is the place of the first newline,
+-- if there is one, and `at` that place. `lines` is the lines of a text. `IsFirstByte` is what the search promises of that place.
 
 -- a byte that is no newline, and a rest without one: what a line without newlines is made of
 both : (t u : Bool) → (not t && u) ≡ true → (t ≡ false) × (u ≡ true)
@@ -30,7 +32,7 @@ only_line (b ∷ line) clean =
     let parts = both (b == newline) (list_all (λ b. not (b == newline)) line) clean in
     slice_split-cons_no (λ b. b == newline) b line parts.0 ∙ ap (onto_first b) (only_line line parts.1)
 
--- `cut_line` finds a newline: the bytes before it are the first line, and the lines of the rest follow
+-- For `cut_line`: if a newline is found, then the bytes before it are the first line, and the lines of the rest follow.
 pub line_cut : (text : List ℕ) (found : Option ℕ) (at : ℕ) → IsFirstByte (is_byte newline) text found → found ≡ Some at
     → lines text ≡ take at text ∷ lines (drop (at + 1) text)
 line_cut text found at h is = ap lines (line_found text found at h is)
@@ -44,7 +46,7 @@ line_cut_off text found at h is =
     ∙ ap (λ rest. take at text ∷ lines rest) (sym (take_all (length text - (at + 1)) (drop (at + 1) text)
     (omega (arith, length-drop (at + 1) text))))
 
--- the search for a newline finds none: the text is its only line
+-- If no newline is found, then the text is its only line.
 pub line_alone : (text : List ℕ) (found : Option ℕ) → IsFirstByte (is_byte newline) text found → found ≡ None → lines text ≡ text ∷ []
 line_alone text found h is = only_line text (clean_all (is_byte newline) text found h is)
 

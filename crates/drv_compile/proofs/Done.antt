@@ -35,6 +35,14 @@ use Rattle.std.specs.Bool.{IsTrue}
 use Rattle.std.specs.Prelude.{get_or, ⊤}
 
 -- For `compile` (src/compiling.rt): what a call does after its questions is one of the cases of `Compiled`.
+-- Names: `journal` is the events of the system before a step, `journal'` after it, and `journal''` after the next. `mid` is the journal
+-- once the questions are asked. `first` and `notes` are the host's events before, and `notes'` and `notes''` those after each step.
+-- `events` is what a step added to them. `calling`, `own`, `args` and `seed` are what the call is given. `prepared` is what it has to do:
+-- work, texts and variables. `children` is these variables, of which `i` were set when the journal had `at` events. `before`, `so` and
+-- `after` are the host's events before the loop, so far, and after one more. `status` is an exit status. `outcome` is how the call ends.
+-- `stop` is why it ends before its work. `F'` is what the call knows. `Noted before after P`: events were added, of which P holds.
+-- `settings at children` is the events that set these variables. `Going` is what was asked for the folder of temporaries
+-- (specs/Code/Settling). `DoesWork` is a work that was done (drv_run). `Compiled` is the whole call (specs/Compiles).
 
 -- the variables of a line, one after another
 
@@ -44,7 +52,7 @@ pub record Setting (at : ℕ) (children : List Variable) (i : ℕ) (before so : 
   pub grown : so ≡ before ++ events
   pub rest : events ++ settings at (drop i children) ≡ settings at children
 
--- `set_children` sets one variable more
+-- For `set_children`: if the first i variables were set, and then the next, then the first i + 1 were.
 pub set_more : (at : ℕ) (children : List Variable) (i : ℕ) (variable : Variable) (at' : ℕ) (before so after : List HostEvent)
     → i < length children
     → variable ≡ get_or children i variable → at' ≡ at → after ≡ so ++ Set at' variable ∷ [] → Setting at children i before so
@@ -60,11 +68,11 @@ set_more at children i variable at' before so after below here same grown settin
       (drop_more children i variable below ∙ ap (λ v. v ∷ drop (i + 1) children) (sym here))) ∙ setting.rest;
 }
 
--- no variable is set at first in `set_children`
+-- At first no variable was set.
 pub none_set : (at : ℕ) (children : List Variable) (before : List HostEvent) → Setting at children 0 before before
 none_set at children before = record { events = []; grown = sym (append-nil before); rest = refl }
 
--- all variables are set at the end of `set_children`
+-- If all variables were set, then the events are those that the definition has for the line.
 pub all_set : (at : ℕ) (children : List Variable) (i : ℕ) (before so : List HostEvent) → length children ≤ i
     → Setting at children i before so
     → Noted before so (λ events. events ≡ settings at children)
@@ -84,25 +92,25 @@ some_set at children i before so after (Err e) what setting same is = (setting.e
 
 -- a text after a work
 
--- `closed` says no text where it has none
+-- For `say_after`: if the text is empty, then nothing is said after the work, and the call is done.
 pub nothing_closed : (journal : List Event) (text : List ℕ) (status : ℕ) → length text ≤ 0
     → IsClosed journal journal text status (Done status)
 nothing_closed journal [] status none = ([], sym (append-nil journal), closed)
 nothing_closed journal (b ∷ text) status none = absurd (omega (arith, none))
 
--- `closed` says the whole text where it has one
+-- For `say_after`: if the text is not empty and was said, then the call is done.
 pub text_closed : (journal journal' : List Event) (text : List ℕ) (status : ℕ) (answer : TellAnswer) → 0 < length text
     → journal' ≡ journal ++ Say text answer ∷ [] → IsClosed journal journal' text status (Done status)
 text_closed journal journal' [] status answer some says = absurd (omega (arith, some))
 text_closed journal journal' (b ∷ text) status answer some says = (Say (b ∷ text) answer ∷ [], says, noted)
 
--- `closed` says nothing where memory lacked for its text, as the outcome says
+-- For `say_after`: if the text is not empty and memory lacked for it, then nothing was said, and the outcome says that.
 pub text_unclosed : (journal journal' : List Event) (text : List ℕ) (status : ℕ) → 0 < length text → journal' ≡ journal
     → IsClosed journal journal' text status (Unnoted status)
 text_unclosed journal journal' [] status some same = absurd (omega (arith, some))
 text_unclosed journal journal' (b ∷ text) status some same = ([], same ∙ sym (append-nil journal), unnoted)
 
--- `noted` says the hint or the remark, by what it found in the events of the work
+-- For `say_hint_or_remark`: if the text is the hint or the remark, by what the work's events lack, and it was said, then the work was noted.
 pub closing_noted : (journal journal' : List Event) (before : ℕ) (prepared : Prepared) (lacks : Bool) (text : List ℕ) (status : ℕ)
     (outcome : Outcome)
     → lacks_program prepared (drop before journal) ≡ lacks → text ≡ closing prepared lacks → IsClosed journal journal' text status outcome
@@ -110,7 +118,7 @@ pub closing_noted : (journal journal' : List Event) (before : ℕ) (prepared : P
 closing_noted journal journal' before prepared lacks text status outcome finds is closes =
     subst (λ t. IsClosed journal journal' t status outcome) (is ∙ ap (closing prepared) (sym finds)) closes
 
--- the events after so many are all that are left: in these `noted` looks for a missing program
+-- The events after so many are all that are left: the hint depends on these alone.
 pub after_all : (prepared : Prepared) (shown journal : List Event) (before : ℕ) → shown ≡ journal
     → lacks_program prepared (drop before journal) ≡ lacks_program prepared (take (length shown - before) (drop before shown))
 after_all prepared shown journal before same =
@@ -132,7 +140,7 @@ no_pipe_in_same journal journal' same before = ap (λ j. pipe_pending (run_of j)
 
 -- a work, and the hint or the remark after it
 
--- `done` counts the events before a work: `noted` may look behind them, since the journal only grows
+-- For `carry_out`: if a work was done after the journal, then that is as long as before at least.
 pub longer_than : (shown journal journal' : List Event) (name : List ℕ) (prepared : Prepared) (status : ℕ) → shown ≡ journal
     → DoesWork name journal journal' prepared.work status → length shown ≤ length journal'
 longer_than shown journal journal' name prepared status same does =
@@ -159,13 +167,13 @@ IsEnd OutOfMemory = ⊥
 IsEnd (Done status) = ⊤
 IsEnd (Unnoted status) = ⊤
 
--- `closed` ends so
+-- For `say_after`: if something was said after a work, or nothing, then the outcome is no lack of memory.
 is_end : {status : ℕ} {text : List ℕ} {outcome : Outcome} {events : List Event} → Closes status text outcome events → IsEnd outcome
 is_end closed = tt
 is_end noted = tt
 is_end unnoted = tt
 
--- `done` does its work whole where it says something after it
+-- For `carry_out`: if a work was done, and then what is said after it, then the two are a whole work.
 pub work_noted : (name : List ℕ) (journal journal' journal'' : List Event) (prepared : Prepared) (status before : ℕ) (outcome : Outcome)
     → before ≡ length journal
     → DoesWork name journal journal' prepared.work status → Noting journal' journal'' before prepared status outcome
@@ -180,21 +188,21 @@ work_noted name journal journal' journal'' prepared status before (Unnoted code)
 
 -- after a text
 
--- `is_empty` says that a text has no bytes
+-- If a text is empty, then its length is 0.
 pub no_bytes : (text : List ℕ) (empty : Bool) → (IsTrue empty ↔ (text ≡ [])) → empty ≡ true → length text ≤ 0
 no_bytes text empty means is = let none = ap length (means.0 is) in omega (arith, none)
 
--- `is_empty` says that a text has bytes
+-- If a text is not empty, then its length is more than 0.
 pub some_bytes : (text : List ℕ) (empty : Bool) → (IsTrue empty ↔ (text ≡ [])) → empty ≡ false → 0 < length text
 some_bytes [] empty means is = absurd (false≢true (sym is ∙ means.1 refl))
 some_bytes (b ∷ text) empty means is = omega (arith)
 
--- `opened` says nothing where it has no text
+-- For `say_before`: if there is no first text, then nothing need be said.
 pub nothing_opened : (journal : List Event) (said : List ℕ) → length said ≤ 0 → IsOpened journal journal said
 nothing_opened journal [] none = ([], silent, sym (append-nil journal))
 nothing_opened journal (b ∷ said) none = absurd (omega (arith, none))
 
--- `opened` says the whole text where it has one
+-- For `say_before`: if there is a first text and it was said, then the call opened with it.
 pub text_opened : (journal journal' : List Event) (said : List ℕ) (answer : TellAnswer) → 0 < length said
     → journal' ≡ journal ++ Say said answer ∷ []
     → IsOpened journal journal' said
@@ -208,7 +216,7 @@ only_says_more silent journal journal' only = subst (λ j. OnlySays j journal') 
 only_says_more (spoken {b} {text} {told}) journal journal' (said, grown, are) =
     (Say (b ∷ text) told ∷ said, grown ∙ append_assoc journal (Say (b ∷ text) told ∷ []) said, are)
 
--- `spoken` does the work after the text, or ends where memory lacked
+-- For `say_and_carry_out`: if the first text was said and then the work done, or memory lacked for it, then that is what a call says and does.
 pub work_spoken : (name : List ℕ) (journal journal' journal'' : List Event) (prepared : Prepared) (said : List ℕ) (outcome : Outcome)
     → said ≡ prepared.said
     → IsOpened journal journal' said → Worked name journal' journal'' prepared outcome → Spoken name journal journal'' prepared outcome
@@ -221,7 +229,7 @@ work_spoken name journal journal' journal'' prepared said (Unnoted status) same 
 
 -- after its variables were set
 
--- `carried_out` hands on what was done after all variables were set
+-- For `carried_out`: if all variables were set and then the text said and the work done, then the line was carried out.
 pub carried : (name : List ℕ) (journal journal' journal'' : List Event) (prepared : Prepared) (children : List Variable)
     (before after : List HostEvent) (outcome : Outcome)
     → children ≡ prepared.children → Noted before after (λ events. events ≡ settings (length journal) children) → journal' ≡ journal
@@ -234,7 +242,7 @@ carried name journal journal' journal'' prepared children before after (Done sta
 carried name journal journal' journal'' prepared children before after (Unnoted status) are (events, grown, set) same does =
     (events, grown, (set ∙ ap (settings (length journal)) are, subst (λ j. OpensWork name j journal'' prepared (Unnoted status)) same does))
 
--- `carried_out` did nothing where memory lacked for a variable
+-- For `carried_out`: if memory lacked for a variable, then nothing was said and nothing done.
 pub nothing_carried : (name : List ℕ) (journal journal' : List Event) (prepared : Prepared) (before after : List HostEvent)
     → Noted before after (λ events. ⊤) → journal' ≡ journal
     → Noted before after (λ events. Carried name journal journal' prepared events OutOfMemory)
@@ -276,7 +284,8 @@ with_notes {journal} {F' = F'} calling own args seed prepared outcome before (re
           (worked opened does.did (comes F' (extends_refl F')) opens does.does does.told);
     }
 
--- `compile_settled` ends as its work does: done, or for lack of memory
+-- For `compile_settled`: if all was prepared and carried out, then the call is `Compiled` with the outcome of its work: done, or for lack
+-- of memory.
 compiled_by : {journal mid journal'' : List Event} {F' : Facts} {first notes notes' notes'' : List HostEvent} (calling : Calling)
     (own : Option (List ℕ)) (args : List (List ℕ)) (seed : ℕ)
     (prepared : Prepared) (outcome : Outcome) → Going journal mid first notes F'
@@ -301,7 +310,7 @@ compiled_by {F' = F'} calling own args seed prepared OutOfMemory before (resolve
   ends = cut_short only.2;
 }
 
--- `compile_settled` carries out what was prepared, in the name of the call
+-- For `compile_settled`: if what was prepared was carried out in the name of the call, then the call is `Compiled`.
 pub compiled_done : {journal mid journal'' : List Event} {F' : Facts} {first notes notes' notes'' : List HostEvent} (calling : Calling)
     (own : Option (List ℕ)) (args : List (List ℕ)) (seed : ℕ)
     (prepared : Prepared) (name : List ℕ) (outcome : Outcome) → name ≡ calling.name → Going journal mid first notes F'
@@ -317,7 +326,7 @@ compiled_done {mid = mid} {journal'' = journal''} {notes' = notes'}
 abbrev pub Declined : Facts → Calling → Option (List ℕ) → List (List ℕ) → ℕ → Stop → List HostEvent → Type 0
 Declined F' calling own args seed stop events = (G : Facts) → Extends F' G → IfTold stop (Refuses G calling own args seed events)
 
--- `stopped` says that text with the status 1
+-- For `say_stop`: if a refusal was said with the status 1, then the call is `Compiled` with it.
 refusal_said : {journal mid journal'' : List Event} {F' : Facts} {first notes notes' : List HostEvent} (calling : Calling)
     (own : Option (List ℕ)) (args : List (List ℕ)) (seed : ℕ)
     (text : List ℕ) (status : ℕ) → Going journal mid first notes F' → Noted notes notes' (Declined F' calling own args seed (Told text))
@@ -339,7 +348,7 @@ refusal_said {journal} {F' = F'} {first = first} calling own args seed text stat
           (refused (refuses F' (extends_refl F')));
     }
 
--- `stopped` says the refusal, or nothing where memory lacked: both are ends of a call
+-- For `say_stop`: if a refusal was said, or memory lacked and nothing was, then the call is `Compiled`.
 pub compiled_stopped : {journal mid journal'' : List Event} {F' : Facts} {first notes notes' : List HostEvent} (calling : Calling)
     (own : Option (List ℕ)) (args : List (List ℕ)) (seed : ℕ)
     (stop : Stop) (outcome : Outcome) → Going journal mid first notes F' → Noted notes notes' (Declined F' calling own args seed stop)
@@ -365,7 +374,7 @@ compiled_stopped {journal} {F' = F'} {first = first} calling own args seed stop 
 
 -- memory lacked before
 
--- `compile` ends without facts where memory lacked for the folder of temporaries
+-- For `compile`: if memory lacked for the folder of temporaries, then the call is `Compiled` without facts.
 pub compiled_by_none : {journal mid : List Event} {notes notes' : List HostEvent} (calling : Calling) (own : Option (List ℕ))
     (args : List (List ℕ)) (seed : ℕ)
     → BeginsToGo journal mid notes notes' → Compiled journal mid notes notes' calling own args seed OutOfMemory

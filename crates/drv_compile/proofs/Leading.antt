@@ -14,14 +14,18 @@ use Rattle.drv_compile.specs.declared.tasks.Task.TheVariants.{Compilation, Quest
 use Rattle.std.proofs.Common.{◌≡◌, ◌∙◌, Err, IfOk, List, [], None, Ok, Option, Result, Some, ap, subst, sym, ℕ}
 
 -- For the functions of `tasks` (src/tasks.rt): what a call does by the answer to its line.
+-- Names: `calling` is the program's name and machine. `specs` is the path of the spec file. `around` is the compiler and its folders.
+-- `reading` is what was read of the line: its answer and the known names. `decision` is what the line is decided to be. `text` is the text
+-- of a refusal. `slice`, `place`, `name` and `known` are parts of these, as the code lends them. `Leads decision task`: the decision leads
+-- to that task. `Declines calling decision text`: it is refused with that text (specs/Tasks).
 
--- `task_by` makes a question of such an answer
+-- For `task_by`: if the answer is a question, then the line leads to a question for the compiler.
 pub answer_asks : (specs : List ℕ) (around : Surroundings) (reading : Reading) → reading.answer ≡ Ask
     → Leads (Read specs around reading) (Question specs around.compiler)
 answer_asks specs around reading is = subst (λ a. Leads (Read specs around (record { known = reading.known; answer = a }))
     (Question specs around.compiler)) (sym is) asks
 
--- a line that is carried out of another
+-- If the answer is a line that is carried out, then the line leads to its compilation.
 pub answer_runs : (specs : List ℕ) (around : Surroundings) (reading : Reading) (call : Call) → reading.answer ≡ Run call
     → Leads (Read specs around reading) (Compilation (record { specs = specs; around = around; known = reading.known }) call)
 answer_runs specs around reading call is =
@@ -29,7 +33,7 @@ answer_runs specs around reading call is =
     (Compilation (record { specs = specs; around = around; known = reading.known }) call))
     (sym is) runs
 
--- `task_by` tells the refusals of a line that is refused
+-- For `task_by`: if the answer is refusals, and the text has them all, then that text declines the line.
 pub answer_refused : (calling : Calling) (specs : List ℕ) (around : Surroundings) (reading : Reading) (refusals slice : List Refusal)
     (name known text : List ℕ)
     → reading.answer ≡ Refuse refusals → name ≡ calling.name → known ≡ reading.known → slice ≡ refusals
@@ -42,7 +46,7 @@ answer_refused calling specs around reading refusals slice name known text is na
 
 -- the text where there is no spec file
 
--- `without_specs` names the file that should be there
+-- For `without_specs`: if the spec file isn't there, then the text that names it declines the line.
 pub specs_declined : {E : Type 0} (calling : Calling) (given : Option (List ℕ)) (path place : List ℕ)
     (result : Result (List ℕ) E) → given ≡ Some path
     → place ≡ path → IfOk result (λ text. text ≡ no_specs_text calling.name place calling.machine)
@@ -53,7 +57,7 @@ specs_declined calling given path place (Ok text) some placed is =
     (subst (λ t. Declines calling (NoSpecs (Some path)) t)
     (sym (is ∙ ap (λ p. no_specs_text calling.name p calling.machine) placed)) no_specs)
 
--- `without_specs` says that the place of the spec file isn't known
+-- For `without_specs`: if the place of the spec file isn't known, then the text that says so declines the line.
 pub place_declined : {E : Type 0} (calling : Calling) (given : Option (List ℕ)) (name : List ℕ) (result : Result (List ℕ) E) → given ≡ None
     → name ≡ calling.name
     → IfOk result (λ text. text ≡ no_place_text name) → IfOk result (λ text. Declines calling (NoSpecs given) text)
@@ -64,7 +68,7 @@ place_declined calling given name (Ok text) none named is =
 
 -- Refusals for lack of a compiler or of a whole file.
 
--- `task_of` lends the parts of the call to the text about the compiler
+-- For `task_of`: if no compiler is named beside the spec file, then the text about that declines the line.
 pub compiler_declined : (calling : Calling) (decision : Decision) (specs slice text : List ℕ) → decision ≡ NoCompiler specs
     → slice ≡ specs → text ≡ no_compiler_text calling.name slice calling.machine → Declines calling decision text
 compiler_declined calling decision specs slice text decided same is =
@@ -72,7 +76,7 @@ compiler_declined calling decision specs slice text decided same is =
     (subst (λ t. Declines calling (NoCompiler specs) t)
     (sym (is ∙ ap (λ s. no_compiler_text calling.name s calling.machine) same)) no_compiler)
 
--- `task_of` lends the parts of the call to the text about a file that isn't whole
+-- For `task_of`: if a file of the line isn't whole, then the text about that declines the line.
 pub damaged_declined : (calling : Calling) (decision : Decision) (specs path slice place text : List ℕ)
     → decision ≡ Damaged specs path → slice ≡ specs
     → place ≡ path → text ≡ damaged_text calling.name place slice calling.machine → Declines calling decision text

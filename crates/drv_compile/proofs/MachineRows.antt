@@ -10,6 +10,9 @@ use Rattle.std.specs.List.{flat_map, list_any, starts_with}
 
 -- For the rows for machines (src/machines.rt): a text that has neither rows nor a suffix leaves a line as it is, so `for_machines` may
 -- leave that text out.
+-- Names: `one` and `other` are the two keys. `all` is the lines of a text. `text` is the text of the rows. `found` says whether a line
+-- begins with one of the keys. `items` is the items of the line. `begins_with` tests one line for both keys (specs/Code/CutLines).
+-- `value_in key` is what follows the key in a line. `row_of` is the row of a line, and `suffixed_by` its items with the suffix of programs.
 
 -- what `has_either` says of a line and the rest, it says of each key
 neither : (a b c : Bool) → ((a || b) || c) ≡ false → (a ≡ false) × (b ≡ false) × (c ≡ false)
@@ -32,14 +35,14 @@ no_second one other (line ∷ all) none =
     let parts = neither (starts_with nat_eq line one) (starts_with nat_eq line other) (list_any (begins_with one other) all) none in
     rw parts.1 (no_second one other all parts.2)
 
--- `for_machines` leaves out a text without such lines: the rows change nothing
+-- For `for_machines`: if a text has neither rows nor a suffix, then leaving it out changes no row of a line.
 pub rows_left_out : (text : List ℕ) (found : Bool) (items : List Item)
     → found ≡ list_any (begins_with (codes "machine") (codes "suffix ")) (lines text) → found ≡ false
     → row_of None items ≡ row_of (Some text) items
 rows_left_out text found items is none =
     sym (ap (λ found. by_rows text items (first_of found)) (no_first (codes "machine") (codes "suffix ") (lines text) (sym is ∙ none)))
 
--- `for_machines` leaves out a text without such lines: the suffix changes nothing
+-- For `for_machines`: if a text has neither rows nor a suffix, then leaving it out changes no item.
 pub suffix_left_out : (text : List ℕ) (found : Bool) (items : List Item)
     → found ≡ list_any (begins_with (codes "machine") (codes "suffix ")) (lines text) → found ≡ false
     → suffixed_by None items ≡ suffixed_by (Some text) items

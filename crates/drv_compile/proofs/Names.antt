@@ -30,6 +30,12 @@ use Rattle.std.specs.Option.{option_and_then, unwrap_or}
 use Rattle.std.specs.Prelude.{get_or}
 
 -- For the reading of a line (src/reading.rt and src/naming.rt): the names that its files list, and the answer by them.
+-- Names: `F` is what is known of the outside. `specs` is the path of the spec file. `words` is the words of the line, and `items` the same
+-- as items. `around` is the compiler and its folders. `known` is the text of options beyond the table. `names` and `named` are names that
+-- files list. `files` is the spec files of the line, and `file` the one at index `i`. `done` and `after` are the names before that file and
+-- after it. `answer` is the answer to the line, `refusals` what it refuses, and `slice` a list as the code lends it. `result` is what the
+-- code's call gives. `Adds names before after`: these names were added (drv_search). `items_of`, `answer_of` and `front_of` are drv_cc's:
+-- the items of words, and the answer by items and by words. `known_answer`, `refused_answer` and `read_beside` are in specs/Reading.
 
 -- the names so far, and then others
 abbrev pub after_names : List (List ℕ) → Known (List (List ℕ)) → Known (List (List ℕ))
@@ -41,7 +47,7 @@ following_more : (done after names : List (List ℕ)) (others : Known (List (Lis
 following_more done after names Unasked is = refl
 following_more done after names (Is rest) is = rw (is, append_assoc) refl
 
--- `files_names` begins with no name
+-- If no names are there yet, all of them are still to come: so `files_names` begins.
 pub names_begin : (others : Known (List (List ℕ))) → after_names [] others ≡ others
 names_begin Unasked = refl
 names_begin (Is names) = refl
@@ -109,7 +115,7 @@ ended F known around words Ask not_refused = refl
 ended F known around words (Refuse refusals) not_refused = absurd (not_refused refusals refl)
 ended F known around words (Run call) not_refused = refl
 
--- `known_answer` takes the first answer where that is no refusal
+-- For `known_answer`: if the first answer is no refusal, then it is the answer.
 pub known_ended : (F : Facts) (known : List ℕ) (around : Surroundings) (words : List (List ℕ)) (items : List Read) (answer : Answer)
     → items ≡ items_of known None words → answer ≡ answer_of [] around items → ((refusals : List Refusal) → answer ≡ Refuse refusals → ⊥)
     → known_answer F known around words ≡ Is answer
@@ -117,7 +123,7 @@ known_ended F known around words items answer items_are is not_refused =
     ap (or_by_files F known around words) (ap (answer_of [] around) (sym items_are) ∙ sym is)
     ∙ ended F known around words answer not_refused
 
--- `known_answer` reads the spec files of a line that is refused at first
+-- For `known_answer`: if the line is refused at first, then the answer by its spec files is the answer.
 pub known_refused : {E : Type 0} (F : Facts) (known : List ℕ) (around : Surroundings) (words : List (List ℕ)) (items : List Read)
     (answer : Answer)
     (refusals slice : List Refusal) (result : Result Answer E) → items ≡ items_of known None words → answer ≡ answer_of [] around items
@@ -147,7 +153,7 @@ or_nothing Unasked = []
 or_nothing (Is None) = []
 or_nothing (Is (Some xs)) = xs
 
--- `items_in` reads the words again by the names in a whole file
+-- For `items_in`: if the file of names was read and is whole, then the items by its names are those that the definition has.
 pub whole_named : (words : List (List ℕ)) (answer : ReadAnswer) (text slice : List ℕ) (found : Option (List ℕ)) (names : List ℕ)
     (named : List Read)
     → answer ≡ read_answer.Read text → slice ≡ text → found ≡ whole_lines slice → found ≡ Some names → named ≡ items_of names None words
@@ -156,7 +162,7 @@ whole_named words answer text slice found names named is same seen some named_is
     ap Some named_is ∙ ap (items_named words) (sym some ∙ seen ∙ ap whole_lines same)
     ∙ ap (λ a. items_named words (option_and_then whole_lines (bytes_read a))) (sym is)
 
--- `items_at` takes that file if it is a plain one
+-- For `items_at`: if the path is a plain file and was read, then the result is the items by its names.
 pub items_read_at : {E : Type 0} (F : Facts) (path : List ℕ) (words : List (List ℕ)) (kind : PathKind) (answer : ReadAnswer)
     (result : Result (Option (List Read)) E)
     → is_plain kind ≡ true → kind_of F path ≡ Some kind → read_of F path ≡ Some answer
@@ -165,24 +171,25 @@ pub items_read_at : {E : Type 0} (F : Facts) (path : List ℕ) (words : List (Li
 items_read_at F path words kind answer (Ok named) plain known read is = rw (known, plain, read, is) refl
 items_read_at F path words kind answer (Err e) plain known read is = tt
 
--- `items_beside` takes the one beside the spec file
+-- For `items_beside`: if the path is that beside the spec file, then the items by it are those beside the spec file.
 pub items_known : {E : Type 0} (F : Facts) (specs path : List ℕ) (words : List (List ℕ)) (result : Result (Option (List Read)) E)
     → path ≡ companion specs (codes ".options")
     → IfOk result (λ named. items_at F path words ≡ Is named) → IfOk result (λ named. items_beside F specs words ≡ Is named)
 items_known F specs path words (Ok named) is read = ap (λ p. items_at F p words) (sym is) ∙ read
 items_known F specs path words (Err e) is read = tt
 
--- `names_kept` reads the names again where the answer needs them, and finds them there
+-- For `names_kept`: if the answer needs the names again, then those that were found are those that it keeps.
 pub kept_so : (F : Facts) (specs : List ℕ) (answer : Answer) (known : List ℕ) (found : Option (List ℕ)) (names : List ℕ)
     → reads_again answer ≡ true
     → known_names F specs ≡ Is (Some known) → known_names F specs ≡ Is found → names ≡ unwrap_or found [] → names ≡ kept answer known
 kept_so F specs answer known found names reads some is names_are = rw reads (names_are ∙ from_found found ∙ ap or_nothing (sym is ∙ some))
   where
+    -- Plan: `from_found` says that no names are the names of nothing.
     from_found : (found : Option (List ℕ)) → unwrap_or found [] ≡ or_nothing (Is found)
     from_found None = refl
     from_found (Some xs) = refl
 
--- `read_by` answers by the items that it read with the names
+-- For `read_by`: if the items were read by the names beside the spec file, then the answer by them is the line's reading.
 pub read_named : (F : Facts) (specs : List ℕ) (around : Surroundings) (words : List (List ℕ)) (named : Option (List Read))
     (items : List Read) (answer : Answer) (names : List ℕ)
     → items_beside F specs words ≡ Is named → named ≡ Some items
@@ -191,6 +198,7 @@ pub read_named : (F : Facts) (specs : List ℕ) (around : Surroundings) (words :
     → read_beside F specs around words ≡ Is (Some (record { known = names; answer = answer }))
 read_named F specs around words named items answer names asked some answers keeps = by (known_names F specs) refl asked
   where
+    -- Plan: `by` goes by whether the names beside the spec file were asked for, and whether that file is whole.
     by : (found : Known (Option (List ℕ))) → known_names F specs ≡ found → (found >>= λ known. Is (items_named words known)) ≡ Is named
         → (found >>= λ known. read_by F around words known) ≡ Is (Some (record { known = names; answer = answer }))
     by Unasked is none = absurd (false≢true (ap is_there (none ∙ ap Is some)))
@@ -200,11 +208,12 @@ read_named F specs around words named items answer names asked some answers keep
         (answers known (sym (ap or_nothing (there ∙ ap Is some))))
         ∙ ap (λ n. Is (Some (record { known = n; answer = answer }))) (sym (keeps known is))
 
--- `read_by` has no answer where the file with the names isn't whole
+-- For `read_by`: if the file with the names isn't whole, then the line has no reading.
 pub read_unnamed : (F : Facts) (specs : List ℕ) (around : Surroundings) (words : List (List ℕ)) (named : Option (List Read))
     → items_beside F specs words ≡ Is named → named ≡ None → read_beside F specs around words ≡ Is None
 read_unnamed F specs around words named asked none = by (known_names F specs) asked
   where
+    -- Plan: `by` goes by whether the names beside the spec file were asked for, and whether that file is whole.
     by : (found : Known (Option (List ℕ))) → (found >>= λ known. Is (items_named words known)) ≡ Is named
         → (found >>= λ known. read_by F around words known) ≡ Is None
     by Unasked is = absurd (false≢true (ap is_asked is))

@@ -10,6 +10,9 @@ use Rattle.std.proofs.lemmas.List.{append-nil}
 use Rattle.std.specs.Prelude.{MatchResult}
 
 -- For the functions that ask the host (src/row_asking.rt, src/driving.rt, src/preparing.rt): what was noted, from step to step.
+-- Names: `before`, `mid` and `after` are the host's events before a step, after it, and after the next. `events` is what was added. `what`,
+-- `one` and `two` are claims on events. `done` is a claim on the value of a step, and `told` one on its text. `knows` says which facts the
+-- call has. `Noted before after P`: events were added, of which P holds.
 
 -- nothing was noted
 pub none_noted : (notes : List HostEvent) (what : List HostEvent → Type 0) → what [] → Noted notes notes what
@@ -27,7 +30,7 @@ pub noted_then : (before mid after : List HostEvent) (one two what : List HostEv
 noted_then before mid after one two what turns (events, grown, is) (more, grown', is') =
     (events ++ more, grown' ∙ ap (λ n. n ++ more) grown ∙ append_assoc before events more, turns events more is is')
 
--- a step that notes what it asked hands on that memory lacked
+-- If a step noted what it asked, and memory lacked, then any claim on its work or its text holds: it has neither.
 pub memory_noted : {X : Type 0} (before after : List HostEvent) (what : List HostEvent → Type 0) (result : Result X Stop)
     (done : List HostEvent → X → Type 0)
     (told : List HostEvent → List ℕ → Type 0) → Noted before after what → IsErrAnd result (λ s. s ≡ Memory)

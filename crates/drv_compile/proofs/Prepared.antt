@@ -35,7 +35,17 @@ use Rattle.std.proofs.Common.{inl, inr, refl, subst, sym, true, ℕ}
 use Rattle.std.proofs.lemmas.Bool.{false≢true}
 use Rattle.std.specs.Prelude.{MatchResult, is_some}
 
--- For `prepared` (src/preparing.rt): what a call does, from step to step.
+-- For `prepare` (src/preparing.rt): what a call does, from step to step.
+-- Names: `F` is what is known of the outside, and `knows` says which facts the call has. `line` is the line of gcc: its `request` is what
+-- the call is given, its `given` the words, and its `chain` the spec file, the compiler and the known names. `call` is what the front made
+-- of it: `inputs`, `output`, items. `calling`, `own`, `args` and `seed` are what the call is given. `slice` is a list, and `specs`, `lent`
+-- or `name` a text, as the code lends it. `events`, `read` and `asked` are what the host was asked. `before`, `mid` and `after` are its
+-- notes before a step and after each. `prepared` is what the call has to do. `stop` is why it ends, and `result` what the code's call
+-- gives. `Noted before after P`: events were added, of which P holds. `IfTold stop P`: P holds of the stop's text, if it has one.
+-- `MatchResult result P Q`: P holds of the value, or Q of the fault. `IsErrAnd result P`: there is a fault, of which P holds. `objection`
+-- is what speaks against a line, and `Overwrites` says whether its output is an input (specs/Inputs). `IsPrepared`, `IsUnplanned`, `IsDone`
+-- and `IsUndone` are in specs/Code/Preparing. `Comes` and `Refuses` are the whole call: what it has to do, or the text of its refusal
+-- (specs/Compiles).
 
 -- an output that is an input, or none
 
@@ -46,10 +56,11 @@ none_is_read no_output none = refl
 none_is_read new_output none = refl
 none_is_read (old_output reaches) none = absurd (some_is_none none)
   where
+    -- Plan: `some_is_none` says that no output can't be an output.
     some_is_none : {path : List ℕ} → Some path ≡ None → ⊥
     some_is_none is = absurd (false≢true (sym (ap is_some is)))
 
--- `refuse_overwriting` lets pass a line without an output
+-- For `refuse_overwriting`: if the line has no output, then it overwrites nothing.
 pub no_overwriting : (slice inputs : List (List ℕ)) (given : Option (List ℕ)) (found : Bool) (before after : List HostEvent)
     → slice ≡ inputs → given ≡ None
     → Noted before after (λ events. Overwrites slice given events found)
@@ -61,7 +72,7 @@ no_overwriting slice inputs given found before after same none (events, grown, o
       (subst (λ f. Overwrites slice given events f) (none_is_read overwrites (ap file_of none)) overwrites),
 )
 
--- `refuse_overwriting` lets pass a line whose output is no input
+-- For `refuse_overwriting`: if no input leads to the output, then the line overwrites nothing.
 pub not_overwriting : (slice inputs : List (List ℕ)) (given : Option (List ℕ)) (found : Bool) (before after : List HostEvent)
     → slice ≡ inputs → found ≡ false
     → Noted before after (λ events. Overwrites slice given events found)
@@ -69,7 +80,7 @@ pub not_overwriting : (slice inputs : List (List ℕ)) (given : Option (List ℕ
 not_overwriting slice inputs given found before after same is (events, grown, overwrites) =
     (events, grown, subst (λ xs. Overwrites xs given events false) same (subst (λ f. Overwrites slice given events f) is overwrites))
 
--- `refuse_overwriting` refuses a line whose output is an input, by the name of its output
+-- For `refuse_overwriting`: if the output is an input, then the text with the output's name says so.
 pub overwriting_told : (name text output slice : List ℕ) (call : Call) (inputs : List (List ℕ)) (found : Bool)
     (before after : List HostEvent) → call.output ≡ Some output
     → slice ≡ output → inputs ≡ call.inputs → found ≡ true → Noted before after (λ events. Overwrites inputs call.output events found)
@@ -88,7 +99,8 @@ overwriting_told name text output slice call inputs found before after some same
 
 -- the steps of a line
 
--- `compilation` carries out a line that nothing speaks against, or refuses it as its plan is refused
+-- For `compilation`: if nothing speaks against the line, then what is prepared for it is done, and why nothing is prepared is why it is
+-- refused.
 fails_planned : (F : Facts) (line : GccLine) (call : Call) (read asked : List HostEvent) (result : Result Prepared Stop)
     → objection F line.request.now.calling.now.name call.inputs ≡ Is [] → Overwrites call.inputs call.output read false
     → MatchResult result (λ prepared. IsPrepared F line call asked prepared) (λ stop. IfTold stop (IsUnplanned F line call asked))
@@ -99,11 +111,12 @@ fails_planned F line call read asked (Ok prepared) free apart (inr (options, wor
 fails_planned F line call read asked (Err stop) free apart unplanned =
     told_as stop (IsUnplanned F line call asked) (IsUndone F line call (read ++ asked)) by unplanned
   where
+    -- Plan: `by` turns each reason why nothing is prepared into one why the line is refused.
     by : (text : List ℕ) → IsUnplanned F line call asked text → IsUndone F line call (read ++ asked) text
     by text (inl un) = undriven free apart un
     by text (inr (driven, works, (refusal, stops, said))) = stopped free apart works stops said
 
--- `compilation` refuses a line that something speaks against, by that text
+-- For `compilation`: if something speaks against the line, then the text of that is its refusal.
 pub objected_as : (F : Facts) (line : GccLine) (call : Call) (name text : List ℕ) (inputs : List (List ℕ)) (found : Bool)
     → name ≡ line.request.now.calling.now.name → inputs ≡ call.inputs
     → objection F name inputs ≡ Is text → IsTrue found ↔ (text ≡ []) → found ≡ false
@@ -112,7 +125,7 @@ objected_as F line call name [] inputs found named are is empty not = absurd (fa
 objected_as F line call name (b ∷ text) inputs found named are is empty not =
     objected (ap (objection F line.request.now.calling.now.name) (sym are) ∙ ap (λ n. objection F n inputs) (sym named) ∙ is)
 
--- `compilation` goes on where nothing speaks against a line
+-- For `compilation`: if the text of what speaks against the line is empty, then nothing does.
 pub free_as : (F : Facts) (line : GccLine) (call : Call) (name text : List ℕ) (inputs : List (List ℕ)) (found : Bool)
     → name ≡ line.request.now.calling.now.name → inputs ≡ call.inputs
     → objection F name inputs ≡ Is text → IsTrue found ↔ (text ≡ []) → found ≡ true
@@ -120,7 +133,7 @@ pub free_as : (F : Facts) (line : GccLine) (call : Call) (name text : List ℕ) 
 free_as F line call name text inputs found named are is empty so =
     ap (objection F line.request.now.calling.now.name) (sym are) ∙ ap (λ n. objection F n inputs) (sym named) ∙ is ∙ ap Is (empty.0 so)
 
--- `compilation` refuses a line whose output is an input: nothing else spoke against that
+-- For `compilation`: if the output is an input, and nothing else speaks against the line, then the line is refused by the text about that.
 pub overwriting_fails : (line : GccLine) (name : List ℕ) (call : Call) (stop : Stop) (before after : List HostEvent)
     (result : Result Prepared Stop) (knows : Facts → Type 0) → name ≡ line.request.now.calling.now.name → IsErrAnd result (λ s. s ≡ stop)
     → ((F : Facts) → knows F → objection F line.request.now.calling.now.name call.inputs ≡ Is [])
@@ -135,12 +148,14 @@ overwriting_fails line name call stop before after result knows named is free (e
       (told_as stop (IsOverwriting name call events) (IsUndone F line call events) (by F k) tells),
 )
   where
+    -- Plan: `by` says that for each text about an overwritten input.
     by : (F : Facts) → knows F → (text : List ℕ) → IsOverwriting name call events text → IsUndone F line call events text
     by F k text (output, some, overwrites, same_text) =
         subst (λ t. IsUndone F line call events t) (sym (same_text ∙ ap (λ n. overwritten_text n output) named))
         (overwriting (free F k) some overwrites)
 
--- `compilation` notes what it asked the host for its files, and then for its row, and carries the line out
+-- For `compilation`: if the host was asked for the files of the line and then for its row, then the line is done, or refused, by the events
+-- of both.
 pub performs_noted : (line : GccLine) (call : Call) (before mid after : List HostEvent) (result : Result Prepared Stop)
     (knows : Facts → Type 0)
     → ((F : Facts) → knows F → objection F line.request.now.calling.now.name call.inputs ≡ Is [])
@@ -159,7 +174,7 @@ performs_noted line call before mid after result knows free =
 
 -- the work of a line
 
--- `prepare_plan` makes what is done of the parts of what the driver is called with
+-- For `prepare_plan`: if each part is that of what the driver is called with, then the record of them is what the definition plans.
 pub planned_so : (F : Facts) (line : GccLine) (driven : Driven) (specs wrapper said hint remark : List ℕ) (items : List Item)
     (children : List Variable) (work : Work) → specs ≡ line.chain.specs → items ≡ driven.line.items → children ≡ driven.children
     → wrapper ≡ wrapper_of items → opening F specs items children ≡ Is said → Works F driven.line line.request.now.seed work
@@ -185,7 +200,7 @@ planned_so F line driven specs wrapper said hint remark items children work same
       remark = none;
     }
 
--- `prepare_plan` refuses a line by the name that it lends
+-- For `prepare_plan`: if the stop says the refusal by the code's copy of the name, then the line of the driver fails with that text.
 pub failed_so : (F : Facts) (line : GccLine) (driven : Driven) (name : List ℕ) (stop : Stop) (result : Result Prepared Stop)
     → name ≡ line.request.now.calling.now.name
     → IsErrAnd result (λ s. s ≡ stop) → IfTold stop (IsFailure F name driven.line line.request.now.seed)
@@ -196,7 +211,7 @@ failed_so F line driven name stop result named is tells =
     (IsFailure F line.request.now.calling.now.name driven.line line.request.now.seed) is
     (subst (λ n. IfTold stop (IsFailure F n driven.line line.request.now.seed)) named tells)
 
--- `prepare_line` hands on why nobody carries a line out
+-- For `prepare_line`: if nobody carries the line out, and the stop says why, then nothing is prepared, for that reason.
 pub undriven_plan : (F : Facts) (line : GccLine) (call : Call) (events : List HostEvent) (stop : Stop) (result : Result Prepared Stop)
     → IsErrAnd result (λ s. s ≡ stop) → IfTold stop (Undriven F line.request.now.calling.now line.chain call line.given events)
     → MatchResult result (λ prepared. IsPrepared F line call events prepared) (λ s. IfTold s (IsUnplanned F line call events))
@@ -205,7 +220,7 @@ undriven_plan F line call events stop result is tells =
     (told_as stop (Undriven F line.request.now.calling.now line.chain call line.given events) (IsUnplanned F line call events)
     (λ text un. inl un) tells)
 
--- `prepare_line` lets the driver carry the line out
+-- For `prepare_line`: if the driver carries the line out, then what is planned for it is prepared.
 pub prepared_by_driver : (F : Facts) (line : GccLine) (call : Call) (events : List HostEvent) (worker : Worker) (driven : Driven)
     (result : Result Prepared Stop)
     → IsWorker F line.chain call line.given events worker → worker ≡ Driver driven
@@ -218,7 +233,7 @@ prepared_by_driver F line call events worker driven (Err stop) works is tells =
     told_as stop (IsFailure F line.request.now.calling.now.name driven.line line.request.now.seed) (IsUnplanned F line call events)
     (λ text un. inr (driven, subst (IsWorker F line.chain call line.given events) is works, un)) tells
 
--- `prepare_line` lets the compiler carry the line out
+-- For `prepare_line`: if the compiler carries the line out, then handing it on is prepared.
 pub prepared_by_compiler : (F : Facts) (line : GccLine) (call : Call) (events : List HostEvent) (worker : Worker) (options slice : List ℕ)
     (prepared : Prepared)
     → IsWorker F line.chain call line.given events worker → worker ≡ Compiler options → slice ≡ options
@@ -233,7 +248,7 @@ prepared_by_compiler F line call events worker options slice prepared works is s
 
 -- the whole
 
--- `prepare` asks the compiler, by the bytes of the spec file's path
+-- For `prepare`: if the decision leads to a question, then asking the compiler is what the call has to do.
 pub question_comes : (F : Facts) (calling : Calling) (own : Option (List ℕ)) (args : List (List ℕ)) (seed : ℕ) (words : Expanded)
     (slice : List (List ℕ)) (decision : Decision) (task : Task) (specs lent compiler : List ℕ) (prepared : Prepared)
     → slice ≡ words.words → Words F calling args words → decide F own slice ≡ Is decision → Leads decision task
@@ -243,7 +258,7 @@ question_comes F calling own args seed words slice decision task specs lent comp
     subst (λ p. Comes F calling own args seed [] p) (sym (subst (λ s. IsQuestion calling s compiler args prepared) at asked))
     (asks gives (ap (decide F own) (sym same) ∙ decides) (subst (Leads decision) is leads))
 
--- what a line's words lead to is what its call leads to
+-- If the decision leads to a compilation, then doing the line, or refusing it, is what the call has to do.
 line_comes : (F : Facts) (line : GccLine) (call : Call) (own : Option (List ℕ)) (decision : Decision) (events : List HostEvent)
     (result : Result Prepared Stop) → Words F line.request.now.calling.now line.request.now.args.now line.given
     → decide F own line.given.words ≡ Is decision
@@ -258,7 +273,7 @@ line_comes F line call own decision events (Err stop) gives decides leads tells 
     (Refuses F line.request.now.calling.now own line.request.now.args.now line.request.now.seed events)
     (λ text is. fails gives decides leads is) tells
 
--- `prepare` carries the line out that the decision leads to
+-- For `prepare`: the same over all facts that `knows` describes, by the events of the compilation.
 pub compilation_comes : (line : GccLine) (call : Call) (own : Option (List ℕ)) (slice : List (List ℕ)) (decision : Decision) (task : Task)
     (before after : List HostEvent) (result : Result Prepared Stop) (knows : Facts → Type 0) → slice ≡ line.given.words
     → ((F : Facts) → knows F → Words F line.request.now.calling.now line.request.now.args.now line.given)
@@ -276,13 +291,13 @@ compilation_comes line call own slice decision task before after result knows sa
       (subst (Leads decision) is leads) (done F k),
 )
 
--- `prepare` hands on why the words are refused
+-- For `prepare`: if the words are refused, then the call is, and the host was asked nothing.
 pub words_refused : (F : Facts) (calling : Calling) (own : Option (List ℕ)) (args : List (List ℕ)) (seed : ℕ) (stop : Stop)
     → IfTold stop (RefusesWords F calling args) → IfTold stop (Refuses F calling own args seed [])
 words_refused F calling own args seed stop tells =
     told_as stop (RefusesWords F calling args) (Refuses F calling own args seed []) (λ text is. no_words is) tells
 
--- `prepare` hands on why the decision refuses the line
+-- For `prepare`: if the decision declines the line, then the call is refused, and the host was asked nothing.
 pub decision_declined : (F : Facts) (calling : Calling) (own : Option (List ℕ)) (args : List (List ℕ)) (seed : ℕ) (words : Expanded)
     (decision : Decision) (stop : Stop)
     → Words F calling args words → decide F own words.words ≡ Is decision → IfTold stop (Declines calling decision)
@@ -290,7 +305,7 @@ pub decision_declined : (F : Facts) (calling : Calling) (own : Option (List ℕ)
 decision_declined F calling own args seed words decision stop gives decides tells =
     told_as stop (Declines calling decision) (Refuses F calling own args seed []) (λ text is. declines gives decides is) tells
 
--- words that are refused end it: the host was asked nothing
+-- If a step ends for the words, then the call is refused with that text.
 pub words_stop : (F : Facts) (calling : Calling) (own : Option (List ℕ)) (args : List (List ℕ)) (seed : ℕ) (stop : Stop)
     (result : Result Prepared Stop) → IsErrAnd result (λ s. s ≡ stop)
     → IfTold stop (RefusesWords F calling args)
@@ -299,7 +314,7 @@ words_stop F calling own args seed stop result is tells =
     stop_stays result stop (λ prepared. Comes F calling own args seed [] prepared) (Refuses F calling own args seed []) is
     (words_refused F calling own args seed stop tells)
 
--- a decision that leads to no task ends it likewise
+-- If a step ends for the decision, then the call is refused with that text.
 pub decision_stops : (F : Facts) (calling : Calling) (own : Option (List ℕ)) (args : List (List ℕ)) (seed : ℕ) (words : Expanded)
     (slice : List (List ℕ)) (decision : Decision) (stop : Stop)
     (result : Result Prepared Stop) → slice ≡ words.words → Words F calling args words → decide F own slice ≡ Is decision

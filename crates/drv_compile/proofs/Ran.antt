@@ -23,6 +23,10 @@ use Rattle.std.proofs.Common.{◌≡◌, ◌⊎◌, Err, IsErrAnd, Ok, Result, f
 use Rattle.std.specs.Prelude.{MatchResult}
 
 -- For a line that is carried out (src/running.rt): how items of the driver's line end a call.
+-- Names: `F` is what is known of the outside. `own` is what the driver is called with: items. `line` is the same as a line. `set` is its
+-- spec texts. `seed` is that for the names of temporaries. `fault` is why a step is refused. `result` is what the code's call gives: the
+-- work, or how the call ends. `IsErrAnd result P`: there is a fault, of which P holds. `line_given`, `specs_of` and `has_several` are the
+-- steps of the definition (specs/Runs), and `Stops` says how it ends. `stopped_by_args` and its like turn a fault into an ending (drv_run).
 
 -- what a line with its specs gives
 abbrev pub Worked : Facts → Line → Set → ℕ → Result Work Ending → Type 0
@@ -49,7 +53,7 @@ pub memory_ends : (F : Facts) (own : DriverLine) (seed : ℕ) (result : Result W
     → Comes F own seed result
 memory_ends F own seed result is = ended_as F own seed ending.OutOfMemory result is lacks_memory
 
--- the ending is what `line_given` answers: the refusal of a line, or lack of memory
+-- If the line is refused, or memory lacked, then the items end so.
 pub reading_ends : (F : Facts) (own : DriverLine) (seed : ℕ) (fault : ArgsFault) (result : Result Work Ending)
     → IsErrAnd result (λ e. e ≡ stopped_by_args fault)
     → (fault ≡ args_fault.Memory) ⊎ (line_given own ≡ Err fault) → Comes F own seed result
@@ -61,7 +65,7 @@ specs_stop : (F : Facts) (own : DriverLine) (seed : ℕ) (line : Line) (fault : 
 specs_stop F own seed line fault reads (inl memory) = subst (λ f. Stops F own seed (stopped_by_specs f)) (sym memory) lacks_memory
 specs_stop F own seed line fault reads (inr is) = not_loaded reads is
 
--- the ending is what `specs_of` answers: the refusal of a spec file, or lack of memory
+-- If a spec file is refused, or memory lacked, then the items end so.
 pub loading_ends : (F : Facts) (own : DriverLine) (seed : ℕ) (line : Line) (fault : SpecsFault) (result : Result Work Ending)
     → IsErrAnd result (λ e. e ≡ stopped_by_specs fault)
     → line_given own ≡ Ok line → (fault ≡ specs_fault.Memory) ⊎ (specs_of F line.settings ≡ Is (Err fault)) → Comes F own seed result
@@ -84,7 +88,7 @@ many_unworked : (F : Facts) (line : Line) (set : Set) (seed : ℕ) (fault : Args
 many_unworked F line set seed fault (inl memory) = subst (λ f. IsUnworked F line set seed (stopped_by_args f)) (sym memory) no_room
 many_unworked F line set seed fault (inr (is, two)) = subst (λ f. IsUnworked F line set seed (stopped_by_args f)) (sym is) (of_many two)
 
--- the ending is what `refuse_several` answers: several sources with one output, or lack of memory
+-- If several sources have one output, or memory lacked, then the line has no work.
 pub many_end : (F : Facts) (line : Line) (set : Set) (seed : ℕ) (fault : ArgsFault) (result : Result Work Ending)
     → IsErrAnd result (λ e. e ≡ stopped_by_args fault)
     → (fault ≡ args_fault.Memory) ⊎ ((fault ≡ args_fault.OutputWithMany) × (has_several set line ≡ true)) → Worked F line set seed result
@@ -97,7 +101,7 @@ plan_unworked : (F : Facts) (line : Line) (set : Set) (seed : ℕ) (fault : Plan
 plan_unworked F line set seed fault single (inl memory) = subst (λ f. IsUnworked F line set seed (stopped_by_plan f)) (sym memory) no_room
 plan_unworked F line set seed fault single (inr is) = of_plan single is
 
--- the ending is what `work_of` answers: the refusal of a plan, or lack of memory
+-- If the plan is refused, or memory lacked, then the line has no work.
 pub planning_ends : (F : Facts) (line : Line) (set : Set) (seed : ℕ) (fault : PlanFault) (result : Result Work Ending)
     → IsErrAnd result (λ e. e ≡ stopped_by_plan fault)
     → has_several set line ≡ false → (fault ≡ plan_fault.Memory) ⊎ (work_of F line set seed ≡ Is (Err fault))
@@ -105,7 +109,7 @@ pub planning_ends : (F : Facts) (line : Line) (set : Set) (seed : ℕ) (fault : 
 planning_ends F line set seed fault result is single given =
     unworked_as F line set seed (stopped_by_plan fault) result is (plan_unworked F line set seed fault single given)
 
--- `work_of_items` hands on what `line_work` makes of a line that was read and a set that was loaded
+-- For `work_of_items`: if a line was read and its set loaded, then its work, or how it ends, is that of the items.
 pub working_comes : (F : Facts) (own : DriverLine) (seed : ℕ) (line : Line) (set : Set) (result : Result Work Ending)
     → line_given own ≡ Ok line → specs_of F line.settings ≡ Is (Ok set)
     → Worked F line set seed result → Comes F own seed result
@@ -113,6 +117,7 @@ working_comes F own seed line set (Ok work) reads loads worked =
     record { line = line; set = set; reads = reads; loads = loads; single = worked.0; works = worked.1 }
 working_comes F own seed line set (Err ending) reads loads unworked = by ending unworked
   where
+    -- Plan: `by` turns each reason why the line has no work into one why the items end.
     by : (e : Ending) → IsUnworked F line set seed e → Stops F own seed e
     by e no_room = lacks_memory
     by e (of_many two) = several reads loads two

@@ -9,6 +9,10 @@ use Rattle.drv_compile.specs.declared.machines.LineRow.{LineRow}
 use Rattle.std.proofs.Common.{◌≡◌, ◌∙◌, ◌∷◌, ◌++◌, [], Err, IfOk, List, Ok, Option, Result, ap, drop, subst, sym, ℕ}
 
 -- For `row_asked` (src/row_asking.rt): the row of a line, and what the host was asked for it.
+-- Names: `specs` is the path of the spec file. `text` and `rows` are texts of rows, if there are some. `items` is the items of the line.
+-- `row` is its row: found, not needed, or missing with its `key`. `options` is what the host is asked by, `answer` what it answered, and
+-- `slice` the same as the code lends it. `events` is what the host was asked. `RowAsked` says which row that gives (specs/Machines). `Noted
+-- before after P`: events were added, of which P holds.
 
 -- a text by which each line has the same row asks for the same
 pub asked_alike : {specs : List ℕ} {text rows : Option (List ℕ)} {items : List Item} {events : List HostEvent} {row : LineRow}

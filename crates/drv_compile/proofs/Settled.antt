@@ -31,10 +31,18 @@ use Rattle.std.specs.Ordering.{nat_cmp}
 use Rattle.std.specs.Prelude.{◌≢◌, get_or, if◌then◌else◌, is_some}
 
 -- For `compile` (src/compiling.rt): the facts of a call whose folder of temporaries is settled.
+-- Names: `F` and `G` are what is known of the outside, without the folder and with it. `known` is what the call's questions told. `names`
+-- is the names that may be the folder's, and `name` the one at index `i`. `answer` says whether that is usable. `before`, `so` and `after`
+-- are the host's events before the loop, so far, and after one more. `slice` is the names as the code lends them. `folder` is the folder of
+-- temporaries. `journal` and `notes` are the events of the system and of the host before, and `journal'` and `notes'` after. `asked` and
+-- `tried` are what was added to these. `result` is what the code's call gives. `Noted before after P`: events were added, of which P holds.
+-- `Adds names before after`: these names were added (drv_search). `Chooses names events folder` and `Tries names events` say which folder
+-- the host's answers choose, or that they chose none yet (specs/TempFolder). `IsSettled F folder G`: G is F with that folder. `Extends F
+-- G`: G knows all that F knows. `IsFolder`, `IsTried`, `Going` and `BeginsToGo` are in specs/Code/Settling.
 
 -- the names
 
--- `push_named` adds the value of a variable, if it is set
+-- For `push_named`: if the value of a variable was added where it is set, then its names were added.
 pub name_pushed : {X E : Type 0} (F : Facts) (variable : List ℕ) (value : Option (List ℕ)) (before after : List (List ℕ))
     (result : Result X E)
     → asked (variable_of F variable) ≡ Is value → OnOk result (after ≡ before ++ if_set value)
@@ -42,7 +50,7 @@ pub name_pushed : {X E : Type 0} (F : Facts) (variable : List ℕ) (value : Opti
 name_pushed F variable value before after (Err e) is grown = tt
 name_pushed F variable value before after (Ok x) is grown = (if_set value, ap (λ k. k >>= λ v. Is (if_set v)) is, grown)
 
--- `push_names` adds those of three, and then the usual folders
+-- For `push_names`: if the names of three variables were added, and then the usual folders, then all names were.
 pub names_pushed : {X E : Type 0} (F : Facts) (none first second third all : List (List ℕ)) (result : Result X E)
     → Adds (named_by F (codes "TMPDIR")) none first → Adds (named_by F (codes "TMP")) first second
     → Adds (named_by F (codes "TEMP")) second third
@@ -56,23 +64,24 @@ names_pushed F none first second third all (Ok x) (tmpdir, is1, grown1) (tmp, is
       ∙ regrouped none tmpdir tmp temp folders_of_all,
 )
   where
+    -- Plan: `regrouped` says that what was added one after another was added together.
     regrouped : (a b c d e : List (List ℕ)) → a ++ b ++ c ++ d ++ e ≡ a ++ (b ++ c ++ d ++ e)
     regrouped a b c d e =
         ap (λ n. n ++ d ++ e) (append_assoc a b c) ∙ ap (λ n. n ++ e) (append_assoc a (b ++ c) d) ∙ append_assoc a (b ++ c ++ d) e
 
--- `folder_names` begins with no name, so it has them all
+-- For `folder_names`: if all names were added to none, then these are all names.
 pub names_known : (F : Facts) (none all : List (List ℕ)) → none ≡ [] → Adds (folder_names F) none all → folder_names F ≡ Is all
 names_known F none all empty (names, is, grown) = is ∙ ap Is (sym (grown ∙ ap (λ n. n ++ names) empty))
 
 -- one name more
 
--- `chosen` tried the names so far in vain, and the choice is among the rest
+-- `first_usable` tried the names so far in vain, and the choice is among the rest
 abbrev pub Choosing : List (List ℕ) → ℕ → List HostEvent → List HostEvent → Type 0
 Choosing names i before so =
     Noted before so (λ events. (more : List HostEvent) (folder : List ℕ) → Chooses (drop i names) more folder
     → Chooses names (events ++ more) folder)
 
--- `chosen` goes on behind a folder that isn't usable
+-- For `first_usable`: if folder i isn't usable, then the choice is among those after it.
 pub chooses_later : (names : List (List ℕ)) (i : ℕ) (name : List ℕ) (answer : Bool) (before so after : List HostEvent) → i < length names
     → name ≡ get_or names i name
     → answer ≡ false → after ≡ so ++ Tried name answer ∷ [] → Choosing names i before so → Choosing names (i + 1) before after
@@ -88,7 +97,7 @@ chooses_later names i name answer before so after below here says grown (events,
       (unusable chooses))),
 )
 
--- `chosen` takes the first folder that is usable
+-- For `first_usable`: if folder i is usable, then it is the choice.
 pub chooses_it : {E : Type 0} (names : List (List ℕ)) (i : ℕ) (name : List ℕ) (answer : Bool) (before so after : List HostEvent)
     (result : Result (List ℕ) E) → i < length names
     → name ≡ get_or names i name → answer ≡ true → after ≡ so ++ Tried name answer ∷ [] → Choosing names i before so
@@ -110,7 +119,7 @@ chooses_it names i name answer before so after (Ok folder) below here says grown
       (sym (drop_more names i name below ∙ ap (λ x. x ∷ drop (i + 1) names) (sym here))) usable)),
 )
 
--- `chosen` takes the folder of the call where none is usable
+-- For `first_usable`: if no folder is usable, then the folder of the call is the choice.
 pub chooses_own : {E : Type 0} (names : List (List ℕ)) (i : ℕ) (before so : List HostEvent) (result : Result (List ℕ) E) → length names ≤ i
     → Choosing names i before so
     → IfOk result (λ folder. folder ≡ codes ".") → Noted before so (λ events. IfOk result (λ folder. Chooses names events folder))
@@ -175,7 +184,7 @@ chooses_none names i before so after (Err e) what chosen (events, grown, so_far)
 
 -- the folder by its names
 
--- `folder_asked` chooses among the names that it asked for
+-- For `folder_asked`: if a folder was chosen among the names, then it is the folder of temporaries by all facts that extend these.
 pub folder_chosen : {E : Type 0} (known : Facts) (names slice : List (List ℕ)) (before after : List HostEvent) (result : Result (List ℕ) E)
     → slice ≡ names
     → ((F : Facts) → Extends known F → folder_names F ≡ Is names)
@@ -185,14 +194,14 @@ folder_chosen known names slice before after (Err e) same told (events, grown, c
 folder_chosen known names slice before after (Ok folder) same told (events, grown, chooses) =
     (events, grown, λ F e. (names, told F e, subst (λ xs. Chooses xs events folder) same chooses))
 
--- `folder_asked` tried some of the folders where memory lacked
+-- For `folder_asked`: if memory lacked, then some of the names were tried.
 pub folder_tried : (known : Facts) (names slice : List (List ℕ)) (before after : List HostEvent) → slice ≡ names
     → ((F : Facts) → Extends known F → folder_names F ≡ Is names) → Noted before after (Tries slice)
     → Noted before after (λ events. (F : Facts) → Extends known F → IsTried F events)
 folder_tried known names slice before after same told (events, grown, tries) =
     (events, grown, λ F e. inr (names, told F e, subst (λ xs. Tries xs events) same tries))
 
--- `folder_asked` tried no folder where memory lacked for their names
+-- For `folder_asked`: if memory lacked for the names, then none was tried.
 pub nothing_tried : (known : Facts) (notes : List HostEvent)
     → Noted notes notes (λ events. (F : Facts) → Extends known F → IsTried F events)
 nothing_tried known notes = ([], sym (append-nil notes), λ F e. inl refl)
@@ -205,7 +214,7 @@ apart_at : (name key : List ℕ) (same : Bool) → is_at (slice_cmp nat_cmp name
 apart_at name key true is apart = absurd (apart (exact_bytes name key ((Equal-is (slice_cmp nat_cmp name key)).0 is)))
 apart_at name key false is apart = is
 
--- `settle` puts the folder in the place of TMPDIR, and leaves all else as it was
+-- For `settle`: if the folder is put in the place of TMPDIR, then the table is settled: all else is as it was.
 pub settled_with : (F : Facts) (folder : List ℕ) → IsSettled F folder (with_value F (codes "TMPDIR") (Some folder))
 settled_with F folder = record {
   reads = λ path. refl;
@@ -273,7 +282,7 @@ settled_learn F G folder (event ∷ events) is new =
 
 -- what a call goes by
 
--- `settle` ends before its first question
+-- For `settle`: if memory lacked before the first question, then nothing was asked.
 pub nothing_begun : (journal : List Event) (notes : List HostEvent) → BeginsToGo journal journal notes notes
 nothing_begun journal notes = record {
   asked = [];
@@ -285,7 +294,7 @@ nothing_begun journal notes = record {
   is_tried = inl refl;
 }
 
--- `settle` ends before it has a folder: its questions and tries are those of the call
+-- For `settle`: if memory lacked before there is a folder, then the questions and tries so far are those of the call.
 pub begun : {journal journal' : List Event} {F known : Facts} {notes notes' : List HostEvent} → F ≡ no_facts → Asks journal journal' F known
     → Noted notes notes' (λ events. (G : Facts) → Extends known G → IsTried G events) → BeginsToGo journal journal' notes notes'
 begun {known = known} empty asks (tried, grown, is_tried) =
@@ -304,7 +313,7 @@ pub tried_goes : {asked : List Event} {tried : List HostEvent} → IsTried (lear
 tried_goes {asked} (inl none) = subst (λ t. GoesBy asked t OutOfMemory no_facts) (sym none) unnamed
 tried_goes (inr (names, known, tries)) = unsettled known tries
 
--- `settle` has a folder: the call goes by the table with it
+-- For `settle`: if there is a folder, then the call goes by the table with it.
 pub going : {journal journal' : List Event} {F known : Facts} {notes notes' : List HostEvent} (folder : List ℕ) (table : Facts)
     → F ≡ no_facts
     → Asks journal journal' F known → Noted notes notes' (λ events. (G : Facts) → Extends known G → IsFolder G events folder)
@@ -322,7 +331,7 @@ going {known = known} folder table empty asks (tried, grown, is_folder) put =
           (subst (λ T. IsSettled known folder T) (sym put) (settled_with known folder));
     }
 
--- `settle` puts the folder into the table by its own word for TMPDIR
+-- For `settle`: the same, if the code put the folder under its own copy of the name TMPDIR.
 pub table_settled : {X E : Type 0} {journal journal' : List Event} {F known : Facts} (notes notes' : List HostEvent) (result : Result X E)
     (folder name : List ℕ)
     (before table : Facts) → name ≡ codes "TMPDIR" → before ≡ known → F ≡ no_facts → Asks journal journal' F known
@@ -334,7 +343,7 @@ table_settled notes notes' (Ok x) folder name before table named same empty asks
     going folder table empty asks chosen (put ∙ ap (λ n. with_value before n (Some folder)) named
     ∙ ap (λ K. with_value K (codes "TMPDIR") (Some folder)) same)
 
--- `compile_settled` asks more, and still goes by that folder
+-- For `compile_settled`: if a call goes by a folder and asks more, then it still goes by that folder.
 pub going_further : {journal mid journal' : List Event} {notes notes' : List HostEvent} {G G' : Facts} → Going journal mid notes notes' G
     → Asks mid journal' G G'
     → Going journal journal' notes notes' G'
@@ -372,6 +381,7 @@ pub no_pipe_begun : {journal journal' : List Event} {notes notes' : List HostEve
     → pipe_pending (run_of journal') ≡ false
 no_pipe_begun {journal} {journal'} before none = no_pipe_after_questions (asks_of before) none
   where
+    -- Plan: `asks_of` says that the journal grew by questions alone.
     asks_of : {notes notes' : List HostEvent} (b : BeginsToGo journal journal' notes notes')
         → Asks journal journal' no_facts (learn no_facts b.asked)
     asks_of b = record { asked = b.asked; questions = b.questions; journal_grows = b.journal_grows; facts_grow = refl }

@@ -5,6 +5,8 @@ use Rattle.std.specs.List.{flat_map, starts_with}
 use Rattle.std.specs.Option.{option_map}
 
 -- For the files beside a spec file (src/compilers.rt): the first value of a key is that of the first line that begins with the key.
+-- Names: `key` is the beginning that is looked for. `all` is the lines of the text. `seen` is the first line that begins with the key, and
+-- `line` that line. `word` is what follows the key in it. `value_in key` is the values in one line, and `first_of` the first of several.
 
 -- the first value of a key is that of the first line that begins with it
 first_value : (key : List ℕ) (all : List (List ℕ))
@@ -12,6 +14,7 @@ first_value : (key : List ℕ) (all : List (List ℕ))
 first_value key [] = refl
 first_value key (line ∷ all) = by (starts_with nat_eq line key) refl (first_value key all)
   where
+    -- Plan: `by` goes by both answers of `starts_with nat_eq line key`.
     by : (t : Bool) → starts_with nat_eq line key ≡ t
         → first_of (flat_map (value_in key) all) ≡ option_map (drop (length key)) (find (λ other. starts_with nat_eq other key) all)
         → first_of (flat_map (value_in key) (line ∷ all)) ≡ option_map (drop (length key))
@@ -19,13 +22,13 @@ first_value key (line ∷ all) = by (starts_with nat_eq line key) refl (first_va
     by true is rest = rw is refl
     by false is rest = rw is rest
 
--- `first_value` has none where no line begins with the key
+-- For `first_value`: if no line begins with the key, then it has no value.
 pub value_none : (key : List ℕ) (all : List (List ℕ)) (seen : Option (List ℕ)) → seen ≡ None
     → seen ≡ find (λ line. starts_with nat_eq line key) all
     → None ≡ first_of (flat_map (value_in key) all)
 value_none key all seen is found = sym (first_value key all ∙ ap (option_map (drop (length key))) (sym found ∙ is))
 
--- `first_value` has what follows the key in the first line that begins with it
+-- For `first_value`: if a line begins with the key, then what follows the key in the first such line is its first value.
 pub value_some : (key : List ℕ) (all : List (List ℕ)) (seen : Option (List ℕ)) (line word : List ℕ) → seen ≡ Some line
     → seen ≡ find (λ line. starts_with nat_eq line key) all → word ≡ drop (length key) line
     → Some word ≡ first_of (flat_map (value_in key) all)

@@ -27,8 +27,14 @@ use Rattle.std.proofs.lemmas.List.{drop_all, drop_more}
 use Rattle.std.specs.Prelude.{MatchResult, get_or, is_some}
 
 -- For the words of a call (src/expanding.rt and src/preparing.rt): they are those of its response files, or it is refused.
+-- Names: `F` is what is known of the outside. `calling` is the program's name and front. `args` is the arguments, `expanded` the words
+-- behind response files, and `words` those words, of which `word` has index `i`. `fault` is why they are refused. `stop` is why the call
+-- ends, and `result` what the code's call gives. `done` is a claim on a value, and `told` one on a text. `IfTold stop P`: P holds of the
+-- stop's text, if it has one. `MatchResult result P Q`: P holds of the value, or Q of the fault. `IsErrAnd result P`: there is a fault, of
+-- which P holds. `Expands G n args result`: by the facts G the expansion gives that, with n replacements left (drv_args). `first_unread` is
+-- the first response file that can't be read. `Words` and `RefusesWords` are the words of a call, or why there are none (specs/Words).
 
--- lack of memory says nothing
+-- If memory lacked, then any claim on the result or the text holds: there is neither.
 pub memory_stops : {X : Type 0} (result : Result X Stop) (done : X → Type 0) (told : List ℕ → Type 0)
     → IsErrAnd result (λ stop. stop ≡ Memory)
     → MatchResult result done (λ stop. IfTold stop told)
@@ -54,7 +60,7 @@ pub unread_asked : (F : Facts) (given : Option (List ℕ)) (path named : List �
 unread_asked F given path named answer found some same known is =
     ap (unread_at F) (some ∙ ap Some (sym same)) ∙ ap (λ k. asked k >>= λ a. Is (if_unread named a)) known ∙ ap Is (sym is)
 
--- `first_unread` goes on behind a file that can be read
+-- For `first_unread`: if the file of word i can be read, then the first that can't is among those after it.
 pub unread_more : (F : Facts) (words : List (List ℕ)) (i : ℕ) (word : List ℕ) → i < length words → word ≡ get_or words i word
     → unread_at F (file_named word) ≡ Is None → first_unread F (drop i words) ≡ first_unread F words
     → first_unread F (drop (i + 1) words) ≡ first_unread F words
@@ -62,7 +68,7 @@ unread_more F words i word below here none so_far =
     sym (ap (first_unread F) (drop_more words i word below ∙ ap (λ w. w ∷ drop (i + 1) words) (sym here))
     ∙ ap (λ k. k >>= λ path. or_later path (first_unread F (drop (i + 1) words))) none) ∙ so_far
 
--- ends at the first that can't
+-- If the file of word i can't be read, then it is the first.
 pub unread_here : (F : Facts) (words : List (List ℕ)) (i : ℕ) (word : List ℕ) (found : Option (List ℕ)) → i < length words
     → word ≡ get_or words i word
     → unread_at F (file_named word) ≡ Is found → is_some found ≡ true → first_unread F (drop i words) ≡ first_unread F words
@@ -71,6 +77,7 @@ unread_here F words i word found below here is some so_far =
     sym so_far ∙ ap (first_unread F) (drop_more words i word below ∙ ap (λ w. w ∷ drop (i + 1) words) (sym here))
     ∙ ap (λ k. k >>= λ p. or_later p (first_unread F (drop (i + 1) words))) is ∙ by found some
   where
+    -- Plan: `by` says that the first that was found decides, whatever the later words name.
     by : (found : Option (List ℕ)) → is_some found ≡ true → or_later found (first_unread F (drop (i + 1) words)) ≡ Is found
     by (Some path) some = refl
     by None some = absurd (false≢true some)
@@ -80,19 +87,20 @@ pub not_some : {X : Type 0} (o : Option X) → is_some o ≡ false → o ≡ Non
 not_some None is = refl
 not_some (Some x) is = absurd (false≢true (sym is))
 
--- `first_unread` finds none at the end of the words
+-- For `first_unread`: if all words were gone over, then none names a file that can't be read.
 pub unread_nowhere : (F : Facts) (words : List (List ℕ)) (i : ℕ) → length words ≤ i → first_unread F (drop i words) ≡ first_unread F words
     → first_unread F words ≡ Is None
 unread_nowhere F words i past so_far = sym so_far ∙ ap (first_unread F) (drop_all i words past)
 
 -- faults as texts
 
--- `expansion` tells the refusal of the driver's words, unless memory lacked
+-- For `expansion`: if the driver's words are refused, then the stop's text says so, unless memory lacked.
 pub args_told : (F : Facts) (name : List ℕ) (args : List (List ℕ)) (fault : ArgsFault) (stop : Stop)
     → stop ≡ stop_of name (stopped_by_args fault)
     → Expands (within_limit F) 2000 args (Err fault) → IfTold stop (IsUnexpanded F name args)
 args_told F name args fault stop is given = subst (λ s. IfTold s (IsUnexpanded F name args)) (sym is) (by fault given)
   where
+    -- Plan: `refused` gives the text of each refusal, and `by` adds lack of memory, which has no text.
     refused : (fault : ArgsFault) → RefusesExpansion (within_limit F) 2000 args fault
         → IfTold (stop_of name (stopped_by_args fault)) (IsUnexpanded F name args)
     refused args_fault.Memory refuses = tt
@@ -111,12 +119,13 @@ args_told F name args fault stop is given = subst (λ s. IfTold s (IsUnexpanded 
     by fault (inl memory) = subst (λ f. IfTold (stop_of name (stopped_by_args f)) (IsUnexpanded F name args)) (sym memory) tt
     by fault (inr refuses) = refused fault refuses
 
--- `gcc_words` that of c99's
+-- For `gcc_words`: if c99's words are refused, then the stop's text says so, unless memory lacked.
 pub c99_told : (calling : Calling) (expanded : Expanded) (fault : C99Fault) (stop : Stop)
     → stop ≡ stop_of calling.name (stopped_by_c99 fault)
     → (fault ≡ c99_fault.Memory) ⊎ (words_of_front calling.front expanded ≡ Err fault) → IfTold stop (IsUnfronted calling expanded)
 c99_told calling expanded fault stop is given = subst (λ s. IfTold s (IsUnfronted calling expanded)) (sym is) (by fault given)
   where
+    -- Plan: `refused` gives the text of each refusal, and `by` adds lack of memory, which has no text.
     refused : (fault : C99Fault) → words_of_front calling.front expanded ≡ Err fault
         → IfTold (stop_of calling.name (stopped_by_c99 fault)) (IsUnfronted calling expanded)
     refused c99_fault.Memory refuses = tt
@@ -130,12 +139,13 @@ c99_told calling expanded fault stop is given = subst (λ s. IfTold s (IsUnfront
     by fault (inl memory) = subst (λ f. IfTold (stop_of calling.name (stopped_by_c99 f)) (IsUnfronted calling expanded)) (sym memory) tt
     by fault (inr refuses) = refused fault refuses
 
--- `work_or_stop` says the refusal of a line of the driver
+-- For `work_or_stop`: if a line of the driver ends, and the stop's text says how, then that text is its failure.
 pub driver_told : (F : Facts) (name : List ℕ) (own : DriverLine) (seed : ℕ) (ending : Ending) (stop : Stop) → Stops F own seed ending
     → IfTold stop (IsEndSaid F name own ending) → IfTold stop (IsFailure F name own seed)
 driver_told F name own seed ending stop stops tells =
     told_as stop (IsEndSaid F name own ending) (IsFailure F name own seed) (by ending stops) tells
   where
+    -- Plan: `by` goes by the ending: a refusal has its text, and the other endings have none.
     by : (ending : Ending) → Stops F own seed ending → (text : List ℕ) → IsEndSaid F name own ending text → IsFailure F name own seed text
     by (Refused refusal) stops text said = (refusal, stops, said)
     by (Done status) stops text said = absurd said
@@ -143,7 +153,7 @@ driver_told F name own seed ending stop stops tells =
 
 -- the words from step to step
 
--- `line_words` hands on why the words aren't expanded
+-- For `line_words`: if the words can't be expanded, and the stop says why, then they are refused with that text.
 pub unexpanded : (F : Facts) (calling : Calling) (name : List ℕ) (args : List (List ℕ)) (stop : Stop) (result : Result Expanded Stop)
     → name ≡ calling.name
     → IsErrAnd result (λ s. s ≡ stop) → IfTold stop (IsUnexpanded F name args)
@@ -153,7 +163,7 @@ unexpanded F calling name args stop result named is tells =
     (told_as stop (IsUnexpanded F name args) (RefusesWords F calling args)
     (λ text un. not_expanded (subst (λ n. IsUnexpanded F n args text) named un)) tells)
 
--- why a response file can't be read
+-- If a response file can't be read, and the stop says so, then the words are refused with that text.
 pub unreadable : (F : Facts) (calling : Calling) (name : List ℕ) (args words : List (List ℕ)) (expanded : Expanded) (stop : Stop)
     (result : Result Expanded Stop) → name ≡ calling.name
     → words ≡ expanded.words → Expands (within_limit F) 2000 args (Ok expanded)
@@ -165,7 +175,7 @@ unreadable F calling name args words expanded stop result named are expands is t
     (λ text un. not_readable expands (subst (λ n. IsUnread F n expanded.words text) named (subst (λ w. IsUnread F name w text) are un)))
     tells)
 
--- `line_words` hands on what the front makes of the words, or why it refuses them
+-- For `line_words`: if all response files were read, then what the front makes of the words, or why it refuses them, is the line's.
 pub words_given : (F : Facts) (calling : Calling) (args words : List (List ℕ)) (expanded : Expanded) (result : Result Expanded Stop)
     → words ≡ expanded.words
     → Expands (within_limit F) 2000 args (Ok expanded) → first_unread F words ≡ Is None

@@ -1,5 +1,7 @@
 //! A call of `gdrv-cc`.
 
+// In clauses: `Noted before after P` says that the host was asked, and that P holds of these
+// events.
 ghost use Rattle.drv_compile.specs.Code.Compiling.{Carried, IsClosed, IsOpened, Noting, Spoken};
 ghost use Rattle.drv_compile.specs.Code.Compiling.{TellsStop, Worked};
 ghost use Rattle.drv_compile.specs.Compiles.{Compiled, is_absent, is_missing, is_own};

@@ -1,5 +1,7 @@
 //! What the words of a line ask for, over the spec file and the files beside it.
 
+// In clauses: `Asked` says that a call only asked, and that the table has the answers. `Tells` says
+// that a result is that of a definition, by any facts that extend what is known.
 ghost use Rattle.drv_compile.specs.Compilers.{values};
 ghost use Rattle.drv_compile.specs.Decides.{copies_of, decide, decided_around, decided_over};
 ghost use Rattle.drv_compile.specs.Decides.{decided_with};

@@ -1,5 +1,9 @@
 //! The words of a call.
 
+// In clauses: `Extends F G` says that G has every answer of F. `Asked` says that a call only asked,
+// and that the table has the answers. `Tells` says that a result is that of a definition, by any
+// facts that extend what is known. `Gives` says that a result is the defined one, or lack of
+// memory. `IfTold stop P` says that P holds of the text of a stop, if it has one.
 ghost use Rattle.drv_args.specs.Expansion.{Expands, file_named};
 ghost use Rattle.drv_c99.specs.declared.fault.C99Fault.TheVariants as c99_fault;
 ghost use Rattle.drv_compile.specs.Tasks.{IfTold};

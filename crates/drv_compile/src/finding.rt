@@ -1,5 +1,7 @@
 //! The spec file of a call, and the files beside it.
 
+// In clauses: `Asked` says that a call only asked, and that the table has the answers. `Tells` says
+// that a result is that of a definition, by any facts that extend what is known.
 ghost use Rattle.drv_compile.specs.Beside.{bytes_read, given_by, if_plain, is_written, known_names};
 ghost use Rattle.drv_compile.specs.Beside.{file_of_variable, or_own, plain_at, spec_file};
 ghost use Rattle.drv_compile.specs.Beside.{written_beside, written_lines};

@@ -1,5 +1,8 @@
 //! What is asked of a line that is carried out, before anything is started.
 
+// In clauses: `Asked` says that a call only asked, and that the table has the answers. `Tells` says
+// that a result is that of a definition, by any facts that extend what is known. `Noted before
+// after P` says that the host was asked, and that P holds of these events.
 ghost use Rattle.drv_compile.specs.Inputs.{Noted, Overwrites, Reaches, absent_by, absent_of};
 ghost use Rattle.drv_compile.specs.Inputs.{is_at, objection};
 ghost use Rattle.drv_search.specs.Code.Telling.{Tells};

@@ -1,5 +1,8 @@
 //! The items of a line by the names of the compiler's options, and which of these names are kept.
 
+// In clauses: `Extends F G` says that G has every answer of F. `Asked` says that a call only asked,
+// and that the table has the answers. `Tells` says that a result is that of a definition, by any
+// facts that extend what is known.
 ghost use Rattle.drv_cc.specs.Items.{items_of};
 ghost use Rattle.drv_compile.specs.Beside.{bytes_read, known_names};
 ghost use Rattle.drv_compile.specs.Code.Naming.{items_at, items_beside, items_named};

@@ -1,5 +1,8 @@
 //! What a call does, before it is done.
 
+// In clauses: `Extends F G` says that G has every answer of F. `Asked` says that a call only asked,
+// and that the table has the answers. `Noted before after P` says that the host was asked, and that
+// P holds of these events. `IfTold stop P` says that P holds of the text of a stop, if it has one.
 ghost use Rattle.drv_compile.specs.Compiles.{Comes, IsPlanned, Refuses};
 ghost use Rattle.drv_compile.specs.Compiles.{handed_on, one_command, question, words_for};
 ghost use Rattle.drv_compile.specs.Inputs.{Noted, Overwrites};

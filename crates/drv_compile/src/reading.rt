@@ -1,5 +1,8 @@
 //! The answer to a line.
 
+// In clauses: `Asked` says that a call only asked, and that the table has the answers. `Tells` says
+// that a result is that of a definition, by any facts that extend what is known. `TellsMore` says
+// that a list got what a definition gives, by any facts that extend what is known.
 ghost use Rattle.drv_args.specs.Lines.{prefix_of, spec_of};
 ghost use Rattle.drv_cc.specs.Items.{items_of};
 ghost use Rattle.drv_compile.specs.Reading.{answer_names, file_names, files_names, folders_given};

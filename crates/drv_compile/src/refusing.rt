@@ -1,5 +1,8 @@
 //! What is said of a refused line of the driver.
 
+// In clauses: `Extends F G` says that G has every answer of F. `Asked` says that a call only asked,
+// and that the table has the answers. `IfTold stop P` says that P holds of the text of a stop, if
+// it has one.
 ghost use Rattle.drv_check.specs.FaultNotes.{fault_note};
 ghost use Rattle.drv_compile.specs.Code.Refusing.{IsEndSaid};
 ghost use Rattle.drv_compile.specs.Notes.{IsNote, IsSaid, NotesPlace};

@@ -1,5 +1,7 @@
 //! The row of a line for its machine, for which the host is asked where the file lacks it.
 
+// In clauses: `Noted before after P` says that the host was asked, and that P holds of these
+// events.
 ghost use Rattle.drv_compile.specs.Inputs.{Noted};
 ghost use Rattle.drv_compile.specs.Machines.{RowAsked};
 ghost use Rattle.std.specs.Option.{option_copied};

@@ -1,5 +1,8 @@
 //! The work of items of the driver's line.
 
+// In clauses: `Extends F G` says that G has every answer of F. `Asked` says that a call only asked,
+// and that the table has the answers. `GivesKnown` says that a result is the one defined over the
+// facts, or lack of memory. `Gives` says that a result is the defined one, or lack of memory.
 ghost use Rattle.drv_args.specs.declared.fault.ArgsFault.TheVariants as args_fault;
 ghost use Rattle.drv_compile.specs.Code.Working.{IsUnworked, IsWorked};
 ghost use Rattle.drv_compile.specs.Runs.{Stops, Works, line_given, specs_of};

@@ -1,5 +1,7 @@
 //! What the compiler of a spec file says of itself.
 
+// In clauses: `Asked` says that a call only asked, and that the table has the answers. `Tells` says
+// that a result is that of a definition, by any facts that extend what is known.
 ghost use Rattle.drv_compile.specs.Said.{compiler_lines, lines_said};
 ghost use Rattle.drv_search.specs.Code.Telling.{Tells};
 ghost use Rattle.drv_system.specs.Code.Asked.{Asked};

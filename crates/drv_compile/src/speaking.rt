@@ -1,5 +1,7 @@
 //! What is said before a run whose commands are shown.
 
+// In clauses: `Asked` says that a call only asked, and that the table has the answers. `Tells` says
+// that a result is that of a definition, by any facts that extend what is known.
 ghost use Rattle.drv_compile.specs.Opening.{lines_shown, opening, shows, text_shown};
 ghost use Rattle.drv_compile.specs.Texts.{line_of, said_text, switches_line};
 ghost use Rattle.drv_search.specs.Code.Telling.{Tells};

@@ -1,5 +1,6 @@
 //! What a call does by what its words ask for.
 
+// In clauses: `IfTold stop P` says that P holds of the text of a stop, if it has one.
 ghost use Rattle.drv_compile.specs.Tasks.{Declines, IfTold, Leads};
 ghost use Rattle.drv_compile.specs.declared.deciding.Decision.TheVariants.{NoSpecs, Read};
 ghost use Rattle.std.specs.Prelude.{IfOk, MatchResult};

@@ -1,5 +1,10 @@
 //! The folder of temporaries.
 
+// In clauses: `Extends F G` says that G has every answer of F. `Asked` says that a call only asked,
+// and that the table has the answers. `Tells` says that a result is that of a definition, by any
+// facts that extend what is known. `TellsMore` says that a list got what a definition gives, by any
+// facts that extend what is known. `Noted before after P` says that the host was asked, and that P
+// holds of these events.
 ghost use Rattle.drv_compile.specs.Code.Settling.{BeginsToGo, Going, IsFolder, IsTried};
 ghost use Rattle.drv_compile.specs.Inputs.{Noted};
 ghost use Rattle.drv_compile.specs.TempFolder.{Chooses, Tries, folder_names, folders_of_all, if_set};

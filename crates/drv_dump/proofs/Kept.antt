@@ -12,6 +12,8 @@ use Rattle.std.proofs.Common.{true, ℕ}
 use Rattle.std.proofs.lemmas.Grind.{flat_map-append}
 
 -- For text_is_kept (src/laws.rt): the pieces of a text are written back as that text.
+-- Names: `r`: the reader between two bytes. `b`: a byte. `at`: a place in the text. `next`: the reader after the byte. `x`, `y`: values.
+-- `X`: any type. `written`: how pieces are written. `closed`: all pieces so far.
 
 -- the value of a result, or another: it shows that a result has one value
 abbrev pub ok_or : {X E : Type 0} → X → Result X E → X

@@ -20,6 +20,10 @@ use Rattle.std.proofs.lemmas.Grind.{flat_map-append}
 use Rattle.std.specs.List.{flat_map}
 
 -- For dump_is_kept (src/laws.rt): the texts of a dump are written back as that dump.
+-- Names: `r`: the reader of a dump between two bytes. `b`: a byte. `next`: the reader after the byte. `at`: a place in the text. `t`: a
+-- test's value, so that `by` can go by both cases. `front`: the bytes before those at hand. `written_entry`: how texts are written.
+-- `same_value`: a result has one value. `written_texts`: the dump that these texts are. `entry_step`: what is read with a byte, by its
+-- state.
 
 -- how entries are written
 abbrev written_all : List Entry → List ℕ

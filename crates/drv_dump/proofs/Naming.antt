@@ -9,6 +9,9 @@ use Rattle.std.proofs.Common.{length, suc, sym, take, true, zero, ℕ}
 use Rattle.std.proofs.lemmas.List.{take_all}
 
 -- For `translate_text` (src/ours.rt): the loops that replace the names of files by named texts.
+-- Names: `whole`: what the whole text gives. `front`: what is before. `b`: a byte. `left`: what is left of the text. `left`: the pieces
+-- that are left. `skip`: how many bytes are already passed over. `split_from`: a text up to its last word, and that word. `files_from`:
+-- pieces, of which so many belong to the name before. `joint_after`: the first word of what an alternative gives is whole.
 
 -- all that follows the first one
 after_first : {X : Type 0} (x : X) (xs : List X) → take (length (x ∷ xs) - 1) xs ≡ xs

@@ -5,6 +5,9 @@ use Rattle.std.proofs.Common.{length, sym, take, true, ℕ}
 use Rattle.std.proofs.lemmas.List.{take_all}
 
 -- For `pass_libraries` (src/passed.rt): the loop that copies the names of libraries, byte by byte.
+-- Names: `copy`: the text as it is written again. `b`: a byte. `left`: what is left of the text. `whole`: what the whole text gives. `mid`:
+-- what is between. `d`: the byte that the code reads where a list has none. `passed_from`: the words of plain bytes, of which the last one
+-- has these bytes so far. `passed_word`: what a word becomes.
 
 -- a word after the option
 pub option_put : (copy mid after word : List ℕ) → mid ≡ copy ++ codes "-plugin-opt=-pass-through=" → after ≡ mid ++ word

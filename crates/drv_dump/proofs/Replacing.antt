@@ -12,6 +12,9 @@ use Rattle.std.proofs.lemmas.List.{at_drop_more, take_all}
 use Rattle.drv_dump.proofs.Kept.{same_value}
 
 -- For `translate_text` (src/ours.rt): the loops that replace forms of gcc by those of the driver.
+-- Names: `left`: what is left of the text. `whole`: what the whole text gives. `b`: a byte. `skip`: how many bytes are already passed over.
+-- `d`: the byte that the code reads where a list has none. `replaced`: a text with each form of several pieces in this driver's words.
+-- `words_before`: words before those of other pieces. `all_words`: what all pieces become, or the first that becomes nothing.
 
 -- all that follows the first byte
 after_first : (b : ℕ) (text : List ℕ) → take (length (b ∷ text) - 1) text ≡ text

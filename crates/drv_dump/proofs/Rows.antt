@@ -10,6 +10,7 @@ use Rattle.std.proofs.Common.{◌≡◌, Err, List, [], ◌∷◌, Ok, Result, c
 
 -- Examples of texts, which the prover computes from the definitions. Nothing cites them: each fails where a definition of specs/ (Grammar,
 -- Forms, Files) changes what it gives.
+-- Names: `pieces_of`: the pieces of a text, or the first byte that fits nothing. `ours_of`: a text of gcc in this driver's language.
 
 -- the bytes of each piece
 abbrev spread : Result (List Piece) TextFault → Result (List (List ℕ)) TextFault

@@ -11,6 +11,10 @@ use Rattle.std.proofs.Common.{◌≡◌, ◌+◌, ◌<◌, ◌∙◌, ◌⊎◌,
 use Rattle.std.proofs.lemmas.List.{at_drop_more}
 
 -- For `read_text` and `read_dump` (src/reading.rt and src/dump.rt): one more byte of the loops.
+-- Names: `at`: a place in the text. `b`: a byte. `d`: the byte that the code reads where a list has none. `whole`: what the whole text
+-- gives. `r`: the reader between two bytes. `r`: the reader of a dump between two bytes. `read_from`: what is left of a text is read, from
+-- this place on. `read_at`: what is read with a byte, by the grammar's turn at this place. `then_read`: the rest is read, unless a byte
+-- fits nothing.
 
 -- a refusal is handed on
 pub handed_on : {X Y E : Type 0} (none fault : E) (result : Result X E) (view : X → Y) (defined : Result Y E)

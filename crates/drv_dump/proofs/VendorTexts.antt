@@ -7,6 +7,9 @@ use Rattle.std.proofs.Common.{codes, drop, get_or, inl, inr, length, refl, sym, 
 use Rattle.std.proofs.lemmas.List.{take_all}
 
 -- For `translate_vendors` (src/vendors.rt): the loop over the pieces of a text.
+-- Names: `left`: the pieces that are left. `whole`: what the whole text gives. `mid`: what is between. `put_words`: words with what one
+-- more piece becomes, if it becomes anything. `vendor_words`: what a piece of a kind becomes before these. `words_before`: words before
+-- those of other pieces.
 
 -- a switch for a macro after a word
 pub macro_put : (word mid after test name : List ℕ) → mid ≡ word ++ codes "-gdrv-define=" → name ≡ drop 1 test → after ≡ mid ++ name

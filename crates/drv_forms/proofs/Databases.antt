@@ -10,6 +10,8 @@ use Rattle.std.specs.List.{flat_map}
 use Rattle.std.specs.Prelude.{get_or}
 
 -- The entries of jobs, one after another. For `put_entry` and `put_entries` (src/database.rt).
+-- Names: `xs`: a list. `before`: the tokens so far. `whole`: the tokens of the whole. `n`: an index. `X`: any type. `E`: the type of a
+-- refusal. `entry_of`: the entry of a job, if it has one. `entry_json`: an entry as an object.
 
 -- the tokens of entries before others are those of each, one after another
 some_more : {A : Type 0} (f : A → Json) (xs ys : List A)

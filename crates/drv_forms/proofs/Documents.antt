@@ -13,6 +13,7 @@ use Rattle.std.proofs.Common.{append-nil, arith, ℕ}
 use Rattle.std.specs.Str.{is_utf8}
 
 -- For `plan_json` (src/json_form.rt): the text of the tokens is read as the plan's value, which doesn't nest too deep.
+-- Names: `A`: any type. `xs`: a list. `number_json`: a number in decimal digits.
 
 -- tokens of a value are its whole text, if the value doesn't nest too deep: a reader takes them for that value and nothing after it
 pub document_of : (text : List ℕ) (json : Json) → tokens text ≡ json_tokens json → depth json ≤ max_depth → document text ≡ Some json

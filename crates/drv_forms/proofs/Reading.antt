@@ -14,6 +14,8 @@ use Rattle.std.proofs.lemmas.Fmt.{decimal_is_IsNumeral}
 use Rattle.std.specs.Str.{is_utf8}
 
 -- For `plan_json` (src/json_form.rt): the plan that is read from a plan's JSON is that plan.
+-- Names: `A`, `B`: any type. `xs`: a list. `n`: an index. `t`: a test's value, so that `by` can go by both cases. `number_json`: a number
+-- in decimal digits. `word_of`: the word that a value shows. `number_of`: the number that a value shows, if it is one.
 
 -- what is read first is there, and so is what is read after it: a step of the proofs of `job_back` and `plan_back`
 goes_on : {A B : Type 0} (read : Option A) (value : A) (f : A → Option B) (given : Option B) → read ≡ Some value → f value ≡ given

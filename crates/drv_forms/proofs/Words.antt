@@ -7,6 +7,8 @@ use Rattle.std.proofs.lemmas.Str.{IsUtf8-from_is_utf8, is_utf8-from_IsUtf8}
 use Rattle.std.specs.Str.{IsUtf8, is_utf8}
 
 -- For `plan_json` (src/json_form.rt): a word is a string if its bytes are UTF-8, or else a list of bytes.
+-- Names: `t`: a test's value, so that `by` can go by both cases. `list_json`: a list as an array. `number_json`: a number in decimal
+-- digits.
 
 -- a word whose bytes are UTF-8 is a string
 pub text_word : (word : List ℕ) → IsUtf8 word → word_json word ≡ string word

@@ -6,6 +6,7 @@ use Rattle.std.specs.Option.{unwrap_or}
 use Rattle.std.specs.Prelude.{is_some, nat_lt, slice_get}
 
 -- For changes_text (src/comparing.rt): a word that is found at a place of a command is among its words.
+-- Names: `xs`: a list. `p`: a test. `X`: any type. `n`: an index. `t`: a test's value, so that `by` can go by both cases.
 
 -- A test that passes at a place passes somewhere: by induction on the place.
 pub at_place : {X : Type 0} (p : X → Bool) (xs : List X) (n : ℕ) (x : X) → slice_get xs n ≡ Some x → p x ≡ true → list_any p xs ≡ true

@@ -6,6 +6,7 @@ use Rattle.drv_words.specs.Gives.{Gives}
 use Rattle.std.proofs.Common.{Err, List, Ok, Option, inl, inr, refl, ℕ}
 
 -- For `call`: the result of each function is the one in the table.
+-- Names: `Given`: the result of a function that changes nothing.
 
 -- the result of a call that gives this word and leaves these outputs
 abbrev pub giving : List (List ℕ) → Option (List ℕ) → Called

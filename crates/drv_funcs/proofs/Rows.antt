@@ -15,6 +15,8 @@ use Rattle.std.specs.Ordering.{is_eq, is_gt, is_lt, is_some_and}
 use Rattle.std.specs.Prelude.{codes, is_some}
 
 -- Examples of functions and versions, which the prover computes from the definitions.
+-- Names: `version`: the numbers of a version. `compared`: the order of two texts, if both are versions. `judged`: the versions are judged
+-- in the order of the arguments, and then the value.
 
 -- pairs of versions whose first one is earlier
 abbrev earlier : List (List ℕ × List ℕ)

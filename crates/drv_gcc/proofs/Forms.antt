@@ -5,6 +5,10 @@ use Rattle.std.proofs.lemmas.List.{take_all}
 use Rattle.std.specs.List.{starts_with}
 
 -- For `replace` (src/replacing.rt): the steps of the loop that replaces a form.
+-- Names: `left` is what is left of the text. `form` is what is replaced, and `other` what takes its place. `word` is the text so far, and
+-- `after` with what this step adds. `whole` is the whole result. `skip` is how many bytes are part of the form before, and `next` that
+-- after this step. `b` is the first byte, and `d` what a look-up gives where there is none. `replaced form other skip left` is a text with
+-- the form in other words (specs/Replacing).
 
 -- all that follows the first byte
 after_first : (b : ℕ) (text : List ℕ) → take (length (b ∷ text) - 1) text ≡ text

@@ -6,11 +6,14 @@ use Rattle.std.specs.List.{filter, flat_map, list_any}
 use Rattle.std.specs.Prelude.{◌/◌}
 
 -- For words that a program refuses (src/halving.rt): halves find each of them.
+-- Names: `words` is several words, and `word` one. `refuses` says whether the program refuses a word. `halves` is the two halves of words,
+-- and `alone` the word if it is the only one.
 
 -- one word of which some are refused is refused itself
 all_found_of_one : (refuses : List ℕ → Bool) (word : List ℕ) → list_any refuses (word ∷ []) ≡ true → word ∷ [] ≡ filter refuses (word ∷ [])
 all_found_of_one refuses word is = by (refuses word) refl
   where
+    -- Plan: `by` goes by both answers of `refuses word`.
     by : (b : Bool) → refuses word ≡ b → word ∷ [] ≡ filter refuses (word ∷ [])
     by true is_refused = rw is_refused refl
     by false is_taken = absurd (let both : false ≡ true = ap (λ b. b || false) (sym is_taken) ∙ is in cc)

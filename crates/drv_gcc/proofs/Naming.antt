@@ -5,6 +5,9 @@ use Rattle.std.proofs.Common.{length, sym, take, true, ℕ}
 use Rattle.std.proofs.lemmas.List.{take_all}
 
 -- For `named_texts`, `values` and `options` (src/answers.rt and src/listed.rt): the steps of the loops that look for names.
+-- Names: `left` is what is left of the text. `word` is the name so far, and `after` with one byte more; in `next_byte` `names` is the names
+-- so far, and `after` with those that begin here. `whole` is the whole result. `b` is the first byte, and `d` what a look-up gives where
+-- there is none. `head` is a text up to its first `=`, and that too.
 
 -- all that follows the first byte
 after_first : (b : ℕ) (text : List ℕ) → take (length (b ∷ text) - 1) text ≡ text

@@ -1,4 +1,8 @@
 //! What a link is refused for: files of it in the folders of COMPILER_PATH.
+//!
+//! Words --gdrv-.. are the front's: gdrv-cc(1), SWITCHES FOR SPEC TEXTS. --gdrv-path= has a folder
+//! of COMPILER_PATH, and --gdrv-dirs says that the line has -B or -specs=. docs/SPECS.md explains
+//! `%{..}`.
 
 ghost use Rattle.drv_gcc.specs.SpecFile.{file_of, hiding_body, hiding_text, there_test, there_tests};
 ghost use Rattle.std.specs.List.{flat_map};

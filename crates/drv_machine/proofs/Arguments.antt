@@ -22,6 +22,14 @@ use Rattle.std.proofs.Common.{◌≡◌, ◌⊎◌, ◌<◌, ◌+◌, ◌-◌, �
 
 -- For calls of functions in a text (calling.rt): the arguments are cut by the law of a text, in a cut of their own (`aside`), while the cut
 -- around them waits in `outer`. `after_arguments` is their end: their words, and then what they are for.
+-- Names: `C`: what the text is run for (switches, texts). `F`: what is known of the outside. `s`, `t`, `u`: the machine (what has been cut,
+-- and the world) before, between and after steps. `w`, `v`: the walk over the text, before and after (its place and open parts). `kept`:
+-- what follows arguments: their function, and the test that it answers. `end`, `start`, `next`: places in the text's list of parts. `X`,
+-- `Y`: any type. `items`: the items of a part. `levels`: what items mean after each part that may still be opened. `run`: runs a step after
+-- what has been cut, in its world. `star_of`: the value of %* in the innermost part. `back_at`: arguments have been cut. `levels_in`: what
+-- may be opened in the parts around. `puts`: puts these atoms. `run_then`: a step and then another, which looks at its value. `arguments`:
+-- the words that a step makes as arguments. `found_step`: an X by what was found of its tests, and the alternatives after it. `judged`: a
+-- test that was answered. `levels_left`: what items mean where so many parts may still be opened, the next one first.
 
 -- for any answers F of the system, and any C that a text is run for
 module _ (F : Facts) (C : Context) where

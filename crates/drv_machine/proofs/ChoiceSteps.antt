@@ -34,6 +34,14 @@ use Rattle.std.specs.Option.{IfSome}
 -- For `choose` (braces.rt), which goes over the alternatives of a brace: it judges each by its tests as the definition does. It works the X
 -- once or for each hit, and its jump to the next switch that is hit leaves out only switches that give nothing. X is what an alternative
 -- has after its colon; a hit is a switch of the line that the test's pattern names.
+-- Names: `C`: what the text is run for (switches, texts). `F`: what is known of the outside. `at`, `end`, `middle`, `test`: places in the
+-- text's list of parts. `levels`: what items mean after each part that may still be opened. `s`, `t`, `u`: the machine (what has been cut,
+-- and the world) before, between and after steps. `i`: a place on the line. `star`: the value of `%*`. `items`: the items of a part. `p`: a
+-- test's pattern. `run`: runs a step after what has been cut, in its world. `choices_step`: the first alternative with a true test, or the
+-- default. `each_from`: X for the switches from a place on. `is_hit`: the switch at a place is hit. `test_nodes`: the parts that the tests
+-- of an alternative are. `Stands`: these parts go from one place of a text's flat list up to another. `items_step`: items one after
+-- another, each counted before it is run. `names`: the names of the line's switches, in order. `nodes_of`: the parts that items are, each
+-- with those inside it. `first_true`: the first test that is true.
 
 -- the first of the alternatives at a place, and the others
 pub record FrontChoice (text : List ℕ) (at : ℕ) (choices : Choices) (end : ℕ) : Type 0 where
@@ -368,6 +376,7 @@ module _ (F : Facts) (C : Context) (p : Pattern) (items : Items) (levels : Level
       → hidden ≡ s.world.hidden → q ≡ matching p → IsNextHit all hidden q from found → NextHit F C s p items levels from found
   next_finds all hidden q from found ns hs ms n = by found n
     where
+      -- Plan: the names and hits of the code are the line's (`many`, `same`); then by whether it found one.
       many : length all ≡ length C.switches
       many = ap (λ xs. length xs) ns ∙ length-map C.switches (λ switch. switch.name)
 

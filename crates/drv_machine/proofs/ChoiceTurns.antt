@@ -24,6 +24,13 @@ use Rattle.std.proofs.Common.{◌≡◌, ◌⊎◌, ◌&&◌, ◌<◌, ◌≤◌
 
 -- For `choose` and `enter_alternative` (braces.rt): the walk goes into the alternative that the definition takes. ChoiceSteps says what the
 -- brace gives from a state; here that is put before what is left of the walk (`Following`, `Left`).
+-- Names: `C`: what the text is run for (switches, texts). `at`, `end`, `start`, `middle`, `test`: places in the text's list of parts. `F`:
+-- what is known of the outside. `s`, `t`, `u`: the machine (what has been cut, and the world) before, between and after steps. `levels`:
+-- what items mean after each part that may still be opened. `star`: the value of `%*`. `w`: the walk over the text: its place and the open
+-- parts. `items`: the items of a part. `given`: what the walk gives in the end. `levels_in`: what may be opened in the parts around.
+-- `star_of`: the value of %* in the innermost part. `tree_of`: the tree of a text. `Stands`: these parts go from one place of a text's flat
+-- list up to another. `items_step`: items one after another, each counted before it is run. `has_star`: a %* that belongs to the X that
+-- these items are. `choices_step`: the first alternative with a true test, or the default.
 
 -- the walk is at a brace with alternatives, of which those from place `at` on are left: s is the state before the loop, t the present one
 module _ (F : Facts) (C : Context) (text : List ℕ) (w : Walk) (s t : Machine) (at end : ℕ) (choices : Choices)

@@ -15,6 +15,13 @@ use Rattle.std.specs.Prelude.{◌&&◌, if◌then◌else◌}
 -- For cut_law: the failure files of a list of atoms, which are removed if the command fails: each word that is marked as an output, and of
 -- each %W the last word that ended in it. The cut keeps that word for each open %W (`inside`), and the definition looks back over the atoms
 -- (`last_in`): the lemmas join the two.
+-- Names: `c`, `d`: what has been cut so far, before and after. `atoms`: what the text gives, from here on. `run`: the atoms since a word
+-- ended. `b`: a test's value, so that `by` can go by both cases. `F`: what is known of the outside. `C`: what the text is run for
+-- (switches, texts). `X`: any type. `a`: an answer: what is known, a refusal, or nothing yet. `run_before`: the run that ends after these
+-- atoms. `is_word_before`: the run that ends after these atoms is a word. `path_of`: what a word of these atoms ends as, of which its marks
+-- say whether it is looked for. `has_begun`: a %W begins before, that ends after these atoms. `is_output`: the mark of %w. `list_of`: a
+-- list of none or one, of what there may be. `bare`: the cut after a run that is no word. `pipe_kept`: a pipe changes only the commands of
+-- a cut. `each`: answers for the items of a list. `opens_word`: the atom opens a word, if none is open.
 
 -- for each %W that is open the last word that ended in it, the innermost first, of the atoms before, the nearest first
 abbrev ended_parts : Bool → List Atom → List (Option (List Atom)) → List (Option (List Atom))

@@ -21,6 +21,14 @@ use Rattle.std.specs.Prelude.{if◌then◌else◌}
 -- For file_law: the files in a list of atoms, their words, and the commands around them. A file is what a %@ makes of its words: the atoms
 -- between `FileFrom` and `FileTo`. The list without its files, with a break for each, is cut into the same commands (`alike`), so that
 -- CutLines speaks of it.
+-- Names: `c`, `d`: what has been cut so far, before and after. `F`: what is known of the outside. `C`: what the text is run for (switches,
+-- texts). `atoms`: what the text gives, from here on. `outer`: the command around the file of a `%@`, if one is open. `run`: the atoms
+-- since a word ended. `a`: an answer: what is known, a refusal, or nothing yet. `b`: a test's value, so that `by` can go by both cases.
+-- `l`: the commands of a cut. `all_taken`: atoms, one after another. `lined`: the fields of a cut that its commands are made of.
+-- `bounds_file`: the file of a %@ begins or ends. `pipe_ended`: where words go to a file, no command ends with a pipe. `path`: what a word
+-- that ended is a path of. `without_file`: what is left where files are taken out. `broken`: the word that is open, if one is, ends.
+-- `stretch_atoms`: a word that is open ends before the file and in it. `nothing_cut`: what has been cut before the first atom. `words`: the
+-- words that end in a list of atoms.
 
 -- A cut without its output, removed files and failure files: the words of a file may add to these, and the commands do not depend on them.
 -- What two lists give is compared as plain cuts.
@@ -445,6 +453,7 @@ module _ (F : Facts) (C : Context) where
   after_file c d atoms rest n o e = by (came (broken F C c)
       (λ x. all_taken F C (file_begun x) ((atoms ++ Break ∷ FileTo ∷ []) ++ rest)) d e)
     where
+      -- Plan: the break before the file has an answer (`by`), and so has what is cut within the file (`within_file`).
       within_file : (x : Cut) → broken F C c ≡ Is (Ok x)
           → Came (all_taken F C (file_begun x) (atoms ++ Break ∷ [])) (λ y. all_taken F C y (FileTo ∷ rest)) d → AfterFile c rest d
       within_file x is (y, went, last) = file_end c x y d atoms rest n o is went last
@@ -518,6 +527,7 @@ module _ (F : Facts) (C : Context) where
   around_files stretches c n e = by (came (all_taken F C nothing_cut (flat_map without_file stretches)) (as_plain F C) (plain c)
       (alike F C stretches nothing_cut c n refl e))
     where
+      -- Plan: from the cut of the list without files, which has an answer.
       by : Came (all_taken F C nothing_cut (flat_map without_file stretches)) (as_plain F C) (plain c) → Around stretches c
       by (d, is, e) =
           let same : plain d ≡ plain c = cc in
@@ -556,6 +566,7 @@ module _ (F : Facts) (C : Context) where
   arguments_around stretches found n e = by (came (all_taken F C nothing_cut (flat_map stretch_atoms stretches ++ Break ∷ []))
       (λ c. Is (Ok c.line.words)) found e)
     where
+      -- Plan: from the cut of the whole list, which has an answer.
       by : Came (all_taken F C nothing_cut (flat_map stretch_atoms stretches ++ Break ∷ [])) (λ c. Is (Ok c.line.words)) found
           → words_around stretches ≡ Is (Ok found)
       by (c, is, e) =

@@ -17,6 +17,13 @@ use Rattle.std.specs.Prelude.{if◌then◌else◌, not, option_to_list}
 -- For command_law: the commands and the stray pipes of a list of atoms without a file. A piece of a command is a word that has ended, part
 -- of a word, or a pipe; a pipe is stray if its command has no word before it, or has more than ends of words after it. The lemmas go over
 -- the list run by run (`Course` of Runs) and compare the open command's pieces with the cut.
+-- Names: `ps`: pieces of a command. `c`, `d`: what has been cut so far, before and after. `atoms`: what the text gives, from here on.
+-- `run`: the atoms since a word ended. `l`: the commands of a cut. `F`: what is known of the outside. `C`: what the text is run for
+-- (switches, texts). `a`: an answer: what is known, a refusal, or nothing yet. `outer`: the command around the file of a `%@`, if one is
+-- open. `is_stray`: a pipe of this command is stray. `line_of`: the words of a command, and whether it has a pipe. `is_end_of_word`: the
+-- piece is a word that ended. `open_command`: the command that has not ended. `word_of`: the word that a run ends as, if it is one.
+-- `texts`: the words of the command that it gives. `commands`: the commands that end. `is_pipe`: the piece is a pipe. `any_after`: whether
+-- any of a list with one more has a property. `lacks_word`: a pipe is stray where no word precedes it in its command.
 
 -- an `or` with a true side is true: a pipe that was stray stays so
 or_true : (a : Bool) → (a || true) ≡ true
@@ -43,6 +50,7 @@ word_strays pieces w = rw (lacks pieces, more pieces) refl
     lacks (Part ∷ ps) = lacks ps
     lacks (Pipe ∷ ps) = refl
 
+    -- a word that ended counts for nothing in `has_more`
     more : (ps : List Piece) → has_more (ps ++ Word w ∷ []) ≡ has_more ps
     more [] = refl
     more (Word v ∷ ps) = more ps
@@ -451,6 +459,7 @@ module _ (F : Facts) (C : Context) where
   commands_are atoms c f e = by (commanded (course F C [] nothing_cut atoms c refl e) [] false f
       (record { outside = refl; line = refl; some = refl; piped = refl; stray = refl }))
     where
+      -- Plan: from what `Commanded` says of the whole list, field by field.
       by : Commanded (commands [] [] atoms) (open_command [] [] atoms) false [] c
           → (lines F C atoms ≡ Is (Ok c.lines)) × (has_stray_pipe atoms ≡ c.stray)
           × (line_of F C (open_command [] [] atoms) ≡ Is (Ok c.line))

@@ -10,6 +10,10 @@ use Rattle.std.specs.Prelude.{option_and_then, option_to_list}
 
 -- For cut_law: a cut has as many %W and files open as the list of its atoms. `open_following` counts them over the list and gives None
 -- where one ends that is not open, or a file begins in another.
+-- Names: `c`: what has been cut so far. `enclosed`: what has a beginning and an end among atoms: a `%W`, or the file of a `%@`. `atoms`:
+-- what the text gives, from here on. `outer`: the command around the file of a `%@`, if one is open. `run`: the atoms since a word ended.
+-- `inside`: for each open `%W` the last word that ended in it. `F`: what is known of the outside. `C`: what the text is run for (switches,
+-- texts). `nothing_cut`: what has been cut before the first atom.
 
 -- how many %W are open in a cut, or files (one at most)
 abbrev pub open_parts : Enclosed → Cut → ℕ

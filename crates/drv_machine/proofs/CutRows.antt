@@ -13,6 +13,9 @@ use Rattle.std.specs.Prelude.{None, Ok, Option, Some}
 -- Examples, which the prover computes, of the definitions over a whole list of atoms (specs/Cuts): commands, words, stray pipes, outputs,
 -- removed files and failure files. The expected values were derived by hand from the profile. An example's comment is its text; %w marks an
 -- output, %d a removed file, %V no output, %W a failure file.
+-- Names: `F`: what is known of the outside. `words`: the words that end in a list of atoms. `linking`: a link with these switches on its
+-- line. `has_stray_pipe`: a pipe of some command is stray, also in the one that has not ended. `each`: answers for the items of a list.
+-- `path`: what a word that ended is a path of.
 
 -- the byte of a
 abbrev letter_a : ℕ

@@ -17,6 +17,14 @@ use Rattle.std.specs.Prelude.{◌&&◌, if◌then◌else◌, not}
 
 -- For cut_law: the output and the removed files of a list of atoms, and the look-up of its words. A run is the atoms between two ends of a
 -- word; it is a word if it opens one. A `Course` (Runs) goes over the runs of a list that is cut to its end.
+-- Names: `c`, `d`: what has been cut so far, before and after. `atoms`: what the text gives, from here on. `run`: the atoms since a word
+-- ended. `found`: the runs of atoms that end in words. `F`: what is known of the outside. `C`: what the text is run for (switches, texts).
+-- `a`: an answer: what is known, a refusal, or nothing yet. `b`: a test's value, so that `by` can go by both cases. `inside`: for each open
+-- `%W` the last word that ended in it. `path`: what a word that ended is a path of. `words_after`: the words that end, where these atoms
+-- precede, since a word ended. `whether`: that there is an answer, or what stops it. `is_bar`: the atom is a %V, which bars outputs that
+-- began before it. `each`: answers for the items of a list. `last_of`: the last item of a list, if it has one. `opened_by`: what the atoms
+-- of a run have opened. `moved`: what an atom that ends no word does to a cut. `all_taken`: atoms, one after another. `moves_on`: what is
+-- open in the cut is what the run opens, also after one atom more.
 
 -- the end of a %W leaves the removed files
 inside_removed : (c : Cut) (inside : List (Option (List ℕ))) → (inside_done inside c).removed ≡ c.removed
@@ -212,6 +220,7 @@ module _ (F : Facts) (C : Context) where
       ≡ whether (each (path F C) (words_after run (Break ∷ atoms)))
   run_ends run atoms c k full empty = by (list_any opens_word run) (name_of F C (opened_by run)) refl refl
     where
+      -- Plan: by whether the run is a word, and then by whether its name is known.
       w : Run
       w = record { atoms = run; following = atoms }
 

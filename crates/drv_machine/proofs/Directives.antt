@@ -14,6 +14,9 @@ use Rattle.std.specs.Prelude.{Err, None, Ok, Some}
 
 -- Examples of texts, which the prover computes: names of temporaries, marks, lists, pipes and searches. `words_of F C text` is the words of
 -- each command of the text, worked with the answers F. The expected values were derived by hand from the manual and the profile.
+-- Names: `on`: the text of a source with these switches and this name. `words_of`: the words of each command of a text, group by group.
+-- `no_facts`: nothing is known yet. `linking`: a link with these switches on its line. `worked`: the outcome from a text that is parsed and
+-- worked.
 
 -- an environment without TMPDIR
 abbrev untouched : Facts

@@ -26,6 +26,11 @@ use Rattle.std.specs.Prelude.{cond, if◌then◌else◌, nat_eq}
 -- For `put_temp` (machine/naming.rt): the names of temporaries (%g, %u, %U, %| and %m), and which were drawn before. A drawing is `Once`,
 -- one name for each suffix (%g), or `Anew`, a new name (%u); %U takes the last of those. The code keeps the last path of each suffix in a
 -- map once it has many.
+-- Names: `F`: what is known of the outside. `s`: the machine: what has been cut, and the world. `C`: what the text is run for (switches,
+-- texts). `b`: a test's value, so that `by` can go by both cases. `last_drawn`: the last of these names that was drawn so. `folder`: the
+-- folder that they are in, with a slash at its end. `is_drawn`: a name was drawn so with this suffix. `Lasts`: the paths of the last of
+-- these names, by their suffixes. `NotesPath`: the path of a name is the last one of its suffix. `is_same`: two ways to draw a name are
+-- one. `run`: runs a step after what has been cut, in its world.
 
 -- six stretches of a name, put one after another by the code, are those of the definition
 regroup : (folder cc seed bar number suffix : List ℕ) → (((((([] ++ folder) ++ cc) ++ seed) ++ bar) ++ number) ++ suffix)
@@ -129,6 +134,7 @@ path_noted paths after name suffix path suffix_is path_is grows other =
     ∙ ap (λ b. cond b (Some name.path) (get (slice_cmp nat_cmp) paths other)) (sym (texts_ties name.suffix other))
     ∙ turned (pointwise nat_eq name.suffix other)
   where
+    -- a condition as the code has it, as the definition has it
     turned : (b : Bool) → cond b (Some name.path) (get (slice_cmp nat_cmp) paths other)
         ≡ (if b then Some name.path else get (slice_cmp nat_cmp) paths other)
     turned true = refl

@@ -17,6 +17,11 @@ use Rattle.std.specs.Prelude.{◌+◌, ⊤, if◌then◌else◌, is_some, nat_lt
 
 -- For TextStretches: atoms open and close %W and the files of %@ in pairs, and no file is in another. `Well` says it of a step: in a file
 -- it stays in it, and outside it leaves none open. NAME_bare: these atoms bound neither; NAME_well: the step NAME is `Well`.
+-- Names: `atoms`: what the text gives, from here on. `a`, `b`: a test's value, so that `by` can go by both cases. `xs`, `ys`: atoms, and
+-- those after them. `X`, `Y`: any type. `w`: what the run of a text changes as it goes. `enclosed`: what has a beginning and an end among
+-- atoms: a `%W`, or the file of a `%@`. `items`: the items of a part. `bounds_file`: the file of a %@ begins or ends. `is_broken`: a file
+-- begins or ends that is not one of the list's, or is in one. `stretch_atoms`: a word that is open ends before the file and in it. `puts`:
+-- puts these atoms.
 
 -- whether an atom begins or ends a %W or a file
 abbrev bounds_any : Atom → Bool

@@ -12,6 +12,10 @@ use Rattle.std.specs.Prelude.{None, Some, is_some, not, replicate}
 
 -- For `end_word` (machine/marking.rt): what the end of a word adds to the cut. It goes to the words of the command, and by its marks to the
 -- removed files, the failure files and the output; a word that is marked as a file or a script is looked up first.
+-- Names: `s`: the machine: what has been cut, and the world. `F`: what is known of the outside. `C`: what the text is run for (switches,
+-- texts). `run`: runs a step after what has been cut, in its world. `puts`: puts these atoms. `word_done`: the open word has ended as these
+-- words, of which the marks take the last. `script_option`: the option before a linker script that was found. `ended_in`: for each %W that
+-- is open the last word that ended in it. `word_found`: the open word has ended as these words for the path that was found.
 
 -- a word is open exactly if the flag says so
 pub is_open_word : (is_open : Bool) (bytes : List ℕ) → is_some (open_word is_open bytes) ≡ is_open

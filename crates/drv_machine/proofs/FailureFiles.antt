@@ -32,6 +32,13 @@ use Rattle.std.specs.Prelude.{replicate}
 -- For `%W{..}` (failing.rt), whose last word is a failure file: which words end in it, and what the code keeps of them. `ended_in last
 -- count fresh` is what the code keeps for the %W that are open: how many, how many of the innermost had no word yet (`fresh`), and the last
 -- word, which the others share.
+-- Names: `end`, `start`: places in the text's list of parts. `s`, `t`: the machine (what has been cut, and the world) before, between and
+-- after steps. `C`: what the text is run for (switches, texts). `F`: what is known of the outside. `w`, `v`: the walk over the text, before
+-- and after (its place and open parts). `c`: what has been cut so far. `inside`: for each open `%W` the last word that ended in it.
+-- `given`: what the walk gives in the end. `ended_in`: for each %W that is open the last word that ended in it. `puts`: puts these atoms.
+-- `run`: runs a step after what has been cut, in its world. `Ends`: the innermost %W ends. `Brace`: the inside of braces. `Stands`: these
+-- parts go from one place of a text's flat list up to another. `levels_left`: what items mean where so many parts may still be opened, the
+-- next one first.
 
 -- one more %W is open, with no word yet
 pub one_more : (last : List ℕ) (count fresh : ℕ) → ended_in last (count + 1) (fresh + 1) ≡ None ∷ ended_in last count fresh

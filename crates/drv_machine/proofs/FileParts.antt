@@ -24,6 +24,13 @@ use Rattle.std.specs.Prelude.{IfErr, OnOk}
 
 -- For `%@{..}` (filing.rt), which is opened as a file of its words if words of the line came from a response file, and else means what its
 -- braces mean.
+-- Names: `C`: what the text is run for (switches, texts). `F`: what is known of the outside. `w`, `v`: the walk over the text, before and
+-- after (its place and open parts). `s`, `t`: the machine (what has been cut, and the world) before, between and after steps. `end`: a
+-- place in the text's list of parts. `given`: what the walk gives in the end. `levels_left`: what items mean where so many parts may still
+-- be opened, the next one first. `most_open`: the most parts that are open at one time. `run`: runs a step after what has been cut, in its
+-- world. `brace_step`: what braces mean. `starts_file`: a %@ makes a file where words of the line are from one, unless it is in another.
+-- `Following text w at step s given`: a step, and then what is left from a place on, give this. `file_end`: the end of a %@ that makes a
+-- file.
 
 -- the item that is reached is a %@
 module _ (F : Facts) (C : Context) (text : List ℕ) (w : Walk) (s : Machine) (end : ℕ) (brace : Brace) (given : Answer (Unit {0} × Machine))

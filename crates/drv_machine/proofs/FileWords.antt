@@ -14,6 +14,13 @@ use Rattle.std.specs.Prelude.{is_some, option_map}
 -- For `%@{..}`, which makes a file of its words: these depend on the open word, its marks and the words of the file so far (`Seen`), and on
 -- nothing else that was cut before. So the words that the code cuts in the middle of a text are those that the definition cuts from nothing
 -- (`file_words_as`).
+-- Names: `c`, `d`: what has been cut so far, before and after. `F`: what is known of the outside. `C`: what the text is run for (switches,
+-- texts). `outer`: the command around the file of a `%@`, if one is open. `atoms`: what the text gives, from here on. `Y`: any type.
+-- `word_done`: the open word has ended as these words, of which the marks take the last. `then_then`: answers one after another may be
+-- joined from the left or from the right. `script_option`: the option before a linker script that was found. `broken`: the word that is
+-- open, if one is, ends. `then_same`: what follows an answer may be replaced by what is the same for each value. `all_taken`: atoms, one
+-- after another. `found_file`: what a word that is marked as a file becomes. `found_script`: what a word that is marked as a linker script
+-- becomes. `file_begun`: the file of a %@ begins. `taken`: one atom more is cut.
 
 -- what the words of a file depend on
 pub record Seen : Type 0 where

@@ -22,6 +22,12 @@ use Rattle.std.specs.Prelude.{◌==◌}
 
 -- For `%@{..}` where it makes a file of its words (filing.rt): what its beginning and its end do to the cut, and that `file_step` of the
 -- definition is that beginning, the braces and that end (`filed_runs`).
+-- Names: `F`: what is known of the outside. `C`: what the text is run for (switches, texts). `s`, `t`, `u`: the machine (what has been cut,
+-- and the world) before, between and after steps. `atoms`: what the text gives, from here on. `v`: what the run of a text changes as it
+-- goes. `c`: what has been cut so far. `run`: runs a step after what has been cut, in its world. `named_file`: the name of a file with
+-- these words takes their place. `all_taken`: atoms, one after another. `done`: what a step gave, with its atoms cut after what has been
+-- cut. `file_begun`: the file of a %@ begins. `file_end`: the end of a %@ that makes a file. `then_then`: answers one after another may be
+-- joined from the left or from the right.
 
 -- puts the word @PATH that names the file
 abbrev named_path : List ℕ → Step (Unit {0})

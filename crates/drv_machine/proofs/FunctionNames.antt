@@ -11,6 +11,8 @@ use Rattle.std.specs.Map.{lookup}
 use Rattle.std.specs.Prelude.{Bool, Some, cond, false, if◌then◌else◌, is_some, map, nat_eq, true, ℕ}
 
 -- For `function_names` (grammar.rt), which lists what may follow `%:`: the grammar knows exactly the names of the functions.
+-- Names: `t`: a test's value, so that `by` can go by both cases. `any_of`: one of these names passes the test f. `is_same`: two names are
+-- equal, byte by byte.
 
 -- a name is one of a table's names exactly if it has a row
 among : {X : Type 0} (name : List ℕ) (rows : List (List ℕ × X))

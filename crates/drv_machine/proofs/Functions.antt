@@ -16,6 +16,11 @@ use Rattle.std.specs.Prelude.{is_some}
 
 -- For calls of functions (machine/functions.rt): what a text makes of the result. An item puts the bytes of its value, if it has one; a
 -- test asks whether it has one.
+-- Names: `F`: what is known of the outside. `C`: what the text is run for (switches, texts). `s`, `t`, `u`: the machine (what has been cut,
+-- and the world) before, between and after steps. `holds`: whether the test holds. `after_arguments`: the end of arguments, and what is
+-- done with their words after it. `run`: runs a step after what has been cut, in its world. `call_step`: calls the function of this name
+-- with these words. `bytes`: the bytes of a word that is open, or of a new one. `give`: a value, with no atom and no change of the world.
+-- `value_step`: the bytes of its value, if it has one. `has_value`: whether the function of this name gives a value for these words.
 
 -- a function's arguments have ended, in a cut of their own; `outer` is the cut around them
 module _ (F : Facts) (C : Context) (outer : Cut) (name : List ℕ) (s : Machine) where

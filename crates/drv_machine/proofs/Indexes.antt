@@ -12,6 +12,7 @@ use Rattle.std.specs.Prelude.{cond, nat_eq}
 
 -- For `IndexedWords` (machine/indexed.rt), a list of words with an index that is made when the list is long: the index finds a word exactly
 -- if the list has it.
+-- Names: `a`, `b`: a test's value, so that `by` can go by both cases. `is_among`: whether a word is among these.
 
 -- the new index has this word, and beside it what the old one had
 abbrev pub Grows : BTreeSet (List ℕ) → BTreeSet (List ℕ) → List ℕ → Type 0
@@ -40,6 +41,7 @@ next_indexed index new words i item copy h is same grows other left =
     (drop_more words i item h ∙ ap (λ w. w ∷ drop (i + 1) words) (sym is)))
     ∙ left
   where
+    -- three tests in the order of the code, and of the definition
     moved : (a b c : Bool) → (cond a true b || c) ≡ (b || (a || c))
     moved true true c = refl
     moved true false c = refl
@@ -55,6 +57,7 @@ indexed_more index new words longer word copy indexes same grows is other =
     ∙ turned (pointwise nat_eq other word) (is_among words other)
     ∙ sym (ap (λ ws. is_among ws other) is ∙ list_any-append (pointwise nat_eq other) words (word ∷ []))
   where
+    -- two tests in the order of the code, and of the definition
     turned : (a b : Bool) → cond a true b ≡ (b || (a || false))
     turned true true = refl
     turned true false = refl

@@ -14,6 +14,10 @@ use Rattle.std.proofs.Common.{◌≡◌, Bool, List, ap, false, refl, true, ℕ}
 
 -- For the walk: what an item means, by the kind and the label of its token (`kind_step`), which is how the code looks at it. The lemmas
 -- NAME_item give the item of a token of that kind.
+-- Names: `F`: what is known of the outside. `C`: what the text is run for (switches, texts). `levels`: what items mean after each part that
+-- may still be opened. `star`: the value of `%*`. `items`: the items of a part. `p`: a test's pattern. `kind_of`: what an item is, without
+-- what it names. `item_step`: the row of an item. `named`: a named text is run in one more open part. `tree_named`: the tree of the text of
+-- a name, if the set has one. `label_of`: the label of an item.
 
 -- the pattern of a label is what the pattern matches
 pub labelled_is : (p : Pattern) → labelled (pattern_label p) ≡ matching p

@@ -33,6 +33,13 @@ use Rattle.std.proofs.lemmas.Option.{slice_get_within}
 -- For tests by a function (`close_test` of turns.rt and `answer` of braces.rt): the walk learns the answer at the end of the function's
 -- arguments, and then judges this test, those after it and the alternatives after them. `Kept` is what waits meanwhile: the test, the tests
 -- and the alternatives after it; `Asking` is the same as places of the list.
+-- Names: `C`: what the text is run for (switches, texts). `F`: what is known of the outside. `kept`: what follows arguments: their
+-- function, and the test that it answers. `s`, `t`, `u`: the machine (what has been cut, and the world) before, between and after steps.
+-- `levels`: what items mean after each part that may still be opened. `star`: the value of `%*`. `w`: the walk over the text: its place and
+-- the open parts. `items`: the items of a part. `given`: what the walk gives in the end. `levels_in`: what may be opened in the parts
+-- around. `star_of`: the value of %* in the innermost part. `found_step`: an X by what was found of its tests, and the alternatives after
+-- it. `first_true`: the first test that is true. `Following text w at step s given`: a step, and then what is left from a place on, give
+-- this. `judged`: a test that was answered. `run`: runs a step after what has been cut, in its world.
 
 -- a test by a function: the X that it asks for, and what waits for its answer
 module _ (F : Facts) (C : Context) (text : List ℕ) (w : Walk) (items : Items) (kept : Kept) (given : Answer (Unit {0} × Machine)) where

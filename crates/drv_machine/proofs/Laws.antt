@@ -12,6 +12,11 @@ use Rattle.std.specs.Prelude.{Err, Ok}
 
 -- For all of the walk: steps one after another give what the first and then the second gives. So a list of atoms may be cut in parts, and
 -- `outcome`, which cuts the whole list at its end, is what cutting it as it comes gives (`outcome_runs`).
+-- Names: `xs`, `ys`: atoms, and those after them. `F`: what is known of the outside. `C`: what the text is run for (switches, texts). `c`:
+-- what has been cut so far. `X`, `Y`: any type. `s`: the machine: what has been cut, and the world. `all_taken`: atoms, one after another.
+-- `run`: runs a step after what has been cut, in its world. `finished`: the outcome after the whole text. `done`: what a step gave, with
+-- its atoms cut after what has been cut. `nothing_cut`: what has been cut before the first atom. `cut`: what stops first in the order of
+-- the list counts.
 
 -- answers one after another may be joined from the left or from the right
 pub then_then : {X Y Z : Type 0} (first : Answer X) (next : X → Answer Y) (last : Y → Answer Z)

@@ -14,6 +14,8 @@ use Rattle.std.specs.List.{flat_map}
 use Rattle.std.specs.Prelude.{Bool, None, Option, Some, false, get_or, is_some, true}
 
 -- For `%o`, `%D`, `%X` and the like: the words of a list are put one after another, by a loop.
+-- Names: `C`: what the text is run for (switches, texts). `s`, `t`: the machine (what has been cut, and the world) before, between and
+-- after steps. `F`: what is known of the outside. `run`: runs a step after what has been cut, in its world. `puts`: puts these atoms.
 
 -- a text has no input if the code says so
 pub no_input : (input : Option Source) (answer : Bool) → answer ≡ is_some input → answer ≡ false → input ≡ None

@@ -14,6 +14,11 @@ use Rattle.std.proofs.lemmas.Option.{slice_get_within}
 
 -- For the walk in a brace: the items of an open part that are left. After an alternative's X the walk passes over the other alternatives of
 -- its brace (`Skips`), so `Lies` has such alternatives before each item and after the last.
+-- Names: `at`, `end`, `start`, `next`, `middle`: places in the text's list of parts. `rest`: the items that are left of the part. `b`: a
+-- byte. `tree_of`: the tree of a text. `tokens_of`: the tokens of a tree. `choice_nodes`: the parts that alternatives are. `Stands`: these
+-- parts go from one place of a text's flat list up to another. `PartAt tokens labels at kind label next`: at this place is a part of this
+-- kind with this label. `alternative_label`: the label of an alternative with these items as its X. `labels_of`: the labels of a tree, in
+-- the order of its tokens.
 
 -- some alternatives, and others after them: they are passed over together
 abbrev choices_joined : Choices → Choices → Choices

@@ -18,6 +18,9 @@ use Rattle.std.specs.Prelude.{Bool, Err, None, Ok, Option, Result, Some}
 -- Examples, which the prover computes, of atoms and limits that no short text reaches: marks on words, the limits of items and of open
 -- parts, named texts and arguments. The expected values were derived by hand from the profile. An example's comment is its text; %w marks
 -- an output, %V no output, %W a failure file.
+-- Names: `F`: what is known of the outside. `atoms`: what the items of a whole text mean from its start. `items_step`: items one after
+-- another, each counted before it is run. `levels_left`: what items mean where so many parts may still be opened, the next one first.
+-- `named`: a named text is run in one more open part.
 
 -- the tree of a text
 abbrev tree : List ℕ → Items

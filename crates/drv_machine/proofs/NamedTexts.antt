@@ -16,6 +16,9 @@ use Rattle.std.proofs.Common.{◌≡◌, ◌<◌, ◌++◌, ◌∙◌, List, [],
 use Rattle.std.specs.Prelude.{option_map}
 
 -- For `%(NAME)` and letters such as %a (named.rt): the text of a name is opened as a part; a name without a text gives nothing.
+-- Names: `w`, `v`: the walk over the text, before and after (its place and open parts). `at`, `end`: places in the text's list of parts.
+-- `F`: what is known of the outside. `C`: what the text is run for (switches, texts). `s`: the machine: what has been cut, and the world.
+-- `given`: what the walk gives in the end. `tree_of`: the tree of a text.
 
 -- where the code finds no text for a name, the context has none
 pub none_named : {R : Type 0} (now : R → List ℕ) (found : Option R) (text : Option (List ℕ)) → option_map now found ≡ text → found ≡ None

@@ -39,6 +39,14 @@ use Rattle.std.proofs.Common.{inl, inr, length, length-append, refl, slice_get, 
 -- part (`ends`), give the defined answer. The lemmas say how it goes on when an item is processed (`leaf`), when a part is opened
 -- (`items_opened`, `step_opened`) and when one is closed (`closes`). A frame is an open part on the code's stack, an `Around` the same for
 -- the proof.
+-- Names: `C`: what the text is run for (switches, texts). `F`: what is known of the outside. `s`, `t`, `u`: the machine (what has been cut,
+-- and the world) before, between and after steps. `w`, `v`: the walk over the text, before and after (its place and open parts). `levels`:
+-- what items mean after each part that may still be opened. `at`, `start`, `next`: places in the text's list of parts. `star`: the value of
+-- `%*`. `given`: what the walk gives in the end. `b`: a byte. `run`: runs a step after what has been cut, in its world. `items_step`: items
+-- one after another, each counted before it is run. `star_of`: the value of %* in the innermost part. `levels_in`: what may be opened in
+-- the parts around. `item_step`: the row of an item. `Following text w at step s given`: a step, and then what is left from a place on,
+-- give this. `Framed`: the open parts, the innermost first. `levels_left`: what items mean where so many parts may still be opened, the
+-- next one first. `onward`: what is left of the innermost part, and what follows it. `Lies`: the items that are left of an open part.
 
 -- a list with one more at its end
 abbrev head_or : {A : Type 0} → A → List A → A

@@ -18,6 +18,8 @@ use Rattle.std.specs.Prelude.{Err, None, Ok, Some}
 -- Examples of texts, which the prover computes: rows of the table that open a part (named texts, %W, functions, %@). `words_of C text` is
 -- the words of each command of the text, `cost_of` the number of items worked. The expected values were derived by hand from the manual and
 -- the profile.
+-- Names: `F`: what is known of the outside. `linking`: a link with these switches on its line. `alone`: a switch without an argument.
+-- `with`: a switch with an argument. `on`: the text of a source with these switches and this name.
 
 -- a context with these named texts
 abbrev named : List (List ℕ × List ℕ) → Context → Context

@@ -13,6 +13,9 @@ use Rattle.std.proofs.Common.{◌≡◌, ◌∙◌, Err, List, [], ◌∷◌, No
 
 -- For `%o` (machine/lists.rt): the outputs are taken out of the machine while their words are put, and given back after that, which no atom
 -- sees.
+-- Names: `s`, `t`: the machine (what has been cut, and the world) before, between and after steps. `C`: what the text is run for (switches,
+-- texts). `F`: what is known of the outside. `atoms`: what the text gives, from here on. `a`: an answer: what is known, a refusal, or
+-- nothing yet. `run`: runs a step after what has been cut, in its world. `puts`: puts these atoms. `words`: the atoms of words, each whole.
 
 -- the state with these outputs in its world
 abbrev pub holding : List (List ℕ) → Machine → Machine

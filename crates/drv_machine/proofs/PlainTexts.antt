@@ -23,6 +23,10 @@ use Rattle.std.proofs.lemmas.Bool.Decides.{nat_tests}
 use Rattle.std.proofs.lemmas.Option.{slice_get_within}
 
 -- For `open_text` (named.rt): a named text of plain bytes alone, put at once, is the text opened, a turn for each byte, and its end.
+-- Names: `s`, `t`: the machine (what has been cut, and the world) before, between and after steps. `w`: the walk over the text: its place
+-- and the open parts. `at`: a place in the text's list of parts. `F`: what is known of the outside. `C`: what the text is run for
+-- (switches, texts). `given`: what the walk gives in the end. `after_run`: the state after a turn for each of these plain bytes. `tree_of`:
+-- the tree of a text. `tokens_of`: the tokens of a tree.
 
 -- the state after the bytes of a text were put at once, each counted
 pub text_counted : (s t : Machine) (bytes : List ℕ) → false ≡ (length bytes == 0)
@@ -74,6 +78,7 @@ module _ (F : Facts) (C : Context) (w : Walk) (at : ℕ) (inside : List ℕ) (s 
       (as_after F C w.text.now (record w { at = at }) at (λ levels star. nothing) (after_run s bytes) given after)
       (Ok tt) (after_run s bytes) refl))
     where
+      -- after the bytes the walk has nothing left inside, and gives the same
       ended : Left F C inside (within (0 + length bytes)) (after_run s bytes) given
       ended = run_left F C inside given (within 0) s bytes are
           (are_within (tokens_of (tree_of inside)) (labels_of (tree_of inside)) 0 bytes are (omega arith)) few

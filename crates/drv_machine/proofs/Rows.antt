@@ -12,6 +12,7 @@ use Rattle.std.specs.Prelude.{Err, None, Ok}
 -- Examples of texts, which the prover parses, works and cuts: the rows of the table that open no part. `words_of C text` is the words of
 -- each command of the text, `cost_of` the number of items worked; `on` and `linking` (WorkedTexts) make the line's switches. The expected
 -- words were derived by hand from the manual and the profile, and hold for all facts.
+-- Names: `F`: what is known of the outside. `alone`: a switch without an argument.
 
 -- for any answers F of the system
 module _ (F : Facts) where

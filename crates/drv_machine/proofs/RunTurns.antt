@@ -28,6 +28,10 @@ use Rattle.std.specs.Prelude.{if◌then◌else◌, nat_lt}
 
 -- For `work_run` (turns.rt) and `open_text` (named.rt): plain bytes that follow one another, worked as one slice, are so many
 -- turns, each of which works one byte.
+-- Names: `s`, `t`, `u`: the machine (what has been cut, and the world) before, between and after steps. `w`: the walk over the text: its
+-- place and the open parts. `b`: a byte. `F`: what is known of the outside. `C`: what the text is run for (switches, texts). `given`: what
+-- the walk gives in the end. `tree_of`: the tree of a text. `in_word`: bytes go into the word that is open, or open one. `tokens_of`: the
+-- tokens of a tree. `labels_of`: the labels of a tree, in the order of its tokens.
 
 -- one more item is counted
 abbrev one_more : Machine → Machine

@@ -18,6 +18,13 @@ use Rattle.std.specs.Prelude.{◌&&◌, if◌then◌else◌, is_some, map, not}
 -- For the laws of the cut (CutRuns, CutLines, CutFailures, CutFiles): how a cut goes over the runs of a list of atoms. A run is the atoms
 -- between two ends of a word (a break or a pipe); it is a word if it opens one. `Course` is the induction that those files share: one case
 -- for an atom in a run, and one for each kind of end.
+-- Names: `c`, `d`: what has been cut so far, before and after. `run`: the atoms since a word ended. `atoms`: what the text gives, from here
+-- on. `a`, `b`: a test's value, so that `by` can go by both cases. `F`: what is known of the outside. `C`: what the text is run for
+-- (switches, texts). `outer`: the command around the file of a `%@`, if one is open. `X`: any type. `a`: an answer: what is known, a
+-- refusal, or nothing yet. `opens_word`: the atom opens a word, if none is open. `byte_of`: the byte that an atom puts into a word, if it
+-- puts one. `pipe_ended`: where words go to a file, no command ends with a pipe. `is_bar`: the atom is a %V, which bars outputs that began
+-- before it. `all_taken`: atoms, one after another. `is_barred`: a %V follows the beginning of the word. `words_after`: the words that end,
+-- where these atoms precede, since a word ended. `ends_word`: the atom ends the word that is open.
 
 -- what is open after the atoms of a run: whether a word is, its bytes and marks, and whether a %V bars it
 pub record Opened : Type 0 where
@@ -92,6 +99,7 @@ any_after p (y ∷ ys) x = ap (λ b. p y || b) (any_after p ys x) ∙ around (p 
 bytes_after : (run : List Atom) (atom : Atom) → flat_map byte_of (run ++ atom ∷ []) ≡ with_byte (flat_map byte_of run) atom
 bytes_after run atom = flat_map-append byte_of run (atom ∷ []) ∙ by atom
   where
+    -- Plan: by the atom: only a byte adds one.
     by : (a : Atom) → flat_map byte_of run ++ (byte_of a ++ []) ≡ with_byte (flat_map byte_of run) a
     by (Put b) = refl
     by Open = append-nil (flat_map byte_of run)
@@ -313,6 +321,7 @@ module _ (F : Facts) (C : Context) where
       (sym (ap (λ a. a >>- λ x. all_taken F C x atoms) (broken_is F C c ∙ ap (ended F C c) e)) ∙ went)
       (λ name. course [] (with_word c (opened_by run) name) atoms d refl) (course [] (bare c) atoms d refl)
     where
+      -- Plan: by whether the run is a word, and then by whether its name is known.
       by : (begun : Bool) (name : Answer (List ℕ)) → list_any opens_word run ≡ begun → name_of F C (opened_by run) ≡ name
           → (ended_as F C c (opened_by run) begun name >>- λ x. all_taken F C x atoms) ≡ Is (Ok d)
           → ((n : List ℕ) → all_taken F C (with_word c (opened_by run) n) atoms ≡ Is (Ok d)

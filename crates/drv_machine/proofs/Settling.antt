@@ -10,6 +10,8 @@ use Rattle.std.proofs.lemmas.Bool.{false≢true}
 
 -- For `settle` (turns.rt), which closes the open parts that have ended and says whether an item is left: what `Settled` says of each
 -- answer.
+-- Names: `s`: the machine: what has been cut, and the world. `given`: what the walk gives in the end. `F`: what is known of the outside.
+-- `C`: what the text is run for (switches, texts). `w`: the walk over the text: its place and the open parts.
 
 -- what `settle` answers for a walk
 module _ (F : Facts) (C : Context) (text : List ℕ) (w : Walk) (s : Machine) (given : Answer (Unit {0} × Machine)) where

@@ -16,6 +16,11 @@ use Rattle.std.proofs.Math.Seq.{get_or-append_seam}
 -- For the walk over a text (`walk.rt`, `turns.rt`): where the parts of a tree are in the flat list of tokens that the code goes over. A
 -- place is an index of that list. `Stands` says that these parts are the tokens from one place up to another, `Spans` that some whole parts
 -- are, and `Passed` is the invariant of the loop over the tests of an alternative.
+-- Names: `at`, `end`, `start`, `next`: places in the text's list of parts. `X`, `A`: any type. `flat`: the tokens of parts, from the place
+-- n of the list on. `tree_of`: the tree of a text. `labels`: the labels of parts, in the order of their tokens. `tokens_of`: the tokens of
+-- a tree. `tests_in`: the tests that parts begin with. `Stand`: these parts go from one place of the flat list up to another.
+-- `after_tests`: what follows the tests that these parts begin with. `PartAt tokens labels at kind label next`: at this place is a part of
+-- this kind with this label. `is_test`: the part is a test. `nodes_of`: the parts that items are, each with those inside it.
 
 -- the item after a list is at the place that is the list's length
 slice_seam : {A : Type 0} (xs : List A) (y : A) (ys : List A) → slice_get (xs ++ y ∷ ys) (length xs) ≡ Some y

@@ -11,6 +11,9 @@ use Rattle.std.proofs.Common.{◌≡◌, ◌⊎◌, ◌∙◌, Bool, Err, Ok, Re
 use Rattle.std.specs.Prelude.{OnOk}
 
 -- For the walk: what two steps give, one after the other, by what the first gave.
+-- Names: `X`, `Y`: any type. `F`: what is known of the outside. `C`: what the text is run for (switches, texts). `s`, `t`: the machine
+-- (what has been cut, and the world) before, between and after steps. `b`: a test's value, so that `by` can go by both cases. `given`: what
+-- a step gives. `run`: runs a step after what has been cut, in its world.
 
 -- a step, and then another that looks at its value
 module _ {X Y : Type 0} (F : Facts) (C : Context) (s : Machine) (a : Step X) (f : X → Step Y) where

@@ -12,6 +12,7 @@ use Rattle.std.specs.Prelude.{Err, Ok}
 -- cost. `words_of C text` is the words of each command of the text, `cost_of` the number of items worked; `linking` and `on` (WorkedTexts)
 -- make the line's switches. The expected words were derived by hand from the manual and the profile. Nothing cites the examples: each fails
 -- where a change of specs/Atoms or specs/Cutting changes what it says.
+-- Names: `alone`: a switch without an argument. `with`: a switch with an argument.
 
 -- for any answers F of the system
 module _ (F : Facts) where

@@ -49,6 +49,14 @@ use Rattle.std.specs.Prelude.{◌&&◌, ◌+◌, codes, drop, if◌then◌else�
 
 -- For text_law: the atoms of a text open and close %W and the files of %@ in pairs, and no file is in another: each step of a text is
 -- `Well` (Enclosing). NAME_bare: these atoms bound neither; NAME_well: the step NAME is `Well`.
+-- Names: `C`: what the text is run for (switches, texts). `w`, `v`: what the run of a text changes as it goes. `levels`: what items mean
+-- after each part that may still be opened. `F`: what is known of the outside. `star`: the value of `%*`. `b`: a test's value, so that `by`
+-- can go by both cases, or whether the file of a `%@` is open. `atoms`: what the text gives, from here on or from its start. `items`: the
+-- items of a part. `p`: a test's pattern. `then_well`: two steps one after the other. `puts_well`: atoms that bound nothing are put.
+-- `bytes_well`: the bytes of a word are put. `give_well`: a value is given without an atom. `WellLevels`: what items mean in each part that
+-- may still be opened is `Well`. `WellDone`: what a step gives, in a file or not. `items_step`: items one after another, each counted
+-- before it is run. `names`: the names of the line's switches, in order. `Stretched atoms`: the list is made of atoms and whole files, none
+-- of which is in another.
 
 module _ (F : Facts) where
   input_well : (C : Context) (input : Option Source) → Well (input_name F (record C { input = input }))
@@ -60,6 +68,7 @@ module _ (F : Facts) where
   outputs_well C (Some source) = refuse_well fault.NotInLink
 
 module _ (F : Facts) (C : Context) where
+  -- a name is drawn: only the numbers and the names drawn change
   draw_well : (contents : List ℕ) (drawing : Drawing) (suffix : List ℕ) → Well (draw_with F C contents drawing suffix)
   draw_well contents drawing suffix =
       then_well (look_well (λ w. w.number)) (λ number. then_well (needs_well (known (temp_name F C.seed number suffix))) (λ path. then_well
@@ -83,6 +92,7 @@ module _ (F : Facts) (C : Context) where
   name_well : (drawing : Drawing) (suffix : List ℕ) → Well (name_step F C drawing suffix)
   name_well drawing suffix = then_well (drawn_well drawing suffix) (λ path. bytes_well path)
 
+  -- each kind of temporary name
   temp_well : (kind : TempKind) (suffix : List ℕ) → Well (temp_step F C kind suffix)
   temp_well Shared suffix = name_well Once suffix
   temp_well New suffix = then_well (draw_well [] Anew suffix) (λ path. bytes_well path)
@@ -94,16 +104,19 @@ module _ (F : Facts) (C : Context) where
   switch_bare i = no_bounds (map Put (hyphen ∷ name_at (names C) i)) (Break ∷ word_of (argument C i))
       (bytes_bare (hyphen ∷ name_at (names C) i)) (word_bare (argument C i))
 
+  -- the switches of the line that `%{PATTERNS}` puts
   emitted_bare : (patterns : List (Span × Pattern)) (hidden : List Bool) → None-bounds (emitted F C patterns hidden)
   emitted_bare patterns hidden = flat_bare (switch_atoms F C) switch_bare
       (filter (λ i. list_any (λ p. is_hit (names C) hidden (matching p.1) i) patterns) (places F C))
 
+  -- a call of a function that is there, or is not
   called_well : (args : List (List ℕ)) (function : Option Func) (v : World) → Well (called_step F C args function v)
   called_well args None v = give_well None
   called_well args (Some function) v =
       then_well (needs_well (called (outcomes.called F (names C) v.hidden (site_of C) function args v.outputs)))
       (λ c. then_well (change_well (λ u. record u { outputs = c.outputs }) (λ u. refl)) (λ u. give_well c.given))
 
+  -- a call by its name: the arguments are words, no atoms
   call_well : (name : List ℕ) (args : List (List ℕ)) → Well (call_step F C name args)
   call_well name args = record {
     stays = λ w b i. after_well b [] (called_step F C args (function_of name) w w) (fits_bare b [] refl)
@@ -116,6 +129,7 @@ module _ (F : Facts) (C : Context) where
   has_well : (name : List ℕ) (args : List (List ℕ)) → Well (has_value F C name args)
   has_well name args = then_well (call_well name args) (λ given. give_well (is_some given))
 
+  -- the words of arguments, which end as those of a command do
   words_well : (w : World) (b : Bool) (work : Worked (Unit {0})) → w.is_in_file ≡ b → WellDone b work → WellDone b (words_of F C w work)
   words_well w b (Goes atoms u v) i e = (needs_well (argument_words F C atoms)).stays v b e.1
   words_well w b (Refuses atoms fault) i e = (needs_well (all_taken F C nothing_cut atoms >>- λ c. Is (Err fault))).stays w b i
@@ -124,6 +138,7 @@ module _ (F : Facts) (C : Context) where
   arguments_well : (step : Step (Unit {0})) → Well step → Well (arguments F C step)
   arguments_well step e = record { stays = λ w b i. words_well w b (step w) i (e.stays w b i) }
 
+  -- the name of a file with these words
   named_file_well : (list : List (List ℕ)) → Well (named_file F C list)
   named_file_well [] = puts_well [] refl
   named_file_well (word ∷ list) = then_well (draw_well (response_text (word ∷ list)) Anew (codes ".args"))
@@ -138,6 +153,7 @@ module _ (F : Facts) (C : Context) where
         append-nil (Break ∷ FileFrom ∷ atoms ++ Break ∷ FileTo ∷ []);
   }
 
+  -- a step whose words go to a file is well around that file
   filed_well : (work : Worked (Unit {0})) → WellDone true work → WellDone false (filed F C work)
   filed_well (Goes atoms u v) e =
       after_well false (Break ∷ FileFrom ∷ atoms ++ Break ∷ FileTo ∷ [])
@@ -150,6 +166,7 @@ module _ (F : Facts) (C : Context) where
   file_well : (step : Step (Unit {0})) (w : World) → Well step → WellDone false (file_step F C step w)
   file_well step w e = filed_well (step (record w { is_in_file = true })) (e.stays (record w { is_in_file = true }) true refl)
 
+  -- a step that begins a file if none is open, in either case
   chosen_as : (step : Step (Unit {0})) (w : World) → Well step → (from b : Bool) → w.is_in_file ≡ b
       → WellDone b ((if from && not w.is_in_file then file_step F C step else step) w)
   chosen_as step w e false b i = e.stays w b i
@@ -158,6 +175,7 @@ module _ (F : Facts) (C : Context) where
   chosen_as step w e true false i = subst (λ (inside : Bool). WellDone false ((if not inside then file_step F C step else step) w)) (sym i)
       (file_well step w e)
 
+  -- the same as one step
   chosen_well : (step : Step (Unit {0})) → Well step
       → Well (look (starts_file F C) >>= λ starts. if starts then file_step F C step else step)
   chosen_well step e = record {
@@ -169,6 +187,7 @@ module _ (F : Facts) (C : Context) where
   named_well None levels e = puts_well [] refl
   named_well (Some items) levels e = opened_well levels (λ deeper inside. deeper items) e (λ deeper inside goes following. goes items)
 
+  -- X for each hit
   each_well : (p : Pattern) (X : List ℕ → Levels → Step (Unit {0})) (levels : Levels) → WellLevels levels
       → ((rest : List ℕ) (inside : Levels) → WellLevels inside → Well (X rest inside)) → (is : List ℕ) → Well (each_hit F C p X levels is)
   each_well p X levels e goes [] = puts_well [] refl
@@ -180,6 +199,7 @@ module _ (F : Facts) (C : Context) where
       (λ u. puts_well (Break ∷ word_of (argument C i)) (word_bare (argument C i)))) (puts_well [] refl))
       (λ u. each_well p X levels e goes is))
 
+  -- X once, or for each hit, or the other alternatives
   worked_well : (found : Option Asked) (own : Bool) (X : List ℕ → Levels → Step (Unit {0})) (levels : Levels) (star : List ℕ)
       (others : Step (Unit {0})) → WellLevels levels
       → ((rest : List ℕ) (inside : Levels) → WellLevels inside → Well (X rest inside)) → Well others
@@ -214,6 +234,7 @@ module _ (F : Facts) (C : Context) where
       (λ options. puts_well (flat_map broken_word options) (flat_bare broken_word broken_bare options))
 
   mutual
+    -- each item, by its kind
     item_well : (item : Item) (levels : Levels) (star : List ℕ) → WellLevels levels → Well (item_step F C item levels star)
     item_well (Plain b) levels star e = puts_well (Put b ∷ []) refl
     item_well (Escape b) levels star e = puts_well (Put b ∷ []) refl
@@ -242,6 +263,7 @@ module _ (F : Facts) (C : Context) where
         then file_step F C (brace_step F C brace inside star) else brace_step F C brace inside star) e
         (λ deeper inside d following. chosen_well (brace_step F C brace inside star) (brace_well brace inside star following))
 
+    -- items one after another, each counted
     items_well : (items : Items) (levels : Levels) (star : List ℕ) → WellLevels levels → Well (items_step F C items levels star)
     items_well none levels star e = puts_well [] refl
     items_well (more span item items) levels star e =
@@ -251,6 +273,7 @@ module _ (F : Facts) (C : Context) where
     brace_well (Emit patterns) levels star e = look_puts_well (λ w. emitted F C patterns w.hidden) (λ w. emitted_bare patterns w.hidden)
     brace_well (Choose choices) levels star e = choices_well choices levels star e
 
+    -- the alternatives, by their tests
     choices_well : (choices : Choices) (levels : Levels) (star : List ℕ) → WellLevels levels → Well (choices_step F C choices levels star)
     choices_well no_choice levels star e = puts_well [] refl
     choices_well (choice span no_test items choices) levels star e = items_well items levels star e
@@ -259,12 +282,14 @@ module _ (F : Facts) (C : Context) where
         (λ found. worked_well found (has_star items) (λ rest inside. items_step F C items inside rest) levels star
         (choices_step F C choices levels star) e (λ rest inside d. items_well items inside rest d) (choices_well choices levels star e))
 
+    -- the tests of an alternative, up to the first that is true
     first_well : (tests : Tests) (levels : Levels) (star : List ℕ) → WellLevels levels → Well (first_true F C tests levels star)
     first_well no_test levels star e = give_well None
     first_well (test span negated asked tests) levels star e =
         then_well (truth_well asked levels star e) (λ holds. if_well (turned negated holds) (give_well (Some asked))
         (first_well tests levels star e))
 
+    -- what a test asks
     truth_well : (asked : Asked) (levels : Levels) (star : List ℕ) → WellLevels levels → Well (truth F C asked levels star)
     truth_well (HasSwitch p) levels star e = look_well (λ w. nat_lt 0 (length (hits (names C) w.hidden (matching p))))
     truth_well (HasSuffix word) levels star e = give_well (is_word word (suffix_of C.input))
@@ -281,6 +306,7 @@ module _ (F : Facts) (C : Context) where
   text_well : (items : Items) (n : ℕ) → Well (items_step F C items (levels_left F C n) [] >> puts (Break ∷ End ∷ []))
   text_well items n = then_well (items_well items (levels_left F C n) [] (levels_well n)) (λ u. puts_well (Break ∷ End ∷ []) refl)
 
+  -- a whole text is made of atoms and whole files
   goes_stretched : (work : Worked (Unit {0})) (xs : List Atom) (w : World) → WellDone false work → work ≡ Goes xs tt w → Stretched xs
   goes_stretched (Goes ys u v) xs w e is = let same : ys ≡ xs = cc in subst Stretched same e.0.0
   goes_stretched (Refuses ys fault) xs w e is = absurd cc
@@ -298,6 +324,7 @@ module _ (F : Facts) (C : Context) where
   stops_as b atoms e Failure = e.1 0
   stops_as b atoms e File = halted_open b atoms e.0
 
+  -- its %W and files begin and end in pairs
   balanced_as : (b : Bool) (work : Worked (Unit {0})) → WellDone b work → Balanced work
   balanced_as b (Goes atoms u v) e = λ enclosed. goes_as b atoms e.0 enclosed
   balanced_as b (Refuses atoms fault) e = λ enclosed. stops_as b atoms e enclosed

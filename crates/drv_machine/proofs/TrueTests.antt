@@ -23,6 +23,13 @@ use mathlib.Core.Bool.{beq}
 
 -- For `first_true` (asking.rt): the tests of an alternative are judged one after another, up to the first that is true, or that is by a
 -- function, whose arguments must be processed first (`AskedTest`). `TestsLeft` is the invariant of that loop.
+-- Names: `C`: what the text is run for (switches, texts). `at`, `end`: places in the text's list of parts. `negated`: whether the test has
+-- a `!`. `F`: what is known of the outside. `s`, `u`: the machine (what has been cut, and the world) before, between and after steps.
+-- `holds`: whether the test holds. `asked`: what the test asks. `levels`: what items mean after each part that may still be opened. `star`:
+-- the value of `%*`. `run`: runs a step after what has been cut, in its world. `tree_of`: the tree of a text. `label_at`: the label of the
+-- part at this place of the list. `turned negated holds`: the answer of a test, its ! considered. In equations `n` is that of the code's
+-- `negated`, `e` that of its answer. `test_label`: the label of a test, with a ! or without. `asked_step`: what a test asks, its ! aside.
+-- `is_call`: the label is that of a test by a function. `test_nodes`: the parts that the tests of an alternative are.
 
 -- a test that is not by a function is answered at once, by its label
 pub asked_is : (F : Facts) (C : Context) (negated : Bool) (asked : Asked) (levels : Levels) (star : List ℕ)

@@ -34,6 +34,16 @@ use Rattle.std.specs.Prelude.{◌↔◌, IsSome}
 -- For `turn`, `settle` and `close` (turns.rt): one turn of the loop, which works one item, keeps `Left`, or ends in the refusal that is
 -- defined. `Left F C text w s given`: the rest of walk w, worked from state s, gives `given`. `Following` says the same of a step and the
 -- rest after it, `After` of the end of an open part.
+-- Names: `w`, `v`: the walk over the text, before and after (its place and open parts). `C`: what the text is run for (switches, texts).
+-- `F`: what is known of the outside. `s`, `t`, `u`: the machine (what has been cut, and the world) before, between and after steps.
+-- `levels`: what items mean after each part that may still be opened. `items`: the items of a part. `at`, `end`: places in the text's list
+-- of parts. `rest`: the items that are left of the part. `p`: a test's pattern. `tree_of`: the tree of a text. `item_step`: the row of an
+-- item. `run`: runs a step after what has been cut, in its world. `levels_in`: what may be opened in the parts around. `star_of`: the value
+-- of %* in the innermost part. `given`: what the walk gives in the end. `s` is the machine before the item, `u` after it was counted.
+-- `named`: runs a named text. `same_step`: puts a step that does the same in another's place. `after_in`: moves the walk behind the token.
+-- `Stands`: these parts go from one place of a text's flat list up to another. `AtItem text w`: the token at the place that is reached is
+-- no alternative. `Lain text w`: items lie from the place that is reached to the end of the innermost part. `label_at`: the label of the
+-- part at this place of the list. `Lies`: the items that are left of an open part.
 
 -- a walk that moved on in the innermost part, over alternatives that are not worked, still has the same left
 pub left_at : (F : Facts) (C : Context) (text : List ℕ) (w : Walk) (at : ℕ) (s : Machine) (given : Answer (Unit {0} × Machine))
@@ -132,7 +142,8 @@ module _ (text : List ℕ) (w : Walk) (item : AtItem text w) (token : Token)
           (run F C u (kind_step F C kind (label_at (tree_of text) w.at) (star_of C w.star) inner))) (sym k)
           (subst (λ (n : List ℕ). GivesKnown Memory (λ x. (tt, t)) result (run F C u (bytes n))) is put))
 
-      -- an item that is a named text opens the text of its name, and then what is left follows
+      -- an item that is a named text opens the text of its name, and then what is left follows: `same_step` puts the text in the place of
+      -- the item, and `after_in` moves the walk behind the token
       text_after : (name : List ℕ) → name ≡ (label_at (tree_of text) w.at).word
           → item_step F C front.item (levels_in F C counted_item.arounds) (star_of C w.star)
           ≡ named F C (tree_named F C (label_at (tree_of text) w.at).word) (levels_in F C counted_item.arounds)

@@ -19,6 +19,10 @@ use Rattle.std.specs.Prelude.{None}
 
 -- For `add_switch` (machine/whole_words.rt), which adds a word to the command as a whole: the cut is the same as if its bytes were put one
 -- by one, where no word is open and no mark looks up the next (`IsBetweenWords`).
+-- Names: `s`: the machine: what has been cut, and the world. `C`: what the text is run for (switches, texts). `F`: what is known of the
+-- outside. `b`: a byte. `run`: runs a step after what has been cut, in its world. `puts`: puts these atoms. `word_added`: the state after a
+-- word was put whole into the command, between words. `put_then`: where the first part of a list was put, the second is left to put.
+-- `touched`: something is here.
 
 -- after a word that was added whole no word is open, and no mark waits
 pub between_again : (s : Machine) (word : List ℕ) → IsBetweenWords (word_added s word).cut
@@ -53,6 +57,7 @@ module _ (F : Facts) (C : Context) (s : Machine) where
       → run F C s (puts (Open ∷ map Put word ++ Break ∷ [])) ≡ Is (Ok (tt, word_added s word))
   whole_added [] between = put_then F C s (opened []) (Open ∷ []) (Break ∷ []) begins ∙ ends [] between.1 between.2
     where
+      -- the word is opened, with no byte in it
       begins : run F C s (puts (Open ∷ [])) ≡ Is (Ok (tt, opened []))
       begins = ap (λ (word : Option (List ℕ)). Is (Ok (
         tt,
@@ -66,6 +71,7 @@ module _ (F : Facts) (C : Context) (s : Machine) where
         record s { cut = record (touched s.cut) { word = Some (unwrap_or word [] ++ []) } },
       ))) between.0
 
+      -- its bytes and its end add it to the command
       rest : run F C (opened []) (puts (map Put (b ∷ bs) ++ Break ∷ [])) ≡ Is (Ok (tt, word_added s (b ∷ bs)))
       rest =
           put_then F C (opened []) (again (b ∷ bs)) (map Put (b ∷ bs)) (Break ∷ [])

@@ -20,6 +20,11 @@ use Rattle.drv_system.specs.Known.{Is}
 use Rattle.std.proofs.Common.{◌≡◌, ◌⊎◌, ◌∙◌, Err, List, ap, refl, sym, ℕ}
 
 -- For `work_item` and `work_leaf`: the item at a place, by its kind, does what the definition says.
+-- Names: `F`: what is known of the outside. `C`: what the text is run for (switches, texts). `at`, `end`: places in the text's list of
+-- parts. `s`: the machine: what has been cut, and the world. `star`: the value of `%*`. `levels`: what items mean after each part that may
+-- still be opened. `run`: runs a step after what has been cut, in its world. `leaf_step`: the directives that are whole with their byte.
+-- `input_name`: the name of the input. `kind_step`: `star` is the value of %*, and `inner` what the braces mean, or the text of a name.
+-- `label_at`: the label of the part at this place of the list. `tree_of`: the tree of a text.
 
 -- the part in an item is what the braces of its kind mean
 pub item_means : (F : Facts) (C : Context) (text : List ℕ) (at end : ℕ) (levels : Levels) (star : List ℕ) (item : Item)

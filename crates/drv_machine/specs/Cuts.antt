@@ -174,8 +174,8 @@ output_before before =
     if is_word_before before && list_any is_output (run_before before) then run_before before ∷ []
     else []
 
--- The failure file of a place: where a %W ends the last word that ends in it, and where a word ends
--- that is marked as an output that word.
+-- The failure file of a place, which is removed if its command fails: where a %W ends, the last word that ended in it; where a word ends
+-- that %w marks, that word.
 abbrev pub failure_at : Place → List (List Atom)
 failure_at place = by place.atom
   where

@@ -11,7 +11,8 @@ use Rattle.std.specs.Str.{byte}
 -- For liveness: what cancels a name. Any level cancels a level, and a negative form and its positive form cancel each other.
 -- Names: `name` is the name of a switch. `other` is another name. `t` is the value of a test, so that `by` can go by both cases.
 -- `has_negative` says that a name has a form with `no-`. `is_level` says that a name is a level of -O. `cancels later earlier` says that a
--- later switch cancels an earlier one. `positive` is a name without its `no-`.
+-- later switch cancels an earlier one. `positive` is a name without its `no-`. `is_negative_of`: the first name is the negative form of the
+-- second.
 
 -- a name that begins with O begins with that letter
 level_alone : (name : List ℕ) → is_level name ≡ true → has_negative name ≡ false

@@ -257,6 +257,7 @@ named_last names order name end place o high point some is = by (pointwise nat_e
         far_places names order o found.0 (end - 1) 0 before last (rw at alike) in
         (rw is (texts_ties (name_at names (get_or order (end - 1) 0)) name ∙ ap is_eq level), omega (arith, is, at, places))
       where
+        -- an order that is not less, but at most equal, is equal
         squeezed : (p : Ordering) → is_lt p ≡ false → is_le p ≡ true → p ≡ Equal
         squeezed Less e e' = absurd cc
         squeezed Equal e e' = refl
@@ -269,6 +270,7 @@ named_last names order name end place o high point some is = by (pointwise nat_e
       passes = λ positive. nat_list_eq_equiv.symm name (name_at names place) ∙ e;
     }
       where
+        -- no switch after the place has this name
         following_it : (i : ℕ) → place < i → i < length names → (u : Bool) → pointwise nat_eq name (name_at names i) ≡ u → u ≡ false
         following_it i following within false e' = refl
         following_it i following within true e' = absurd (omega (arith, following, (upper i within e').1))

@@ -27,7 +27,10 @@ use Rattle.std.specs.Prelude.{unwrap_or}
 -- `first` is the first, `others` the rest. `n` is the number of switches. `flags` says of each place whether a pattern so far hits it.
 -- `next` is the place from which on a hit is sought. `is_hit` says that the pattern hits the switch at a place. `is_broad` says that a
 -- pattern hits cancelled switches too. `counts` says that a place is neither hidden nor cancelled. `name_at names i` is the name at place
--- i. `is_named pattern name` says whether the pattern names it. `hits` is the places that a pattern hits.
+-- i. `is_named pattern name` says whether the pattern names it. `hits` is the places that a pattern hits. `is_any_hit`: the switch at a
+-- place is hit by one of these patterns. `AreNamed names pattern places`: the places that a pattern names, by name, then by place.
+-- `SameHits`: two lists of patterns that hit the same switches. `IsNextHit`: the first place of a hit, from one place on, if there is one.
+-- `any_hits`: the places that one of these patterns hits, in order.
 
 -- tests that agree on a range leave the same of it
 range_same : (f g : ℕ → Bool) (start n : ℕ) → ((i : ℕ) → start ≤ i → i < start + n → f i ≡ g i)
@@ -137,6 +140,7 @@ module _ (names : List (List ℕ)) (hidden : List Bool) where
   from_first [] i low = refl
   from_first (p ∷ patterns) i low = by (has_hit p) refl (from_first patterns i low)
     where
+      -- Plan: by induction on the patterns, by whether the first has a hit.
       n : ℕ
       n = position_or_len has_hit patterns
 

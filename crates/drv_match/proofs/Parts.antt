@@ -28,7 +28,8 @@ use Rattle.std.specs.List.Sorted.{IsNonDecreasing, IsPermutation}
 -- `found` is the places of a block that count. `name_at names i` is the name at place i. `is_named pattern name` says whether the pattern
 -- names it. `is_broad` says that a pattern hits cancelled switches too. `is_hit` says that the pattern hits the switch at a place. `hits`
 -- is the places that a pattern hits. `IsOrder names order` says that the order is by name, then by place. `hidden_by` hides what a pattern
--- hits.
+-- hits. `IsBlock names order pattern start end`: In that order, the pattern names exactly the places from the start to before the end.
+-- `AreNamed names pattern places`: the places that a pattern names, by name, then by place.
 
 -- in a list, a test holds exactly from a start to an end
 record IsPart (test : ℕ → Bool) (xs : List ℕ) (start end : ℕ) : Type 0 where

@@ -7,6 +7,7 @@ use Rattle.std.specs.List.{AllWithin}
 
 -- Examples of lines, which the prover computes: places that a pattern hits, the order of names with a pattern's block, and which switches
 -- are cancelled.
+-- Names: `hits`: the places that a pattern hits, in order. `is_named`: a pattern names a switch. `name_at`: the name at a place.
 
 -- a pattern with a star
 abbrev starred : List ℕ → Pattern

@@ -8,6 +8,7 @@ use Rattle.std.proofs.lemmas.List.Elements.{filter-append}
 use Rattle.std.specs.List.{list_all}
 
 -- For line_number (src/lines.rt): newlines are counted one after another.
+-- Names: `t`: a test's value, so that `by` can go by both cases. `ends_line`: a newline ends a line.
 
 -- Where no byte is a newline, there are none.
 none_in : (text : List ℕ) → list_all (λ b. not (ends_line b)) text ≡ true → filter ends_line text ≡ []

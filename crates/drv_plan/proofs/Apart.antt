@@ -90,6 +90,7 @@ inputs_apart F set place (input ∷ inputs) g e = then_apart (with_input F set p
 link_apart : (F : Facts) (set : Set) (g : Progress) → Apart (with_link F set g)
 link_apart F set g = by (length g.outputs == 0)
   where
+    -- Plan: `by` goes by whether there are outputs, and `of_link` by whether the set has a text for the link.
     of_link : (text : Option (List ℕ)) → Apart (with_text F text g)
     of_link None e = absurd cc
     of_link (Some text) e = then_apart (worked F text (for_link g)) (λ done. Is (Ok (linked done)))

@@ -13,6 +13,8 @@ use Rattle.std.specs.Fmt.{digits}
 use Rattle.std.specs.Prelude.{codes}
 
 -- Examples of plans by the built-in specs, which the prover computes. No name is searched for, and TMPDIR is unset.
+-- Names: `facts` is what is known: TMPDIR is unset. `plan switches inputs` is the plan by the built-in specs. `making`, `linking`, `job`,
+-- `command` and `file` are short for its parts.
 
 -- nothing is known but that TMPDIR is unset
 abbrev facts : Facts

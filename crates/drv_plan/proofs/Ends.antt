@@ -8,6 +8,9 @@ use Rattle.std.specs.List.{ends_with}
 use Rattle.std.specs.Prelude.{nat_eq, nat_lt, not}
 
 -- For the look-up of suffixes: if a text ends with another, both have the same last byte.
+-- Names: `text` and `end` are two texts, of which the first may end with the second. `last` and `wanted` are their last bytes. `name` is a
+-- file's name, and `key` that of a pair. `n` is a length, and `empty` says whether it is 0. `begins`, `shorter` and `ends` are values of
+-- tests. `is_suffix_of name key`: the key is a suffix of the name (specs/Languages).
 
 -- a text that ends with another has the same last byte
 last_is : (text end : List ℕ) → 0 < length end → ends_with nat_eq text end ≡ true
@@ -26,6 +29,7 @@ pub not_alike : (text end : List ℕ) (last wanted : ℕ) → 0 < length end →
     → (last == wanted) ≡ false → ends_with nat_eq text end ≡ false
 not_alike text end last wanted some last_at wanted_at differ = by (ends_with nat_eq text end) refl
   where
+    -- Plan: `by` goes by both answers of `ends_with nat_eq text end`.
     by : (r : Bool) → ends_with nat_eq text end ≡ r → ends_with nat_eq text end ≡ false
     by false e = e
     by true e = absurd (let z : true ≡ false =
@@ -39,6 +43,7 @@ some_there n empty tests is = grind (arith, nat_tests)
 pub is_no_suffix : (name key : List ℕ) → ends_with nat_eq name key ≡ false → false ≡ is_suffix_of name key
 is_no_suffix name key differ = sym (by (begins_with_at key) (nat_lt (length key) (length name)) (ends_with nat_eq name key) differ)
   where
+    -- Plan: `by` goes by the cases of `begins_with_at key`, `nat_lt (length key) (length name)` and `ends_with nat_eq name key`.
     by : (begins shorter ends : Bool) → ends ≡ false → not begins && (shorter && ends) ≡ false
     by true shorter ends e = refl
     by false true ends e = e

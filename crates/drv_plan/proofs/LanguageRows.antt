@@ -10,6 +10,9 @@ use Rattle.std.specs.Prelude.{codes}
 
 -- Examples of the languages of inputs, which the prover computes: by -x, else by the last suffix pair that fits the name. `shown` is the
 -- language chosen; built-in texts of languages are recognized by their first bytes.
+-- Names: `chosen_for set input` is the text of an input, by its language (specs/Languages). `file` and `in_language` make inputs, without
+-- -x and with it. `of_pairs` and `with_pairs` make sets: of these pairs alone, or of the built-in specs and them. `Absent name` is a
+-- language that is not installed.
 
 -- an input file without -x
 abbrev file : List ℕ → Input

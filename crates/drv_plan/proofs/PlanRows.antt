@@ -19,6 +19,9 @@ use Rattle.std.specs.Prelude.{codes}
 
 -- Examples of plans, which the prover computes from `denoted`: jobs in the order of the inputs, the link, notices, and the first refusal.
 -- No name is searched for, and TMPDIR is unset.
+-- Names: `facts` is what is known: TMPDIR is unset. `plan set switches inputs` is the plan. `with_texts text link` is specs in which C has
+-- the one text and the link the other. `compiling` and `no_link` are such specs. `job`, `command`, `file` and `temps_of` are short for
+-- parts of a plan.
 
 -- nothing is known but that TMPDIR is unset
 abbrev facts : Facts

@@ -202,6 +202,7 @@ ended F C (Some text) g plan e = by (outcome F (record g.context { input = None;
 with_link_is : (F : Facts) (set : Set) (g : Progress) → with_link F set g ≡ with_text F (link_text set g.outputs) g
 with_link_is F set g = by (length g.outputs == 0)
   where
+    -- Plan: `by` goes by both answers of `length g.outputs == 0`.
     by : (t : Bool) → (if t then Is (Ok (None, g)) else with_text F (text_of set (codes "link_command")) g) ≡ with_text F
         (if t then None else text_of set (codes "link_command")) g
     by true = refl
@@ -228,6 +229,7 @@ over F line set seed plan prefixes known e = by (with_inputs F set 0 line.inputs
             (ended F (context_of line set prefixes seed) (link_text set g.outputs) g plan
             (ap (λ l. then_by l (λ done. Is (Ok (plan_of done)))) (sym (with_link_is F set g)) ∙ e)))
           where
+            -- Plan: `told` makes the record of the plan of how the link ends.
             told : Ends F (context_of line set prefixes seed) (link_text set (link_words (parts set 0 line.inputs) r.outcomes))
                 (state (context_of line set prefixes seed) (last None r.outcomes) r.input (flat_map (λ o. o.notices) r.outcomes)
                 (jobs_of (parts set 0 line.inputs) r.outcomes) (link_words (parts set 0 line.inputs) r.outcomes)
@@ -249,6 +251,7 @@ pub is_plan_of : (F : Facts) (line : Line) (set : Set) (seed : ℕ) (plan : Plan
     → IsPlanOf F line set seed plan
 is_plan_of F line set seed plan e = by (prefixes_of F line.settings.prefixes) refl e
   where
+    -- Plan: `by` goes by whether the prefixes are known.
     by : (found : Known Prefixes) → prefixes_of F line.settings.prefixes ≡ found
         → (found >>= λ prefixes. planned F set line.inputs (context_of line set prefixes seed)) ≡ Is (Ok plan)
         → IsPlanOf F line set seed plan

@@ -86,6 +86,7 @@ pub keeps_before : (F : Facts) (args : List (List ℕ)) (seed : ℕ) (ending : E
     → ((G : Facts) → Extends F G → Comes G args seed (Err ending)) → Keeps F args seed ending
 keeps_before F args seed ending comes = by ending (comes F (extends_refl F))
   where
+    -- Plan: `by` goes by the ending: a refusal is kept, lack of memory keeps nothing, and another one can't be.
     by : (e : Ending) → Comes F args seed (Err e) → Keeps F args seed e
     by (Done status) comes = absurd comes
     by (Refused refusal) comes = comes

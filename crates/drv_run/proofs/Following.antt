@@ -76,6 +76,7 @@ new_rest id [] events is = is
 new_rest id (e ∷ before) events is = new_rest id before events
     (by (is_child id e.answer) (list_any (λ (f : RunEvent). is_child id f.answer) (before ++ events)) is)
   where
+    -- Plan: `by` says that where neither of two tests passes, the second doesn't.
     by : (a b : Bool) → not (a || b) ≡ true → not b ≡ true
     by false b e = e
     by true b e = absurd cc

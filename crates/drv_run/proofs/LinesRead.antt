@@ -16,6 +16,10 @@ use Rattle.std.proofs.Common.{◌≡◌, Err, IfErr, IsErrAnd, List, Ok, Result,
 
 -- For `line_of_args` and what is done with a line: arguments whose words give no line end the call as `words_of` or the reading of the line
 -- says, whatever the seed.
+-- Names: `F`, `F'` and `G` are what is known of the outside. `args` is the arguments, and `seed` that for the names of temporaries. `line`
+-- is the line that they give. `fault` is why they are refused, and `ending` how the call ends then. `result` is what the code's call gives.
+-- `Comes F args seed result`: the arguments ask for that work, or end so (specs/Drives). `IsUnread` says that a call ended without a line.
+-- `ReadsLine` says that these arguments give this line (specs/LineReads). `Extends F G`: G knows all that F knows.
 
 -- a call that ends without a line ends so whatever its seed
 pub line_stops : (F : Facts) (args : List (List ℕ)) (ending : Ending) (result : Result Line Ending) → IsErrAnd result (λ e. e ≡ ending)

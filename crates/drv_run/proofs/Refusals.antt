@@ -28,6 +28,7 @@ does_nothing journal later args seed refusal d = record {
       ∙ append-nil (run_of journal);
 }
   where
+    -- Plan: `grows` says that the journal grew by questions alone.
     grows : later ≡ journal ++ d.asked
     grows = d.journal_grows ∙ ap (λ said. journal ++ d.asked ++ said) d.ends.1 ∙ append-nil (journal ++ d.asked)
 

@@ -1,5 +1,8 @@
 //! The words of a line: response files expanded, and those of `c99` turned into the driver's.
 
+// In clauses: `Extends F G` says that G has every answer of F. `Asked` says that a call only asked,
+// and that the table has the answers. `Gives` says that a result is the defined one, or lack of
+// memory.
 ghost use Rattle.drv_c99.specs.declared.fault.C99Fault.TheVariants as c99_fault;
 ghost use Rattle.drv_run.specs.Drives.{IsApart, after_c99, fronted, is_c99};
 ghost use Rattle.drv_run.specs.Code.Fronting.{is_of_c99};

@@ -1,7 +1,8 @@
 //! The line of a call.
 
-// In clauses: `Extends F G` says that G has every answer of F. `IsApart` says that lack of memory is
-// no refusal. `IsUnread` says that a call ended before it had a line.
+// In clauses: `Extends F G` says that G has every answer of F. `IsApart` says that lack of memory
+// is no refusal. `IsUnread` says that a call ended before it had a line. `Asked` says that a call
+// only asked, and that the table has the answers.
 ghost use Rattle.drv_run.specs.Drives.{IsApart};
 ghost use Rattle.drv_run.specs.LineReads.{ComesLine, IsUnread};
 ghost use Rattle.drv_system.specs.Asking.{Asks, Extends};

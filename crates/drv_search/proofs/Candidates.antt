@@ -13,9 +13,10 @@ use Rattle.std.specs.Prelude.{get_or}
 -- the prefixes in the order of the search. `paths` is candidates, in the order of the search. `others` is the prefixes, folders or
 -- candidates that follow. `path` is one candidate. `name` is the name that is searched for. `hit` is what was found. `i` is how many
 -- prefixes were searched. `bytes` is the bytes of the prefix. `dir` is the argument of -B. `found F paths` is the first candidate that is a
--- plain file. `Is` is a value that the facts give. `candidates prefixes name` is all of them, prefix by prefix.
--- `candidates_under name prefix` is those under one prefix. `Known` is a value, or `Unasked` if the facts lack an answer. `kind_of F path`
--- is the known kind of a path, if it was asked. `prefix_of F dir` is the prefix that -B gives.
+-- plain file. `Is` is a value that the facts give. `candidates prefixes name` is all of them, prefix by prefix. `candidates_under name
+-- prefix` is those under one prefix. `Known` is a value, or `Unasked` if the facts lack an answer. `kind_of F path` is the known kind of a
+-- path, if it was asked. `prefix_of F dir` is the prefix that -B gives. `given_of`: the prefixes of all -B, in order. `is_plain`: whether a
+-- path is a plain file.
 
 -- the prefix of an argument whose kind was asked for
 pub prefix_asked : (F : Facts) (dir prefix : List ℕ) (kind : PathKind) → is_prefix dir ≡ false → kind_of F dir ≡ Some kind

@@ -14,7 +14,7 @@ use Rattle.std.specs.Prelude.{get_or}
 -- prefixes before. `options_for F folders` is a -L for each folder that is there. `folders_under prefix` is the folders of libraries under
 -- a prefix. `Is` is a value that the facts give. `Adds defined before after` says that the defined options were added. `Known` is a value,
 -- or `Unasked` if the facts lack an answer. `option_for` is that of one folder. `kind_of F path` is the known kind of a path, if it was
--- asked.
+-- asked. `without_slash`: a path without its last byte, except for the root. `machine_folder`: the folder of the machine under a prefix.
 
 -- the options so far, followed by others
 abbrev pub after_options : List (List ℕ) → Known (List (List ℕ)) → Known (List (List ℕ))

@@ -32,6 +32,7 @@ entry_twice name text other (e ∷ es) = by (pointwise nat_eq name e.0) refl (en
 pub named_twice : (set : Set) (name text other : List ℕ) → with_named (with_named set name other) name text ≡ with_named set name text
 named_twice set name text other = ap (λ (named : List (List ℕ × List ℕ)). named_as named) (entry_twice name text other set.named)
   where
+    -- Plan: `named_as` is the set with other named texts.
     named_as : List (List ℕ × List ℕ) → Set
     named_as named = record set { named = named }
 
@@ -48,5 +49,6 @@ appended_puts set mid new name addition text old white there taken tree is back 
     (sym (back ∙ ap (λ (s : Set). with_named s name text) taken ∙ named_twice set name text []
     ∙ ap (λ (t : List ℕ). with_named set name t) is))
   where
+    -- Plan: `passed` is the set as the result of an append.
     passed : Set → Result Set SpecsFault
     passed s = Ok s

@@ -5,6 +5,7 @@ use Rattle.std.specs.List.{join_with_byte}
 
 -- For the reading of a file: the body of an entry. The code cuts it out as a slice with a newline before each line, without the first
 -- newline.
+-- Names: `lines` is the lines of a body, and `first` the first of them. `join_with_byte newline` puts a newline between each two.
 
 -- lines after newlines, without the first newline
 lines_joined : (first : List ℕ) (lines : List (List ℕ))

@@ -1,6 +1,7 @@
 use Rattle.std.proofs.Common.{◌≡◌, ◌∙◌, ◌==◌, ◌&&◌, Bool, ap, eqb-true, false, not, refl, sym, true, ℕ}
 
 -- For all lemmas of this crate: tests that hold together.
+-- Names: `a` and `b` are values of tests; in `differs` `b` is a byte, and `n` one that doesn't pass the test.
 
 -- the first part of a true && is true
 pub and_first : (a b : Bool) → (a && b) ≡ true → a ≡ true
@@ -25,6 +26,7 @@ not_false a is = ap not is
 pub differs : (test : ℕ → Bool) (b n : ℕ) → test n ≡ false → test b ≡ true → (b == n) ≡ false
 differs test b n fails passes = by (b == n) refl
   where
+    -- Plan: `by` goes by both answers of `b == n`.
     by : (same : Bool) → (b == n) ≡ same → (b == n) ≡ false
     by false same = same
     by true same = let impossible : true ≡ false = sym passes ∙ ap test (eqb-true b n same) ∙ fails in absurd cc

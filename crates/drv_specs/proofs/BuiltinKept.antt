@@ -16,6 +16,8 @@ use Rattle.std.specs.Prelude.{cond}
 
 -- For the invariant of `SpecSet` (`Kept`): the empty set and the built-in one have it. The built-in set is what loading its own dump gives,
 -- which the prover computes, and loading keeps the invariant.
+-- Names: `set` is a set. `P` is a claim on one item. `Kept set` is the invariant of every set. `builtin_specs` is the built-in set,
+-- `no_specs` the empty one, and `suffixes` the built-in pairs that have no text to run. `dumped` is a set's dump.
 
 -- the empty set has the invariant
 empty_kept : Kept no_specs
@@ -56,6 +58,7 @@ each_filter : {X : Type 0} (P : X → Type 0) (test : X → Bool) (xs : List X) 
 each_filter P test [] each = tt
 each_filter P test (x ∷ xs) each = by (test x) (each_filter P test xs each.1)
   where
+    -- Plan: `by` goes by both answers of `test x`.
     by : (passes : Bool) → Each P (filter test xs) → Each P (cond passes (x ∷ filter test xs) (filter test xs))
     by true later = (each.0, later)
     by false later = later

@@ -42,6 +42,7 @@ module _ (eq : List ℕ → Bool) where
   removed_keeps [] kept = tt
   removed_keeps (e ∷ es) kept = by (eq e.0) (removed_keeps es kept.1)
     where
+      -- Plan: `by` goes by both answers of `eq e.0`.
       by : (hit : Bool) → Each IsNamed (remove_entry eq es) → Each IsNamed (cond hit es (e ∷ remove_entry eq es))
       by true later = kept.1
       by false later = (kept.0, later)
@@ -51,6 +52,7 @@ module _ (eq : List ℕ → Bool) where
   renamed_keeps new [] name kept = tt
   renamed_keeps new (e ∷ es) name kept = by (eq e.0) (renamed_keeps new es name kept.1)
     where
+      -- Plan: `by` goes by both answers of `eq e.0`.
       by : (hit : Bool) → Each IsNamed (set_key eq es new) → Each IsNamed (cond hit ((new, e.1) ∷ es) (e ∷ set_key eq es new))
       by true later = (record { name = name; text = kept.0.text; tree = kept.0.tree }, kept.1)
       by false later = (kept.0, later)
@@ -60,6 +62,7 @@ module _ (eq : List ℕ → Bool) where
   found_text [] text kept is = absurd cc
   found_text (e ∷ es) text kept is = by (eq e.0) is (found_text es text kept.1)
     where
+      -- Plan: `by` goes by both answers of `eq e.0`.
       by : (hit : Bool) → cond hit (Some e.1) (lookup eq es) ≡ Some text → (lookup eq es ≡ Some text → is_text text ≡ true)
           → is_text text ≡ true
       by true is' later = let same : e.1 ≡ text = cc in ap is_text (sym same) ∙ kept.0.text
@@ -71,6 +74,7 @@ inserted_keeps : (name text : List ℕ) (es : List (List ℕ × List ℕ)) → I
 inserted_keeps name text [] new kept = (new, tt)
 inserted_keeps name text (e ∷ es) new kept = by (pointwise nat_eq name e.0) (inserted_keeps name text es new kept.1)
   where
+    -- Plan: `by` goes by both answers of `pointwise nat_eq name e.0`.
     by : (hit : Bool) → Each IsNamed (insert_entry (pointwise nat_eq) es name text)
         → Each IsNamed (if hit then (e.0, text) ∷ es else e ∷ insert_entry (pointwise nat_eq) es name text)
     by true later = (record { name = kept.0.name; text = new.text; tree = new.tree }, kept.1)
@@ -87,6 +91,7 @@ apart_less : (eq : List ℕ → Bool) (name : List ℕ) (es : List (List ℕ × 
 apart_less eq name [] apart = tt
 apart_less eq name (e ∷ es) apart = by (eq e.0) (apart_less eq name es apart.1)
   where
+    -- Plan: `by` goes by both answers of `eq e.0`.
     by : (hit : Bool) → Apart name (remove_entry eq es) → Apart name (cond hit es (e ∷ remove_entry eq es))
     by true later = apart.1
     by false later = (apart.0, later)
@@ -98,6 +103,7 @@ unfolding IsDistinct
 distinct_less eq [] distinct = tt
 distinct_less eq (e ∷ es) distinct = by (eq e.0) (distinct_less eq es distinct.1)
   where
+    -- Plan: `by` goes by both answers of `eq e.0`.
     by : (hit : Bool) → IsDistinct (pointwise nat_eq) (keys_of (remove_entry eq es))
         → IsDistinct (pointwise nat_eq) (keys_of (cond hit es (e ∷ remove_entry eq es)))
     by true later = distinct.1
@@ -109,6 +115,7 @@ apart_more : (other name text : List ℕ) (es : List (List ℕ × List ℕ)) →
 apart_more other name text [] differ apart = (differ, tt)
 apart_more other name text (e ∷ es) differ apart = by (pointwise nat_eq name e.0) (apart_more other name text es differ apart.1)
   where
+    -- Plan: `by` goes by both answers of `pointwise nat_eq name e.0`.
     by : (hit : Bool) → Apart other (insert_entry (pointwise nat_eq) es name text)
         → Apart other (if hit then (e.0, text) ∷ es else e ∷ insert_entry (pointwise nat_eq) es name text)
     by true later = apart
@@ -121,6 +128,7 @@ unfolding IsDistinct
 distinct_more name text [] distinct = (tt, tt)
 distinct_more name text (e ∷ es) distinct = by (pointwise nat_eq name e.0) refl (distinct_more name text es distinct.1)
   where
+    -- Plan: `by` goes by both answers of `pointwise nat_eq name e.0`.
     by : (hit : Bool) → pointwise nat_eq name e.0 ≡ hit
         → IsDistinct (pointwise nat_eq) (keys_of (insert_entry (pointwise nat_eq) es name text))
         → IsDistinct (pointwise nat_eq) (keys_of (if hit then (e.0, text) ∷ es else e ∷ insert_entry (pointwise nat_eq) es name text))
@@ -133,6 +141,7 @@ apart_renamed : (eq : List ℕ → Bool) (other new : List ℕ) (es : List (List
 apart_renamed eq other new [] differ apart = tt
 apart_renamed eq other new (e ∷ es) differ apart = by (eq e.0) (apart_renamed eq other new es differ apart.1)
   where
+    -- Plan: `by` goes by both answers of `eq e.0`.
     by : (hit : Bool) → Apart other (set_key eq es new) → Apart other (cond hit ((new, e.1) ∷ es) (e ∷ set_key eq es new))
     by true later = (differ, apart.1)
     by false later = (apart.0, later)
@@ -142,6 +151,7 @@ absent_apart : (new : List ℕ) (es : List (List ℕ × List ℕ)) → lookup (p
 absent_apart new [] none = tt
 absent_apart new (e ∷ es) none = by (pointwise nat_eq new e.0) refl none (absent_apart new es)
   where
+    -- Plan: `by` goes by both answers of `pointwise nat_eq new e.0`.
     by : (hit : Bool) → pointwise nat_eq new e.0 ≡ hit → cond hit (Some e.1) (lookup (pointwise nat_eq new) es) ≡ None
         → (lookup (pointwise nat_eq new) es ≡ None → Apart new es) → Apart new (e ∷ es)
     by true is none' later = absurd cc
@@ -154,6 +164,7 @@ unfolding IsDistinct
 distinct_renamed eq new [] apart distinct = tt
 distinct_renamed eq new (e ∷ es) apart distinct = by (eq e.0) (distinct_renamed eq new es apart.1 distinct.1)
   where
+    -- Plan: `by` goes by both answers of `eq e.0`.
     by : (hit : Bool) → IsDistinct (pointwise nat_eq) (keys_of (set_key eq es new))
         → IsDistinct (pointwise nat_eq) (keys_of (cond hit ((new, e.1) ∷ es) (e ∷ set_key eq es new)))
     by true later = (apart.1, distinct.1)
@@ -292,6 +303,7 @@ whole_body body (inr (inr good)) ends = inr good
 pub text_keeps : (set : Set) (name body : List ℕ) (set' : Set) → IsBody body → with_text set name body ≡ Ok set' → Kept set → Kept set'
 text_keeps set name body set' good is kept = by (is_name name) refl (ends_with_backslash body) refl is
   where
+    -- Plan: `by` goes by both answers of `is_name name`.
     by : (names : Bool) → is_name name ≡ names → (ends : Bool) → ends_with_backslash body ≡ ends
         → (if not names then Err (BadName name) else if ends then Err (TrailingBackslash name) else with_body set name body) ≡ Ok set'
         → Kept set'
@@ -382,6 +394,7 @@ front_split (b ∷ text) = by (is_white b) refl (front_split text)
 white_ends : (b : ℕ) → is_white b ≡ true → ends_with_backslash (b ∷ []) ≡ false
 white_ends b white = by (ends_with_backslash (b ∷ [])) refl
   where
+    -- Plan: `by` goes by both answers of `ends_with_backslash (b ∷ [])`.
     by : (e : Bool) → ends_with_backslash (b ∷ []) ≡ e → ends_with_backslash (b ∷ []) ≡ false
     by false e = e
     by true e = absurd (let wrong : true ≡ false = sym white
@@ -459,6 +472,7 @@ ended_body body (inl none) (inr e) ends =
     absurd (let wrong : true ≡ false = sym (some_byte e.front e.last e.end) ∙ ap has_byte (sym e.whole ∙ none) in cc)
 ended_body body (inr (inl last)) (inr e) ends = absurd (by e.soft)
   where
+    -- Plan: `by` says that a body with a backslash at its end can't be: nothing was taken from its end, or white space was.
     by : (e.end ≡ []) ⊎ (ends_with_backslash body ≡ false) → ⊥
     by (inl none) = let wrong : true ≡ false = sym last
         ∙ ap ends_with_backslash (e.whole ∙ ap (λ t. e.front ++ e.last ∷ t) none ∙ sym e.is) ∙ ends in cc
@@ -472,6 +486,7 @@ pair_good : (body : List ℕ) → IsBody body → ends_with_backslash (pair_text
     → (pair_text body ≡ []) ⊎ (is_text (pair_text body) ≡ true)
 pair_good body good = by (is_no_text (without_end is_white body))
   where
+    -- Plan: `by` goes by both answers of `is_no_text (without_end is_white body)`.
     by : (none : Bool) → ends_with_backslash (if none then without_end is_white body else body) ≡ false
         → ((if none then without_end is_white body else body) ≡ []) ⊎ (is_text (if none then without_end is_white body else body) ≡ true)
     by true ends = ended_body body good (ended body) ends

@@ -70,6 +70,7 @@ none_after : (head : List ℕ) → drop (length head + 1) (head ++ colon ∷ [])
 none_after [] = refl
 none_after (b ∷ head) = ap (λ n. drop n (b ∷ head ++ colon ∷ [])) more ∙ none_after head
   where
+    -- Plan: `more` says that one byte more makes the length one more.
     more : length (b ∷ head) + 1 ≡ suc (length head + 1)
     more = omega arith
 

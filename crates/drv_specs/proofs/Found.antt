@@ -20,6 +20,7 @@ use Rattle.std.specs.Prelude.{None, Option, Some, slice_index}
 pub fails_of : (t : Bool) → (t ≡ true → ⊥) → t ≡ false
 fails_of t never = by t refl
   where
+    -- Plan: `by` goes by both answers of `t`.
     by : (u : Bool) → t ≡ u → t ≡ false
     by true is = absurd (never is)
     by false is = is
@@ -96,6 +97,7 @@ plain : (b : ℕ) → not (is_in settles b) ≡ true → (is_kept b ≡ true) ×
 unfolding is_in
 plain b is = by (b == carriage_return) (b == newline) is
   where
+    -- Plan: `by` goes by the cases of `b == carriage_return` and `b == newline`.
     by : (r n : Bool) → not (r || (n || false)) ≡ true → (not r ≡ true) × (n ≡ false)
     by true n is' = absurd cc
     by false true is' = absurd cc
@@ -118,6 +120,7 @@ end_settled : (b : ℕ) (rest left : List ℕ) → fold joined_onto left (filter
     ≡ fold joined_onto (settled_onto left b) (filter is_kept rest)
 end_settled b rest left = by (is_kept b) refl
   where
+    -- Plan: `by` goes by both answers of `is_kept b`.
     by : (kept : Bool) → is_kept b ≡ kept → fold joined_onto left (if kept then b ∷ filter is_kept rest else filter is_kept rest)
         ≡ fold joined_onto (if kept then joined_onto left b else left) (filter is_kept rest)
     by true kept = refl

@@ -217,6 +217,7 @@ first_clean rest lines bytes last later = by (without_front is_blank rest) refl
       (ends_same (ap ends_with_backslash is) (ends last), later),
     )
       where
+        -- Plan: `ends_same` puts one answer about a backslash in the place of another that is the same.
         ends_same : {e e' : Bool} → e ≡ e' → (body_lines lines ≡ []) ⊎ (e ≡ false) → (body_lines lines ≡ []) ⊎ (e' ≡ false)
         ends_same same (inl none) = inl none
         ends_same same (inr e) = inr (sym same ∙ e)
@@ -241,6 +242,7 @@ included_good : (n : ℕ) (missing : IfMissing) (text : List ℕ) → IsGood (in
 included_good n missing [] = tt
 included_good n missing (b ∷ text) = by (b == less_than && ends_with nat_eq text (greater_than ∷ []))
   where
+    -- Plan: `by` goes by both answers of `b == less_than && ends_with nat_eq text (greater_than ∷ [])`.
     by : (whole : Bool) → IsGood (if whole then Include missing (take (length text - 1) text) else Bad n)
     by true = tt
     by false = tt

@@ -33,6 +33,7 @@ last_of : (xs : List ℕ) → (xs ≡ []) ⊎ ((ys : List ℕ) × (b : ℕ) × (
 last_of [] = inl refl
 last_of (x ∷ xs) = by (last_of xs)
   where
+    -- Plan: `by` goes by whether the rest is empty or has a last item.
     by : (xs ≡ []) ⊎ ((ys : List ℕ) × (b : ℕ) × (xs ≡ ys ++ b ∷ [])) → (x ∷ xs ≡ []) ⊎ ((ys : List ℕ) × (b : ℕ) × (x ∷ xs ≡ ys ++ b ∷ []))
     by (inl none) = inr ([], x, ap (λ l. x ∷ l) none)
     by (inr (ys, b, is)) = inr (x ∷ ys, b, ap (λ l. x ∷ l) is)
@@ -106,6 +107,7 @@ pair_gone : (front back : List ℕ) → joined (front ++ backslash ∷ newline �
 pair_gone front back =
     fold_both front (backslash ∷ newline ∷ back) [] ∙ by (fold joined_onto [] front) ∙ sym (fold_both front back [])
   where
+    -- Plan: `by` says that the two bytes change nothing of what was joined before them.
     by : (done : List ℕ) → fold joined_onto done (backslash ∷ newline ∷ back) ≡ fold joined_onto done back
     by done =
         ap (λ p. fold joined_onto (if p then take (length (done ++ backslash ∷ []) - 1) (done ++ backslash ∷ [])
@@ -149,6 +151,7 @@ joins_from (b ∷ rest) done all = by (is_pair done b) refl (joins_from rest)
 none_joined : IsJoined []
 none_joined = λ front back is. by front back is
   where
+    -- Plan: `by` says that no text with a pair in it is empty.
     by : (front back : List ℕ) → [] ≡ front ++ backslash ∷ newline ∷ back → ⊥
     by [] back is = cc
     by (b ∷ front) back is = cc

@@ -48,6 +48,7 @@ all_keep inc keeps [] c c' good is kept = let same : c ≡ c' = cc in subst (λ 
 all_keep inc keeps (directive ∷ directives) c c' good is kept =
     by (carried inc c directive) refl is (λ d. all_keep inc keeps directives d c' good.1)
   where
+    -- Plan: `by` goes by what the first directive gives: nothing known, a refusal, or a set.
     by : (given : Known (Result Carried SpecsFault)) → carried inc c directive ≡ given
         → then_by given (λ d. all_carried inc d directives) ≡ Is (Ok c')
         → ((d : Carried) → all_carried inc d directives ≡ Is (Ok c') → Kept d.set → Kept c'.set) → Kept c'.set
@@ -63,6 +64,7 @@ module _ (F : Facts) (prefixes : Prefixes) where
   file_keeps inc keeps set zero missing name c' is kept = absurd cc
   file_keeps inc keeps set (suc left) missing name c' is kept = by (file_text F prefixes missing name) is
     where
+      -- Plan: `by` goes by what the file gives: nothing known, a refusal, or its text.
       by : (given : Known (Result (List ℕ) SpecsFault)) → then_by given
           (λ text. all_carried inc (record { set = set; files = left }) (directives_of text)) ≡ Is (Ok c') → Kept c'.set
       by Unasked is' = absurd cc

@@ -56,6 +56,7 @@ module _ {K X : Type 0} (t : K → Bool) where
   first_of x [] is = absurd cc
   first_of x (e ∷ es) is = by (t e.0) refl is (first_of x es)
     where
+      -- Plan: `by` goes by both answers of `t e.0`.
       by : (hit : Bool) → t e.0 ≡ hit → cond hit (Some e.1) (lookup t es) ≡ Some x → (lookup t es ≡ Some x → (i : ℕ) × IsFirst es i)
           → (i : ℕ) × IsFirst (e ∷ es) i
       by true hit is' later = (0, hit)

@@ -42,6 +42,7 @@ module _ (name : List ℕ) where
   none_left [] none = refl
   none_left (e ∷ es) none = by e.1 (none_left es none.1)
     where
+      -- Plan: `by` goes by whether the first entry has a text.
       by : (text : Option (List ℕ)) → lookup (pointwise nat_eq name) (texts_left es) ≡ None
           → lookup (pointwise nat_eq name) (with_left e.0.items text (texts_left es)) ≡ None
       by None later = later
@@ -54,6 +55,7 @@ module _ (name : List ℕ) where
   lookup_left (e ∷ es) distinct = by e.1 (pointwise nat_eq name e.0.items) refl
       (lookup_left es (IsDistinct-tail same_key e.0 (keys_of es) distinct))
     where
+      -- Plan: `by` goes by whether the first entry has a text, and whether it has the name.
       by : (text : Option (List ℕ)) (hit : Bool) → pointwise nat_eq name e.0.items ≡ hit
           → lookup (pointwise nat_eq name) (texts_left es) ≡ option_flatten (lookup (is_key_of name) es)
           → lookup (pointwise nat_eq name) (with_left e.0.items text (texts_left es))
@@ -75,6 +77,7 @@ module _ (name : List ℕ) where
   held_left found [] is held = ap option_flatten is
   held_left found (e ∷ es) is held = by e.1 (pointwise nat_eq name e.0.items) refl is (held_left found es)
     where
+      -- Plan: `by` goes by whether the first entry has a text, and whether it has the name.
       by : (text : Option (List ℕ)) (hit : Bool) → pointwise nat_eq name e.0.items ≡ hit
           → cond hit (Some text) (lookup (is_key_of name) es) ≡ found
           → (lookup (is_key_of name) es ≡ found → IsHeld found → lookup (pointwise nat_eq name) (texts_left es) ≡ option_flatten found)
@@ -92,6 +95,7 @@ module _ (name : List ℕ) where
   left_vacated [] none = refl
   left_vacated (e ∷ es) none = by e.1 (pointwise nat_eq name e.0.items) refl none (left_vacated es)
     where
+      -- Plan: `by` goes by whether the first entry has a text, and whether it has the name.
       by : (text : Option (List ℕ)) (hit : Bool) → pointwise nat_eq name e.0.items ≡ hit
           → lookup (pointwise nat_eq name) (with_left e.0.items text (texts_left es)) ≡ None
           → (lookup (pointwise nat_eq name) (texts_left es) ≡ None → texts_left (remove_entry (is_key_of name) es) ≡ texts_left es)
@@ -112,6 +116,7 @@ module _ (name : List ℕ) where
   none_removed [] none = refl
   none_removed (e ∷ es) none = by e.1 (none_removed es none.1)
     where
+      -- Plan: `by` goes by whether the first entry has a text.
       by : (text : Option (List ℕ)) → remove_entry (pointwise nat_eq name) (texts_left es) ≡ texts_left es
           → remove_entry (pointwise nat_eq name) (with_left e.0.items text (texts_left es)) ≡ with_left e.0.items text (texts_left es)
       by None later = later
@@ -125,6 +130,7 @@ module _ (name : List ℕ) where
   left_without (e ∷ es) distinct = by e.1 (pointwise nat_eq name e.0.items) refl
       (left_without es (IsDistinct-tail same_key e.0 (keys_of es) distinct))
     where
+      -- Plan: `by` goes by whether the first entry has a text, and whether it has the name.
       by : (text : Option (List ℕ)) (hit : Bool) → pointwise nat_eq name e.0.items ≡ hit
           → texts_left (set_value (is_key_of name) es None) ≡ remove_entry (pointwise nat_eq name) (texts_left es)
           → texts_left (cond (pointwise nat_eq name e.0.items) ((e.0, None) ∷ es) ((e.0, text) ∷ set_value (is_key_of name) es None))
@@ -147,11 +153,13 @@ module _ (name : List ℕ) where
       → texts_left es ≡ remove_entry (pointwise nat_eq name) (texts_left es)
   left_unlisted es none = absent (texts_left es) (held_left None es none tt)
     where
+      -- Plan: `absent` says that taking away a name without a text changes no list of texts.
       absent : (texts : List (List ℕ × List ℕ)) → lookup (pointwise nat_eq name) texts ≡ None
           → texts ≡ remove_entry (pointwise nat_eq name) texts
       absent [] none = refl
       absent (t ∷ texts) none = by (pointwise nat_eq name t.0) refl none (absent texts)
         where
+          -- Plan: `by` goes by both answers of `pointwise nat_eq name t.0`.
           by : (hit : Bool) → pointwise nat_eq name t.0 ≡ hit → cond hit (Some t.1) (lookup (pointwise nat_eq name) texts) ≡ None
               → (lookup (pointwise nat_eq name) texts ≡ None → texts ≡ remove_entry (pointwise nat_eq name) texts)
               → t ∷ texts ≡ remove_entry (pointwise nat_eq name) (t ∷ texts)
@@ -239,6 +247,7 @@ keys_kept : (key : Vec ℕ) (text : Option (List ℕ)) (es : List (Vec ℕ × Op
 keys_kept key text [] there = absurd cc
 keys_kept key text (e ∷ es) there = by (same_key key e.0) refl there (keys_kept key text es)
   where
+    -- Plan: `by` goes by both answers of `same_key key e.0`.
     by : (hit : Bool) → same_key key e.0 ≡ hit → is_some (cond hit (Some e.1) (lookup (same_key key) es)) ≡ true
         → (is_some (lookup (same_key key) es) ≡ true → keys_of (insert_entry same_key es key text) ≡ keys_of es)
         → keys_of (insert_entry same_key (e ∷ es) key text) ≡ keys_of (e ∷ es)
@@ -258,6 +267,7 @@ pub text_before : (key : Vec ℕ) (name : List ℕ) (text : List ℕ) (es after 
     → IsDistinct same_key (keys_of after) → lookup (pointwise nat_eq name) (texts_left es) ≡ option_flatten (lookup (same_key key) es)
 text_before key name text es after same is distinct = by (lookup (same_key key) es) refl
   where
+    -- Plan: `by` goes by what the map has for the key: no entry, one without a text, or a text.
     by : (old : Option (Option (List ℕ))) → lookup (same_key key) es ≡ old
         → lookup (pointwise nat_eq name) (texts_left es) ≡ option_flatten (lookup (same_key key) es)
     by None none = held_left name None es (ap (λ n. lookup (is_key_of n) es) (sym same) ∙ none) tt ∙ sym (ap option_flatten none)
@@ -365,6 +375,7 @@ pub unnamed : (old new : List ℕ) (texts : List (List ℕ × List ℕ)) → loo
 unnamed old new [] none = refl
 unnamed old new (t ∷ texts) none = by (pointwise nat_eq old t.0) refl none (unnamed old new texts)
   where
+    -- Plan: `by` goes by both answers of `pointwise nat_eq old t.0`.
     by : (hit : Bool) → pointwise nat_eq old t.0 ≡ hit → cond hit (Some t.1) (lookup (pointwise nat_eq old) texts) ≡ None
         → (lookup (pointwise nat_eq old) texts ≡ None → texts ≡ set_key (pointwise nat_eq old) texts new)
         → t ∷ texts ≡ set_key (pointwise nat_eq old) (t ∷ texts) new

@@ -48,6 +48,7 @@ pieces_joined : (text front : List ℕ) → flat_map (λ line. newline ∷ line)
 pieces_joined [] front = append-nil (newline ∷ front) ∙ ap (λ l. newline ∷ l) (sym (append-nil front))
 pieces_joined (b ∷ text) front = by (ends_line b) refl (pieces_joined text []) (pieces_joined text (front ++ b ∷ []))
   where
+    -- Plan: `by` goes by both answers of `ends_line b`.
     by : (cuts : Bool) → ends_line b ≡ cuts → flat_map (λ line. newline ∷ line) (pieces_from ends_line [] text) ≡ newline ∷ text
         → flat_map (λ line. newline ∷ line) (pieces_from ends_line (front ++ b ∷ []) text) ≡ newline ∷ ((front ++ b ∷ []) ++ text)
         → flat_map (λ line. newline ∷ line) (pieces_from ends_line front (b ∷ text)) ≡ newline ∷ (front ++ b ∷ text)
@@ -68,6 +69,7 @@ full_more front b seen same line =
     rw line (ap (λ s. s || not (is_blank b)) same ∙ by (is_empty_line front) (is_blank b)
     ∙ ap not (sym (list_all-append is_blank front (b ∷ []))))
   where
+    -- Plan: `by` goes by the cases of `is_empty_line front` and `is_blank b`.
     by : (e blank : Bool) → (not e || not blank) ≡ not (e && (blank && true))
     by true true = refl
     by true false = refl

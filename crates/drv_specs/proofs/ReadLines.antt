@@ -90,6 +90,7 @@ front_none : (line : List ℕ) → without_front is_blank line ≡ [] → is_emp
 front_none [] none = refl
 front_none (b ∷ line) none = by (is_blank b) refl (front_none line)
   where
+    -- Plan: `by` goes by both answers of `is_blank b`.
     by : (blank : Bool) → is_blank b ≡ blank → (without_front is_blank line ≡ [] → is_empty_line line ≡ true)
         → is_empty_line (b ∷ line) ≡ true
     by true is later = rw is (later (sym (ap (λ t. if t then without_front is_blank line else b ∷ line) is) ∙ none))
@@ -116,6 +117,7 @@ full_read : (n : ℕ) (line : List ℕ) (lines : List (List ℕ)) → is_empty_l
     → (directives : List Directive) × Reads n (line ∷ lines) directives
 full_read n line lines is read cut = by (without_front is_blank line) refl
   where
+    -- Plan: `by` goes by what is left of the line without its blanks: it isn't empty, and its first byte decides.
     by : (front : List ℕ) → without_front is_blank line ≡ front → (directives : List Directive) × Reads n (line ∷ lines) directives
     by [] none = absurd (let apart : true ≡ false = sym (front_none line none) ∙ is in cc)
     by (b ∷ text) begins = begun n b line text lines begins read cut (b == number_sign) (b == percent) refl refl

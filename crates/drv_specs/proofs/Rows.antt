@@ -18,6 +18,9 @@ use Rattle.std.specs.Prelude.{codes}
 
 -- Examples of spec files, which the prover computes from the definitions. `loaded F prefixes set text` is the set after the text of a file,
 -- `shown` its dump; each example's comment says what its text shows.
+-- Names: `here` is no folder to search. `no_specs` is the empty set, and `builtin_specs` the built-in one. `no_facts` is that nothing is
+-- known of files, and `with_file` that one file was read. `Is (Err fault)` is a refusal. `file_loaded` loads a file, and `text_in` is the
+-- text of one name. Numbers after `file_` and `refused_` tell the examples apart.
 
 -- no folder is searched for files
 abbrev here : Prefixes

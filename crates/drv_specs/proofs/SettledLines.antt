@@ -52,6 +52,7 @@ settled_less (suc n) (c ∷ text) back is =
 joined_settled : (text : List ℕ) (b : ℕ) → is_settled false text ≡ true → is_kept b ≡ true → is_settled false (joined_onto text b) ≡ true
 joined_settled text b is kept = by (b == newline && ends_with_backslash text) refl
   where
+    -- Plan: `by` goes by both answers of `b == newline && ends_with_backslash text`.
     by : (pair : Bool) → (b == newline && ends_with_backslash text) ≡ pair
         → is_settled false (if pair then take (length text - 1) text else text ++ b ∷ []) ≡ true
     by true pair = settled_less (length text - 1) text false is
@@ -69,6 +70,7 @@ all_kept : (text : List ℕ) → list_all is_kept (filter is_kept text) ≡ true
 all_kept [] = refl
 all_kept (b ∷ text) = by (is_kept b) refl (all_kept text)
   where
+    -- Plan: `by` goes by both answers of `is_kept b`.
     by : (kept : Bool) → is_kept b ≡ kept → list_all is_kept (filter is_kept text) ≡ true
         → list_all is_kept (if kept then b ∷ filter is_kept text else filter is_kept text) ≡ true
     by true kept later = ap (λ c. c && list_all is_kept (filter is_kept text)) kept ∙ later

@@ -36,6 +36,7 @@ ends_more b c text =
     let size : length (b ∷ c ∷ text) - 1 ≡ suc (length (c ∷ text) - 1) = omega arith in
     ap (λ n. pointwise nat_eq (backslash ∷ []) (drop n (b ∷ c ∷ text))) size ∙ by (length (c ∷ text) - 1)
   where
+    -- Plan: `by` says that one byte more is dropped of one byte more.
     by : (n : ℕ) → pointwise nat_eq (backslash ∷ []) (drop (suc n) (b ∷ c ∷ text)) ≡ pointwise nat_eq (backslash ∷ []) (drop n (c ∷ text))
     by n = refl
 

@@ -72,6 +72,7 @@ body_rest whole bytes line size rest =
     sym (drop-drop (1 + length line) size whole) ∙ ap (drop (1 + length line)) rest
     ∙ ap (λ n. drop n (newline ∷ line ++ bytes)) (sym (size_is line)) ∙ drop-append_seam (newline ∷ line) bytes
   where
+    -- Plan: `size_is` says that the newline counts one byte.
     size_is : (l : List ℕ) → length (newline ∷ l) ≡ 1 + length l
     size_is l = omega arith
 
@@ -91,6 +92,7 @@ pub line_begins : (n : ℕ) (line : List ℕ) (lines : List (List ℕ))
     ++ read_lines (opens_body (start_of n (without_front is_blank line) lines)) (n + 1) lines
 line_begins n line lines = by (is_empty_line line) refl
   where
+    -- Plan: `by` goes by both answers of `is_empty_line line`.
     by : (e : Bool) → is_empty_line line ≡ e
         → read_lines false n (line ∷ lines) ≡ directive_in (start_of n (without_front is_blank line) lines)
         ++ read_lines (opens_body (start_of n (without_front is_blank line) lines)) (n + 1) lines
@@ -102,6 +104,7 @@ front_of : (test : ℕ → Bool) (text : List ℕ) → (front : List ℕ) × (te
 front_of test [] = ([], refl)
 front_of test (b ∷ text) = by (test b) refl (front_of test text)
   where
+    -- Plan: `by` goes by both answers of `test b`.
     by : (goes : Bool) → test b ≡ goes → (front : List ℕ) × (text ≡ front ++ without_front test text)
         → (front : List ℕ) × (b ∷ text ≡ front ++ (if goes then without_front test text else b ∷ text))
     by true is h = (b ∷ h.0, ap (λ t. b ∷ t) h.1)
@@ -149,6 +152,7 @@ full_front : (text : List ℕ) → has_byte (without_front is_blank text) ≡ tr
 full_front [] is = absurd cc
 full_front (b ∷ text) is = by (is_blank b) refl (full_front text) is
   where
+    -- Plan: `by` goes by both answers of `is_blank b`.
     by : (goes : Bool) → is_blank b ≡ goes → (has_byte (without_front is_blank text) ≡ true
         → is_empty_line (without_front is_blank text) ≡ false)
         → has_byte (if goes then without_front is_blank text else b ∷ text) ≡ true
@@ -267,6 +271,7 @@ blank_in : (b : ℕ) → is_in blanks_of b ≡ is_blank b
 unfolding is_in
 blank_in b = by (b == space) (b == tab)
   where
+    -- Plan: `by` goes by the cases of `b == space` and `b == tab`.
     by : (s t : Bool) → (s || (t || false)) ≡ (s || t)
     by true t = refl
     by false true = refl
@@ -277,6 +282,7 @@ words_front : (text : List ℕ) → words_of text ≡ words_of (without_front is
 words_front [] = refl
 words_front (b ∷ text) = by (is_blank b) refl (words_front text)
   where
+    -- Plan: `by` goes by both answers of `is_blank b`.
     by : (goes : Bool) → is_blank b ≡ goes → words_of text ≡ words_of (without_front is_blank text)
         → words_of (b ∷ text) ≡ words_of (without_front is_blank (b ∷ text))
     by true is on = rw is on
@@ -286,6 +292,7 @@ words_front (b ∷ text) = by (is_blank b) refl (words_front text)
 pub words_none : (text front : List ℕ) → front ≡ without_front is_blank text → has_byte front ≡ false → words_of text ≡ []
 words_none text front is none = words_front text ∙ ap words_of (sym is) ∙ by front none
   where
+    -- Plan: `by` says that a text without a byte that is no blank has no words.
     by : (f : List ℕ) → has_byte f ≡ false → words_of f ≡ []
     by [] h = refl
     by (b ∷ f) h = absurd cc
@@ -316,6 +323,7 @@ blank_at text at passes below = ap (λ d. filter has_byte (pieces_from is_blank 
         ≡ filter has_byte (take at text ∷ []) ++ words_of (slice_index text at ∷ drop (at + 1) text)
     by goes is = rw is (first (has_byte (take at text)))
       where
+        -- Plan: `first` goes by both answers of `has_byte (take at text)`.
         first : (some : Bool) → (if some then take at text ∷ words_of (drop (at + 1) text) else words_of (drop (at + 1) text))
             ≡ (if some then take at text ∷ [] else []) ++ words_of (drop (at + 1) text)
         first true = refl
@@ -327,6 +335,7 @@ front_head : (text : List ℕ) → has_byte (without_front is_blank text) ≡ tr
 front_head [] some = absurd cc
 front_head (b ∷ text) some = by (is_blank b) refl (front_head text) some
   where
+    -- Plan: `by` goes by both answers of `is_blank b`.
     by : (goes : Bool) → is_blank b ≡ goes → (has_byte (without_front is_blank text) ≡ true
         → is_blank (slice_index (without_front is_blank text) 0) ≡ false)
         → has_byte (if goes then without_front is_blank text else b ∷ text) ≡ true

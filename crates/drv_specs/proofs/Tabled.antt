@@ -9,6 +9,8 @@ use Rattle.std.specs.List.{All, AllByRecursion, filter}
 use Rattle.std.specs.Prelude.{cond, if◌then◌else◌}
 
 -- For `builtin`: the built-in specs are what the rows of the code's tables give, put into an empty set one after another.
+-- Names: `set` is a set, and `pairs` the rows of pairs that are left. `rows` is a table of the code. `no_specs` is the empty set. `all_put`
+-- and `all_added` put texts, or add pairs, one after another (specs/Code/Tables). `has_no_text` says that a pair has no text to run.
 
 -- the rows of named texts, put one after another, are those of the built-in set
 pub builtin_put : all_put no_specs builtin_named ≡ record { named = builtin_named; pairs = [] }
@@ -31,6 +33,7 @@ pub alone_added : (set : Set) (pair : List ℕ × List ℕ) (pairs : List (List 
     ≡ all_added set (filter has_no_text (pair ∷ pairs))
 alone_added set pair pairs = by (is_no_text pair.1)
   where
+    -- Plan: `by` goes by both answers of `is_no_text pair.1`.
     by : (alone : Bool) → all_added (if alone then with_pair set pair.0 pair.1 else set) (filter has_no_text pairs)
         ≡ all_added set (cond alone (pair ∷ filter has_no_text pairs) (filter has_no_text pairs))
     by true = refl

@@ -5,6 +5,8 @@ use Rattle.drv_syntax.specs.declared.fault.SyntaxFault.{SyntaxFault}
 use Rattle.std.proofs.Common.{◌≡◌, Err, List, Ok, Result, ap, ℕ}
 
 -- For `parsed_text` and `extended_text`: what a text that is put gives, by the answer of its parse: the set, or a refusal with the fault.
+-- Names: `name` is the name of a text. `set` is the set with it. `given` is what its parse gives: a tree, or a fault. `by_tree` is the set,
+-- or the refusal by that fault.
 
 -- a text with a tree gives the set
 pub tree_given : (name : List ℕ) (set : Set) (tree : Items) (given : Result Items SyntaxFault) → given ≡ Ok tree

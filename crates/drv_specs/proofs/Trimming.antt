@@ -34,6 +34,7 @@ not_below a b is = grind (arith, nat_tests, is)
 place_is : (test : ℕ → Bool) (text : List ℕ) → unwrap_or (position test text) (length text) ≡ position_or_len test text
 place_is test text = by (nat_lt (position_or_len test text) (length text)) refl
   where
+    -- Plan: `by` goes by both answers of `nat_lt (position_or_len test text) (length text)`.
     by : (below : Bool) → nat_lt (position_or_len test text) (length text) ≡ below
         → unwrap_or (cond below (Some (position_or_len test text)) None) (length text) ≡ position_or_len test text
     by true is = refl

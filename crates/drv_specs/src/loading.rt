@@ -3,7 +3,8 @@
 // In clauses: `GivesKnown` says that a result is the one defined over the facts, or lack of memory.
 // `Extends F G` says that G has every answer of F. `Asked` says that a call only asked, and that
 // the table has the answers. `Asks` says that a call only asked: it added new questions to the
-// journal, and their answers to the table.
+// journal, and their answers to the table. `Gives` says that a result is the defined one, or lack
+// of memory.
 ghost use Rattle.drv_specs.specs.Directives.{read_settled};
 ghost use Rattle.drv_specs.specs.Loading.{all_carried, file_loaded, including, loaded, text_read};
 ghost use Rattle.drv_specs.specs.Loading.{worked};

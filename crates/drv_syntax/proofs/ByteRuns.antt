@@ -14,6 +14,11 @@ use Rattle.std.proofs.lemmas.Option.{get_or_from_slice_get, slice_get-get_or, sl
 
 -- Plain bytes that follow one another, in one slice of the words. It serves `LentLabels::plain_bytes`, whose loop goes on as long as the
 -- next part is a plain byte with its word beside the last one.
+-- Names: `place`: a place in the text. `marks`: of each label the place of its word, and what it says. `tokens`: the flat list of parts.
+-- `b`: a byte. `marked_labels`: the labels of marks, whose words are in one list of bytes. `no_label`: the label of a part that names
+-- nothing. `marked_label`: the label of a mark. `AreBytes`: the parts from this place on are plain bytes, as many as these, and these are
+-- the bytes. `Within`: each mark's word lies within so many bytes. `IsByte tokens labels place b`: the part at this place is a plain byte,
+-- and this is the byte.
 
 -- the tokens of a text, and its labels as marks with all words in one list
 module _ (tokens : List Token) (words : List ℕ) (marks : List LabelMark) where
@@ -126,6 +131,7 @@ module _ (tokens : List Token) (words : List ℕ) (marks : List LabelMark) where
       → IsByte tokens (marked_labels words marks) place b → place < at
   later_part place at start stop b e d before reached in_tokens in_marks begins within other byte = by (eq-or-lt_of_le before)
     where
+      -- Plan: if it were the part itself, its word would be one byte that begins at `stop` (`here`), which `other` rules out.
       plain : (get_or tokens place e).kind ≡ kinds.Plain
       plain = ap (λ (t : Token). t.kind) (get_or_from_slice_get tokens place byte.token e byte.there) ∙ byte.plain
 

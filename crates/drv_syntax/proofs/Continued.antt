@@ -39,6 +39,13 @@ use Rattle.std.specs.Prelude.{None, Ok, Some, slice_get, ◌==◌}
 -- A text that has a tree goes on after its end: read with more bytes after it, it gives its own items and then those of the rest, if its
 -- last item can't be longer there. It serves `SpecTree::extended`, which keeps the tokens and labels of the text and reads only what
 -- follows. `goes_on` (specs/Code/Ending) is the test for that last item.
+-- Names: `t`, `q`: what is left of the text, from step to step. `p`: where a part is in the text. `rest`: what follows in the text. `size`:
+-- the length of the whole text. `b`: a byte. `x`: an item. `rest`: what is left of the text, and its place. `r`: what was read. `level`:
+-- how many levels of lists may open. `nodes_of`: the parts that items are, each with those inside it. `tokens_of`: the tokens of a tree.
+-- `top`: the list that a whole text is. `flat`: the tokens of parts, from the place n of the list on. `ending_in`: how a text of this size
+-- ends, by its last token. `IsItem`: one item of a list with this context, by its first byte. `span`: the bytes from the place start up to
+-- the place end. `here`: what is left of the text where these bytes are left. `longer`: what is the same part in a longer text is a part of
+-- that. `judged`: what a text gives.
 
 -- the last token of a text is that of its last item, if that has no parts
 
@@ -275,6 +282,7 @@ pub rest_is : (text rest : List ℕ) (tokens : List Token) (names : List Label) 
     → goes_on (ending_in (length text) tokens) rest ≡ true → whole_given (text ++ rest) ≡ rest_given (length text) rest tokens names
 rest_is text rest tokens names h g = by (descent text) refl h
   where
+    -- Plan: by what Descent makes of the first text (`by`): if it is read whole, the items of the rest are joined to its items (`joined`).
     joined : (items : Items) (r : Read (Items × ℕ))
         → listed (judged (outcome (behind items r)))
         ≡ given None

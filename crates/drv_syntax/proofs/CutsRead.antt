@@ -30,6 +30,14 @@ use Rattle.std.specs.Prelude.{◌-◌, ◌==◌, None, nat_le}
 
 -- Where the grammar says that a text ends in a part, Descent says that this part isn't closed, or reads it up to the end. It serves the
 -- laws `front_is_unrefused` and `cut_at_open`. The numbers in the statements are bytes: 37 is %, 40 (, 92 a backslash.
+-- Names: `t`, `u`, `v`, `w`: what is left of the text, from step to step. `size`: the length of the whole text. `at`: the place of the
+-- directive's `%`. `c`: where the list is, and what is around it. `deep`, `lists`: how lists inside are read. `o`: what a test may be. `f`:
+-- a class of bytes. `z`: a test's value, so that `by` can go by both cases. `emits`: whether the braces may still be patterns. `here`: what
+-- is left of the text where these bytes are left. `spaces_shorter`: white space takes bytes of the text alone. `no_white`: white space
+-- begins no pattern. `in_braces`: the context in the braces of a list, before the colon of an alternative. `loop_ends`: a loop whose turn
+-- gives r, whatever would follow that turn, gives r. `RunsOut`: bytes of the class f and escapes up to the end of the text. `IsQuoted`: the
+-- longest run of bytes of the class f and of escapes. `AreSpaces`: the text begins with white space, or with none. `Kind`: where a list of
+-- items is. `CutsItem`: an item that is cut short.
 
 -- where f allows no byte that begins a pattern, and no percent sign, what a test asks doesn't begin with one that f allows, even where the
 -- text ends in it
@@ -226,6 +234,7 @@ module _ (size : ℕ) where
     emits_cut {t} (cuts.after_pattern {u = u} {v} {p = p} sp i z) h =
         let f : length u ≤ size = omega (arith, spaces_shorter sp, h) in rw (by i z f (omega (arith, pattern_shorter i, f))) refl
       where
+        -- Plan: by the pattern that the text ends behind: it is read (`read`), and then the text ends.
         read : {v : List ℕ} {p : Pattern} → IsPattern u p v → AreSpaces v [] → length v ≤ size → Operates size at deep c u p v
             → d.one_test deep c at AtFront (here size t) ≡ Ends at
         read i z g m = past_test AtFront sp (s.plain_sign (pattern_head no_sign i)) (pattern_head no_white i) h m.2 z g
@@ -371,6 +380,7 @@ module _ (size : ℕ) where
     pub item_cut : {t : List ℕ} (i : CutsItem size c t) → length t ≤ size → ItemsCut t (open_place i)
     item_cut {t} i h = let m = item_open i h in by (open_place i) m.0 m.1 m.2 (filled i)
       where
+        -- Plan: by what the turn reads of the item (`by`), of which a byte at least is left (`filled`).
         filled : {t : List ℕ} → CutsItem size c t → suc 0 ≤ length t
         filled cuts.cut_escape = omega arith
         filled cuts.cut_percent = omega arith

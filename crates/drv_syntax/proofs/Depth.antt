@@ -8,6 +8,7 @@ use Rattle.std.specs.Prelude.{◌==◌}
 -- Each text may have 64 levels of braces and arguments within one another: the definition computes that number from the text, and it is
 -- always 64. What holds of lists by induction over their levels is below (`all_levels`). It serves the proofs over `descent`. Descent is
 -- the grammar as functions (specs/Descent).
+-- Names: `c`: where the list is, and what is around it. `level`: how many levels of lists may open.
 
 -- the number of levels of a text is 64
 pub depth_is : (text : List ℕ) → depth text ≡ 64

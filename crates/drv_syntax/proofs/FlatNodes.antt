@@ -12,6 +12,9 @@ use Rattle.std.proofs.Common.{◌≡◌, ℕ, ◌+◌, List, [], ◌∷◌, ◌+
 
 -- The tokens of a tree are those of its parts, one after the other, with as many labels. It serves `SpecTree::tokens`, `word` and their
 -- like, and what the reader writes.
+-- Names: `flat`: the tokens of parts, from the place n of the list on. `nodes_of`: the parts that items are, each with those inside it.
+-- `test_nodes`: the parts that the tests of an alternative are. `token`: a token, the tokens inside it, and what follows from the place
+-- after these. `both`: these parts and then those, on one level. `labels`: the labels of parts, in the order of their tokens.
 
 -- items and other items after them as one list
 abbrev pub join : Items → Items → Items
@@ -36,6 +39,7 @@ flat_both n (node kind label s inner xs) ys =
     let t : Token = record { kind = kind; start = s.start; end = s.end; next = m } in
     cc (flat_both m xs ys, joined t (flat (n + 1) inner) (flat m xs) n m refl (λ k. flat k ys))
   where
+    -- a token, its parts and those after it, as one list
     joined : (t : Token) (a b : List Token) (n m : ℕ) → m ≡ n + 1 + length a → (f : ℕ → List Token)
         → t ∷ a ++ (b ++ f (m + length b)) ≡ (t ∷ a ++ b) ++ f (n + length (t ∷ a ++ b))
     joined t a b n m e f =

@@ -4,6 +4,8 @@ use Rattle.std.specs.Cmp.Lexicographic.{pointwise}
 use Rattle.std.specs.Prelude.{◌==◌, ◌&&◌, nat_eq, if◌then◌else◌}
 
 -- A function's name, and whether a byte goes on with one, are compared byte by byte. It serves `is_function` and `is_function_front`.
+-- Names: `t`, `u`, `z`, `x`, `y`: a test's value, so that `by` can go by both cases. `q`: a text, or what is left of it. `b`: a byte.
+-- `is_front`: the first is a front of the second.
 
 -- t and u is u if t is true, and else false
 both : (t : Bool) (u : Bool) → (t && u) ≡ (if t then u else false)

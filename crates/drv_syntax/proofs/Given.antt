@@ -51,6 +51,14 @@ use Rattle.std.specs.Prelude.{Err, None, Ok, Option, Result, Some, ◌&&◌, ◌
 -- What the code gives of the tests and of the inside of braces, by what it gives of the parts in them: each lemma is a function of
 -- src/descent/lists.rt in the words of the clauses of those that it calls. `v` is the text that is left before a part and what is written
 -- so far, and `u` the same after it. `outer` is the place of the outermost directive that is open, if one is.
+-- Names: `c`, `g`: where the list is, and what is around it. `end`: what is left after a part. `at`: the place of the directive's `%`.
+-- `rest`: what is left of the text, and its place. `z`: the parts so far. `order`: the place of a test in its braces. `negated`: whether
+-- the test has a `!`. `t`: a test's value, so that `by` can go by both cases. `r`: what was read. `around`: what reads the lists in a list
+-- of so many levels. `past_white`: what is left without the white space that comes next. `after`: what is left so many bytes on. `then_ok`:
+-- a result and what follows it, unless it is a fault. `span`: the bytes from the place start up to the place end. `tried_given`: a test
+-- that was read and what the byte after it makes of it, or its fault. `then_read`: goes on with what was read and with what is left.
+-- `after_turn`: goes on after a turn, unless it was the last. `later_given`: writes alternatives after the first that were read, or gives
+-- their fault. `first_of`: the byte that comes next, if there is one.
 
 -- the lists in a list of at least one level, in a context that the code has made, are those with a level less
 pub near_is : (c g k : ListContext) → 1 ≤ c.levels → g.levels ≡ c.levels - 1 → k ≡ g → (rest : Left)
@@ -206,6 +214,7 @@ module _ (c : ListContext) (at : ℕ) (outer : Option ℕ) where
       whole : Choice × Parts
       whole = alternative_on v.parts tests colon.at
 
+      -- the whole alternative, as the code writes it and as its tree is
       whole_is : whole ≡ (
         record {
           part = record { token = length v.parts.tokens; start = first_place tests colon.at };
@@ -228,6 +237,7 @@ module _ (c : ListContext) (at : ℕ) (outer : Option ℕ) where
       context no_test h = absurd h
       context (test s negated a ts) h = refl
 
+      -- by the byte after X: the braces end, or another alternative follows
       turned : (x : Items × ℕ) (end : Left) (t : Bool)
           → later_given outer v (then_read (if t then Took (Last (alternative colon.at tests x.0 no_choice)) (after 1 end)
           else Took (More (λ others. alternative colon.at tests x.0 others)) (after 1 end)) (after_turn laters))
@@ -252,6 +262,7 @@ module _ (c : ListContext) (at : ℕ) (outer : Option ℕ) where
   choices_given_by v = given_on _ outer (brace_on v.parts) (d.choices_by (around c.levels).0 (around c.levels).1 c at) (form_on v.parts)
       choices_next (d.form (around c.levels).1 c at AtFront v.rest) (form_has c at AtFront v.rest (front_stops _)) (λ f end h. by f end h.0)
     where
+      -- Plan: by what the braces begin with.
       by : (f : d.Form) (end : Left) → Tested f → brace_given outer v (d.choices_by (around c.levels).0 (around c.levels).1 c at f end)
           ≡ choices_next (form_on v.parts f end)
       by (d.Patterns ps) end h = refl
@@ -306,6 +317,7 @@ module _ (c : ListContext) (at : ℕ) (outer : Option ℕ) where
         (ap (λ (z : Parts). (y.0, z)) (sym (wrote_none y.1.parts)))))))
         ∙ ap (λ (x : Choice × Reading). then_ok (x_from x.0 x.1) default_next) (rw f at is)
       where
+        -- Plan: what the turn reads is the X of the default (`mid`, `y`), and then by the byte behind it (`turned`).
         mid : Left
         mid = past_white v.rest
 
@@ -341,6 +353,7 @@ result_wrote start negated name list end whole choice v e =
       },
     )) (unstarred choice.starred negated)
   where
+    -- a test of a function's result is no starred pattern
     unstarred : (b t : Bool) → (b && is_starred t (HasResult name list)) ≡ false
     unstarred true true = refl
     unstarred true false = refl
@@ -380,6 +393,7 @@ braces_wrote kind at v u w part brace inside end e f =
     first : Open
     first = record { token = length v.parts.tokens; start = at }
 
+    -- the part of the braces, with the parts inside it, closed
     whole : (k : TokenKind) (z : Parts) (nodes : Nodes) (holds : Bool) → z ≡ wrote nodes holds inner
         → closes k first (record { rest = end; parts = z })
         ≡ record { rest = end; parts = wrote (node k no_label (span at end.at) nodes no_node) holds v.parts }
@@ -429,6 +443,7 @@ module _ (outer : Option ℕ) (at : ℕ) (order : Order) (so_far : Option Choice
         × ((first_of u.rest.bytes ≡ Some x.byte) × (v.parts ≡ u.parts))
     begins = by (begins_with ascii.exclamation_mark (past_white v.rest).bytes) begun
       where
+        -- Plan: by whether the test has a sign (`by`), and then by whether a byte is left behind it (`from`).
         from : (start : ℕ) (negated : Bool) (rest : Left) (o : Option ℕ) → first_of rest.bytes ≡ o
             → by_byte {X = Result (Begun × Reading) SyntaxFault} o (Err (Unclosed (open_at outer at))) (λ b.
             Ok (record { start = start; negated = negated; byte = b }, at_rest rest v)) ≡ Ok (x, u)
@@ -492,11 +507,13 @@ module _ (outer : Option ℕ) (at : ℕ) (order : Order) (so_far : Option Choice
           ended : d.Operand → Left → ℕ → d.Tried
           ended o end b = record { place = span x.start end.at; negated = x.negated; operand = o; byte = b }
 
+          -- a function's result is no pattern
           never : (end : Left) (t : Bool) (f : Span × Pattern → d.After)
               → after_given so_far (at_rest (past_white end) u) (d.as_pattern at (span x.start end.at) t None f) ≡ Err (BadDirective at)
           never end true f = refl
           never end false f = refl
 
+          -- by the byte behind it: what ends a test, or is refused
           byte : (y : Choice × Parts) (name : List ℕ) (items : Items) (end : Left) (b : ℕ) (p q s t : Bool)
               → y ≡ added so_far u.parts (span x.start end.at) x.negated (HasResult name items)
               → (b == ascii.closing_brace) ≡ p → (b == ascii.ampersand) ≡ q → (b == ascii.colon) ≡ s → (b == ascii.bar) ≡ t
@@ -509,6 +526,7 @@ module _ (outer : Option ℕ) (at : ℕ) (order : Order) (so_far : Option Choice
           byte y name items end b false false false true z e f g h = rw (z, same b ascii.bar h) refl
           byte y name items end b false false false false z e f g h = rw (z, e, f, g, h) refl
 
+          -- by whether a byte is left behind it
           bytes : (name : List ℕ) (items : Items) (end : Left) (bs : List ℕ)
               → tried_given outer at order so_far u (by_byte (first_of bs) (Ends at) (λ b.
               Took (ended (d.result_operand name items) end b) (past_white end)))

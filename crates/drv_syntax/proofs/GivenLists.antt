@@ -45,6 +45,14 @@ use Rattle.std.specs.Prelude.{None, Ok, Option, Result, Some, not, ◌==◌}
 -- end. It serves `items`, `percent` and the loops of src/descent/lists.rt and src/descent/patterns.rt. A `Tail` is where a list ends
 -- without the white space at its end. `v` is the text that is left before a part and what is written so far, and `u` the same after it.
 -- `outer` is the place of the outermost directive that is open, if one is.
+-- Names: `b`: a byte. `c`: where the list is, and what is around it. `tail`: where a list ends. `at`: the place of the directive's `%`.
+-- `k`: a place in the text. `t`: a test's value, so that `by` can go by both cases. `end`: what is left after a part. `rest`: what is left
+-- of the text, and its place. `deep`, `lists`: how lists inside are read. `around`: what reads the lists in a list of so many levels.
+-- `after`: what is left so many bytes on. `first_of`: the byte that comes next, if there is one. `no_lists`: lists that the last level
+-- allowed would hold. `then_ok`: a result and what follows it, unless it is a fault. `Has`: what was read and what is left have the
+-- property P, if a part was read. `Takes`: after a turn but the last fewer than n bytes are left. `item_ended`: writes an item, and gives
+-- what the list ends with after it. `item_given`: writes an item that begins at this place, or gives its fault. `listed_given`: writes the
+-- items of a list, or gives its fault.
 
 -- rounds of loops: after what the code reads in one, fewer bytes of the text are left
 
@@ -87,6 +95,7 @@ module _ (c : ListContext) (at : ℕ) (outer : Option ℕ) where
       NoBar (nexts.Asks next) = Unit {0}
       NoBar (nexts.Bars next) = ⊥
 
+      -- Plan: by what follows the test; only after a bar does the code go on with tests.
       decides : (x : d.After) (end : Left) → Has (Takes (length v.rest.bytes)) (d.test_turn at x end)
           → after_given (Some choice) (at_rest end v) x ≡ Ok (nexts.Bars other, u) → suc (length u.rest.bytes) ≤ length v.rest.bytes
       decides (d.Emits p) end k e = absurd (subst (λ (y : Next × Reading). NoBar y.0) (ok_same e) tt)
@@ -259,12 +268,14 @@ module _ (c : ListContext) (outer : Option ℕ) where
       step : Item → Left → Read (Turn (Items × ℕ))
       step one end = Took (More (λ list. (more (span v.rest.at end.at) one list.0, list.1))) end
 
+      -- the list ends at the end of the text
       last : (kind : Kind) → listed_given outer tail v (then_read (d.list_end kind v.rest) (after_turn goes))
           ≡ last_given v (end_given outer kind tail v.rest.at)
       last Top = refl
       last InX = refl
       last InArguments = refl
 
+      -- by whether the byte ends the list
       ended : (b : ℕ) (t : Bool)
           → listed_given outer tail v (then_read (if t then Took (Last (none, b)) v.rest else then_read (item b) step) (after_turn goes))
           ≡ (if t then Ok (with_end tail b, v) else then_ok (given outer (item_ended tail v) (item b)) list_from)
@@ -363,6 +374,7 @@ module _ (c : ListContext) (outer : Option ℕ) (v : Reading) (at : ℕ) (at_is 
       ≡ item_given outer at (at_rest two v) (d.directive_by no_lists no_lists c at at x two)
   percent_simple x e h = rw (percent_by x e) (by x h)
     where
+      -- Plan: by the directive; for `%*` by which X it belongs to (`star`).
       star : (owner : Owner)
           → item_given outer at (at_rest two v) (d.star at one.at owner two) ≡ item_given outer at (at_rest two v) (d.star at at owner two)
       star Nobody = refl

@@ -20,6 +20,11 @@ use Rattle.std.specs.Prelude.{◌-◌, ◌==◌, Some, nat_le}
 
 -- What the grammar says of the words of a text, and of directives without lists, Descent makes of it. It serves the laws
 -- `spelled_is_read`, `front_is_unrefused` and `refusal_kinds`. The numbers in the statements are bytes: 40 is (, 41 ), 123 {, 125 }.
+-- Names: `t`, `q`: what is left of the text, from step to step. `b`: a byte. `f`: a class of bytes. `size`: the length of the whole text.
+-- `run`: bytes of one class that follow one another. `rest`: what follows in the text. `p`: a pattern. `is_function_front`: the bytes begin
+-- the name of a function, or are the whole of it. `is_white`: a space, a tab or a newline. `quoted_at`: the longest run of bytes of the
+-- class f and of escapes. `IsQuoted`: the longest run of bytes of the class f and of escapes. `IsRun`: the longest run of bytes of the
+-- class f, and what is left after it.
 
 -- a text doesn't begin with a byte that it stops at
 pub begins_not : (x : ℕ) {t : List ℕ} → s.Stops (λ b. b == x) t → begins_with x t ≡ false
@@ -121,6 +126,7 @@ module _ (size : ℕ) where
   suffix_is kind s.suffix_none h = refl
   suffix_is kind (s.suffix_other {b} {rest} e g) h = rw e (other rest)
     where
+      -- a suffix that does not begin so is no object file's
       other : (rest : List ℕ) → d.suffix_object kind (here (b ∷ rest)) (b ∷ rest) ≡ Took (TempName kind []) (here (b ∷ rest))
       other [] = rw g refl
       other (c ∷ rest) = rw g refl
@@ -159,6 +165,7 @@ module _ (size : ℕ) where
       let i : size - length (name ++ q) + length name ≡ size - length q = omega (arith, length-append name q, h) in
       rw (counts [] name q is e, take-append_seam name q, drop-append_seam name q, i) refl
     where
+      -- Plan: by induction on the bytes that are left of the name, after those that are done.
       counts : (done name q : List ℕ) → is_function_front (done ++ name) ≡ true → EndsName (done ++ name) q
           → front_size done (name ++ q) ≡ length name
       counts done [] [] is e = refl

@@ -21,6 +21,13 @@ use Rattle.std.specs.Prelude.{◌-◌, ◌==◌}
 
 -- What the grammar says of alternatives and braces, Descent makes of it. It serves the laws `spelled_is_read`, `front_is_unrefused` and
 -- `refusal_kinds`. The numbers in the statements are bytes: 58 is :, 59 ;, 125 }.
+-- Names: `t`, `u`, `q`: what is left of the text, from step to step. `size`: the length of the whole text. `b`: a byte. `mid`: what is left
+-- of the text. `c`: where the list is, and what is around it. `deep`, `lists`: how lists inside are read. `at`: the place of the
+-- directive's `%`. `f`: a class of bytes. `f`: a directive. `here`: what is left of the text where these bytes are left. `one`: one byte
+-- on. `other`: a byte that f allows differs from one that f doesn't allow. `in_braces`: the context in the braces of a list, before the
+-- colon of an alternative. `then_read`: goes on with what was read and with what is left. `Loops`: a loop from this rest on gives r, with
+-- any number of turns that is enough. `ListReads`: lists with this context are read as the grammar says. `Kind`: where a list of items is.
+-- `tests_shorter`: tests take bytes of the text alone. `is_plain`: a plain byte.
 
 -- a text of this size, in braces whose directive's % has the place `at`, in a list with the context c
 module _ (size : ℕ) (lists deep : Lists) (c : ListContext) (at : ℕ) where

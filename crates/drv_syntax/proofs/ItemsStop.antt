@@ -38,6 +38,15 @@ use Rattle.std.specs.Prelude.{◌-◌, ◌==◌, None, nat_le}
 -- Where a byte in braces doesn't fit, Descent stops at it: tests and patterns. It serves the law `refusal_kinds`. `Reaches.. t due last`
 -- says that the text t leads to a place where `due` is due, and leaves `last` there. `Refuses` says that `last` ends in a byte that doesn't
 -- fit there (specs/Refusals). k is the place of that byte, and q is what follows it. A mark is the `.` or `,` of a test.
+-- Names: `t`, `u`, `v`, `q`, `w`: what is left of the text, from step to step. `b`: a byte. `at`: the place of the directive's `%`. `c`:
+-- where the list is, and what is around it. `deep`, `lists`: how lists inside are read. `k`: a place in the text. `f`: a directive.
+-- `order`: the place of a test in its braces. `mark`: the `.` or `,` of a test. `here`: what is left of the text where these bytes are
+-- left. `spaces_shorter`: white space takes bytes of the text alone. `may_emit`: whether the braces may still be patterns at a test in this
+-- place, with a ! or without. `is_of`: the byte is one of these. `is_white`: a space, a tab or a newline. `AreSpaces`: the text begins with
+-- white space, or with none. `Loops`: a loop from this rest on gives r, with any number of turns that is enough. `in_braces`: the context
+-- in the braces of a list, before the colon of an alternative. `differs`: true is not false, so a case in which they are equal can't arise.
+-- `IsSign`: a test's ! and the white space after it, or none. Numbers are bytes: 10 is a newline, 32 a blank, 37 %, 38 &, 40 (, 42 *, 44 a
+-- comma, 46 a period, 58 :, 92 a backslash, 124 |, 125 }.
 
 -- a byte that f doesn't allow differs from one that f allows
 pub unlike : (f : ℕ → Bool) (b x : ℕ) → f b ≡ false → f x ≡ true → (b == x) ≡ false
@@ -73,6 +82,7 @@ module _ (at : ℕ) (order : Order) (place : Span) (negated : Bool) (o : Operand
       → d.decided at order tried ≡ Fails (BadDirective at)
   no_pattern_fits h p = rw (unlike (is_of ends_test) b 58 h refl, unlike (is_of ends_test) b 124 h refl) (by (b == 125) (b == 38))
     where
+      -- Plan: by what the byte ends (`by`); neither a pattern (`never`) nor a test fits (`either`).
       never : (goes : Span × Pattern → d.After) → (may_emit order negated ≡ false) ⊎ (o.as_pattern ≡ None)
           → d.as_pattern at place (may_emit order negated) o.as_pattern goes ≡ Fails (BadDirective at)
       never goes (inl e) = rw e refl
@@ -227,6 +237,7 @@ module _ (k : ℕ) (q : List ℕ) where
         (starred_is whole at deep c mark word m i (omega (arith, spaces_shorter sp, h)))
         z w bad (omega (arith, spaces_shorter sp, quoted_shorter i, h))).0
       where
+        -- after a starred word with a mark, a byte that ends no pattern doesn't fit
         bad : (place : Span) → d.decided at AtFront (tried at AtFront place false (d.starred_operand mark word) b) ≡ Fails (BadDirective at)
         bad place = rw (unlike (is_of ends_pattern) b 125 x refl, unlike (is_of ends_pattern) b 38 x refl) (by (b == 58) (b == 124))
           where
@@ -241,6 +252,7 @@ module _ (k : ℕ) (q : List ℕ) where
         e)).0
     emits_stop {t = t} {fault = fault} (r.past_mark {mark = mark} {b = b} {u = u} sp m white z) f h = by f z
       where
+        -- the same for a byte after white space
         past : {fault : SyntaxFault} (x : ℕ) → AreSpaces u (x ∷ q) → is_white x ≡ false
             → ((place : Span) → d.decided at AtFront (tried at AtFront place false (d.bare_operand mark) x) ≡ Fails fault)
             → d.form deep c at AtFront (here whole t) ≡ Stops k fault
@@ -283,6 +295,7 @@ module _ (k : ℕ) (q : List ℕ) where
             pattern_stops at b y,
           ) refl
         where
+          -- a byte of no word is no mark
           unmarked : (z : Bool) → is_mark b ≡ z → is_mark b ≡ false
           unmarked true m = differs (sym (mark_word b m) ∙ y.1)
           unmarked false m = m
@@ -317,6 +330,7 @@ module _ (k : ℕ) (q : List ℕ) where
       asked_ends {order} {t} {u} {v} {x} {negated} {a} {b} sp sign e i z w y h l =
           by sign i (star_or z) (omega (arith, asked_shorter i, l)) l
         where
+          -- Plan: by what the test asks.
           by : {v : List ℕ} {a : Asked} → IsSign u negated v → IsAsked whole (in_braces c) v a x
               → s.Stops (λ x. x == ascii.asterisk) x ⊎ (x ≡ 42 ∷ q) → length x ≤ whole → length v ≤ whole → Stopped order t
               (BadDirective at)
@@ -387,6 +401,7 @@ no_colon_first : (k : ℕ) (q : List ℕ) {at : ℕ} {c : ListContext} {t u : Li
     → (v : List ℕ) × AreSpaces t v × s.Stops is_white v × s.Stops (λ b. b == ascii.colon) v
 no_colon_first k q {at} {c} (r.in_test {u = u} sp sign o) f = let m = by sign o f in (u, sp, m.0, m.1)
   where
+    -- Plan: by the sign of the test (`by`); a test that is due begins with no colon (`due_colon`).
     due_colon : {u : List ℕ} {fault : SyntaxFault} → StopsAt k q (r.ATest c at AtNext false) u fault → s.Stops (λ b. b == ascii.colon) u
     due_colon (stops_at (r.test_within_all p e)) = s.at_byte refl
     due_colon (stops_at (r.test_no_function p e h)) = s.at_byte refl
@@ -486,6 +501,7 @@ module _ (k : ℕ) (q : List ℕ) (lists deep : Lists) (c : ListContext) (known 
       let m = run_is j in let f : nat_le (length name) 255 ≡ true = grind (arith, nat_tests, l) in
       rw (m.0, f, m.1, m.2, run_place size j (omega (arith, length-append t q, h)), last_at k q) (ended (length name == 0))
     where
+      -- a name that a closing parenthesis doesn't end doesn't fit
       ended : (z : Bool) → (if z then Stops k (BadDirective at)
           else if b == ascii.closing_parenthesis then Took (NamedText name) (after 1 (record { at = k; bytes = b ∷ q }))
           else Stops k (BadDirective at)) ≡ Stops k (BadDirective at)

@@ -29,6 +29,10 @@ use Rattle.std.specs.Prelude.{Err, IfErr, IsErrAnd, Ok, Result, nat_le}
 -- What is kept of a text (`IsKept`): its tokens and labels, if it was read (`IsRead`), or the tree that was written of it. It serves
 -- `parse` and `SpecTree::extended`. `whole_given text` is what the code gives of a whole text, and `rest_given` of what follows a text that
 -- is kept (specs/Code/Whole).
+-- Names: `more`: more text behind. `t`: a text, or what is left of it. `b`: a byte. `parsed`: the tree of a text, or its fault.
+-- `whole_given`: the tokens and labels of a whole text, or its fault. `listed`: the tokens of a tree and their labels, or the fault in
+-- place of a tree. `tree_of`: the tree of a text. `ending_in`: how a text of this size ends, by its last token. `goes_on`: whether what was
+-- read can be kept where this follows it. `items`: the items of a list, up to the byte that ends it, which isn't taken.
 
 -- a number is not at most one that is less
 pub beyond : (a b : ℕ) → b < a → nat_le a b ≡ false

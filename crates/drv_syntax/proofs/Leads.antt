@@ -11,6 +11,10 @@ use Rattle.std.proofs.lemmas.Bool.Decides.{nat_tests}
 use Rattle.std.specs.Prelude.{◌==◌, if◌then◌else◌, nat_le}
 
 -- Facts on bytes and classes of them.
+-- Names: `b`: a byte. `q`, `w`: what is left of the text, from step to step. `f`: a class of bytes. `more`: more text behind. `x`, `z`: a
+-- test's value, so that `by` can go by both cases. `c`: where the list is, and what is around it. `p`: a pattern. `rest`: what follows in
+-- the text. `is_word`: the byte may be in a word of a test. `is_of`: the byte is one of these. `any_of`: one of these names passes the test
+-- f. `is_front`: the first is a front of the second. `is_function_front`: the bytes begin the name of a function, or are the whole of it.
 
 -- bytes that the test finds equal are equal
 pub same : (a b : ℕ) → (a == b) ≡ true → a ≡ b

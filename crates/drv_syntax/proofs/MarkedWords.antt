@@ -13,6 +13,11 @@ use Rattle.std.proofs.lemmas.List.{drop-append-le, drop_more, length-drop, lengt
 -- Labels are kept as one list of words and a mark for each label, which says where its word is in that list. It serves `Labels`, where the
 -- reader writes them: what each call adds to words and marks is the label that its clause says. `marked_labels words marks` are the labels.
 -- `Within n marks` says that each mark's word lies within n bytes (specs/Marks).
+-- Names: `marks`: of each label the place of its word, and what it says. `more`: more text behind. `run`: bytes of one class that follow
+-- one another. `place`, `k`: a place in the text. `b`: a byte. `negated`: whether the test has a `!`. `rest`: what follows in the text.
+-- `mark`: the `.` or `,` of a test. `marked_labels`: the labels of marks, whose words are in one list of bytes. `byte_marks`: the marks of
+-- plain bytes. `marked_label`: the label of a mark. `part_label`: the label of any part but an alternative. `lengthened`: a label whose
+-- word goes on with these bytes.
 
 -- words that lie within n bytes lie within more
 pub within_more : (n m : ℕ) (marks : List LabelMark) → n ≤ m → Within n marks → Within m marks
@@ -148,6 +153,7 @@ within_run words second run start marks all e f a w = subst (λ (ms : List Label
 -- bytes at the end of the words, with a mark for each, are their labels
 run_at : (words run : List ℕ) (start : ℕ) → start ≡ length words → marked_labels (words ++ run) (byte_marks start run) ≡ byte_labels run
 run_at words [] start h = refl
+-- Plan: the label of the first byte, and then the rest, with that byte moved to the words before.
 run_at words (b ∷ run) start h = ap (λ word. word_label word ∷ marked_labels (words ++ b ∷ run) (byte_marks (start + 1) run)) first
     ∙ ap (λ ls. word_label (b ∷ []) ∷ ls) (ap (λ ws. marked_labels ws (byte_marks (start + 1) run)) (sym (append_assoc words (b ∷ []) run))
     ∙ run_at (words ++ b ∷ []) run (start + 1) (omega (arith, h, length-append words (b ∷ []))))

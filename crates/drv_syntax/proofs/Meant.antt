@@ -12,6 +12,10 @@ use Rattle.std.specs.Prelude.{◌==◌}
 -- text ends in it. Where the last byte of the text is the one that doesn't fit, it says which case of the grammar refuses it. Below, a part
 -- is called meant where this holds of it. It serves the laws `read_is_spelled`, `unrefused_is_front` and `refused_kinds`. Descent is the
 -- grammar as functions (specs/Descent). The grammar itself has cases (specs/Spelling, Fronts, Refusals).
+-- Names: `size`: the length of the whole text. `k`: a place in the text. `mid`, `last`: what is left of the text between two parts, and at
+-- last. `X`, `Y`: any type. `rest`: what is left of the text, and its place. `b`: a byte. `due`: what is due where the text is open. `t`,
+-- `q`: what is left of the text, from step to step. `r`: what was read. `At`: in a text of this size the rest begins at this place.
+-- `after_turn`: goes on after a turn, unless it was the last.
 
 -- these bytes are left of the text, from this place on
 abbrev pub left : ℕ → List ℕ → Left

@@ -28,12 +28,11 @@ use Rattle.std.proofs.Common.{◌≤◌, ◌∙◌, None, Option, Some, length, 
 use Rattle.std.specs.List.{prefix_len}
 use Rattle.std.specs.Prelude.{◌-◌, ◌==◌}
 
--- What a test asks, and a whole test with the byte after it: what Descent makes of them is what the grammar says. A mark is the `.` or `,`
--- of a test. `Tried` is a test that may still be a pattern, with the byte after it. Descent is the grammar as functions (specs/Descent).
--- The grammar itself has cases (specs/Spelling, Fronts, Refusals).
---
--- Names: at: the place of the directive; g: its context; t, u, v, q: what is left of the text from step to step; k: the place of the byte
--- that is refused. `TestBad` and `emit_bad`: the test, or the pattern, is refused there with that fault.
+-- What a test asks, and a whole test with the byte after it: what Descent (the grammar as functions) makes of them is what the grammar
+-- says. A mark is the `.` or `,` of a test. `Tried` is a test that may still be a pattern, with the byte after it. Names: at: the place of
+-- the directive; g: its context; t, u, v, q: what is left of the text from step to step; k: the place of the byte that is refused.
+-- `TestBad` and `emit_bad`: the test, or the pattern, is refused there with that fault. Numbers in statements are bytes: 37 %, 38 &, 40 (,
+-- 41 ), 42 *, 44 a comma, 46 a period, 58 :, 124 |, 125 }.
 
 -- right after a mark alone: white space, or the end of a pattern
 pub data Bared : List ℕ → Type 0 where
@@ -304,6 +303,7 @@ module _ (at size : ℕ) where
       (λ e. meant_byte y 38 (λ f. meant_took (omega (arith, place)) (goes (rw f at z)))
       (λ f. meant_stops (unfit (r.pattern_ends sp i z) (refuses_byte (r.no_end x (rw (e, f) refl)) place))))
     where
+      -- Plan: by the byte that comes next; after an ampersand what is meant of the rest is meant of all (`goes`, `next`).
       goes : AreSpaces v (38 ∷ w) → Leads (ToBrace size) CutsPatterns (PatternsBad at size) t (λ ps. (span n m, p) ∷ ps) w
       goes z = record {
         is = λ ps q o. next z o;
@@ -457,6 +457,7 @@ decided_is {at} {size} {g} {order} {t} (is_tried {n} {m} {b} {u = u} {v = v} {w 
     (same b 124 e) refl) (rw (same b 124 e) refl) (λ a j. rw (same b 124 e) (is_bars (rw (same b 124 e) at j))))
     (λ l. is_fails (λ j here. order_bad order negated here sp sign i z white (rw (k, l) refl) (rw (f, h) refl) (rw (k, l, f, h) refl))))))
   where
+    -- the byte ends a pattern: the test is one, or is refused
     pattern_case : (goes : Span × Pattern → After) → is_of ends_test b ≡ false
         → ((p : Pattern) → order ≡ AtFront → Emitted size t (span n m) p (b ∷ q) → Decided at size g order t (goes (span n m, p)) (b ∷ q))
         → Decided at size g order t (d.as_pattern at (span n m) (may_emit order negated) o.as_pattern goes) (b ∷ q)
@@ -470,6 +471,7 @@ decided_is {at} {size} {g} {order} {t} (is_tried {n} {m} {b} {u = u} {v = v} {w 
         by true e None j = is_fails (λ k here. test_bad (r.in_test sp sign (j (b ∷ q) z)) (refuses_byte (r.no_end white h) here))
         by false e p j = is_fails (λ k here. test_bad (r.in_test sp sign (asked_ends e i z)) (refuses_byte (r.no_end white h) here))
 
+    -- the byte ends a test: it asks something, or is refused
     test_case : (goes : Asked → After) → is_of ends_test b ≡ true → is_of ends_pattern b ≡ false
         → ((a : Asked) → Questioned size g t (span n m) negated a (b ∷ q) → Decided at size g order t (goes a) (b ∷ q))
         → Decided at size g order t (d.as_test at o.bare o.as_test goes) (b ∷ q)

@@ -44,6 +44,15 @@ use Rattle.std.specs.Prelude.{◌-◌, ◌==◌}
 -- The inside of braces, patterns or alternatives: what Descent makes of it is what the grammar says. The numbers in the statements are
 -- bytes: 58 is :, 59 ;, 125 }. Descent is the grammar as functions (specs/Descent). The grammar itself has cases (specs/Spelling, Fronts,
 -- Refusals).
+-- Names: `c`: where the list is, and what is around it. `size`: the length of the whole text. `t`, `u`, `q`: what is left of the text, from
+-- step to step. `b`: a byte. `at`: the place of the directive's `%`. `mid`, `last`: what is left of the text between two parts, and at
+-- last. `f`: a directive. `deep`, `lists`: how lists inside are read. `k`: a place in the text. `in_braces`: the context in the braces of a
+-- list, before the colon of an alternative. `left`: these bytes are left of the text, from this place on. `meant_then`: a part that is
+-- meant, and then what follows it. `top`: the list that a whole text is. `unfit_in`: what leads to a byte that doesn't fit does so in a
+-- larger part too. `At`: in a text of this size the rest begins at this place. `IsRefused text fault`: a text ends in the byte that no
+-- longer fits, and this is its fault. `AreItems`: the items of a list with this context, up to what ends the list. `Reads`: what these read
+-- as lists with this context is what the grammar says. `DirMeant`: what Descent makes of the text after the byte of this directive is what
+-- the grammar says.
 
 -- a byte that ends an X and is no closing brace is a semicolon
 ends_x : (b : ℕ) → is_end InX b ≡ true → (b == 125) ≡ false → b ≡ 59
@@ -219,6 +228,7 @@ module _ (size : ℕ) (lists deep : Lists) (c : ListContext) (near : (asks : Tes
       ends (cut_test o) = cuts.cut_chooses outer (cuts.in_tests o)
       ends (cut_pattern e o) = cuts.cut_emits outer o
 
+      -- a test that is refused refuses the braces
       bad : {t : List ℕ} {k : ℕ} {fault : SyntaxFault} → TestBad at size (in_braces c) AtFront t k fault
           → BraceBad at size (in_braces c) t k fault
       bad (test_bad o h) = unfit (r.in_choices (r.to_tests o)) h
@@ -448,6 +458,8 @@ pub refused_at : (text : List ℕ) (k : ℕ) (fault : SyntaxFault) → read text
     → (k < length text) × IsRefused (take (k + 1) text) fault
 refused_at text k fault e = by (text_read text) e
   where
+    -- Plan: by what Descent makes of the text (`by`): where it refuses, `cut` turns what leads there into what the text up to that byte
+    -- does.
     cut : {due : Due} {t last : List ℕ} {f : SyntaxFault} (j : ℕ) (others : List ℕ) → Reaches (length text) top text due t
         → Refuses (j + 1) due last f → t ≡ last ++ others → At (length text) (j + 1) others → IsRefused (take (j + 1) text) f
     cut {due} {last = last} {f} j others reaches refuses split place =

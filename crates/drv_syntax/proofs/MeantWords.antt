@@ -31,6 +31,14 @@ use Rattle.std.specs.Prelude.{◌==◌, ◌&&◌, nat_le}
 
 -- Runs of bytes, words with escapes, patterns and names of functions: what Descent makes of them is what the grammar says. Descent is the
 -- grammar as functions (specs/Descent). The grammar itself has cases (specs/Spelling, Fronts, Refusals).
+-- Names: `size`: the length of the whole text. `b`: a byte. `t`, `u`, `q`: what is left of the text, from step to step. `f`: a class of
+-- bytes. `at`: the place of the directive's `%`. `k`: a place in the text. `rest`: what follows in the text. `c`: where the list is, and
+-- what is around it. `x`, `y`: a test's value, so that `by` can go by both cases. `left`: these bytes are left of the text, from this place
+-- on. `is_function_front`: the bytes begin the name of a function, or are the whole of it. `same`: bytes that the test finds equal are
+-- equal. `choose`: what holds of each of two. `meant_byte`: what a test of a byte chooses is meant. `At`: in a text of this size the rest
+-- begins at this place. `IsQuoted`: the longest run of bytes of the class f and of escapes. `IsRun`: the longest run of bytes of the class
+-- f, and what is left after it. `RunsOut`: bytes of the class f and escapes up to the end of the text. `Run`: a run of bytes and of
+-- escapes. Numbers are bytes: 10 is a newline, 37 %, 40 (, 41 ), 42 *, 46 a period, 92 a backslash, 123 {, 125 }.
 
 -- runs
 
@@ -174,6 +182,7 @@ fronted name (b ∷ text) h = choose (Fronted name (b ∷ text)) (is_function_fr
       stops = s.at_byte (ap (λ (t : List ℕ). is_function_front (t ++ b ∷ [])) (append-nil name) ∙ e);
     })
   where
+    -- one byte more of the name
     more : {k : ℕ} → Fronted (name ++ b ∷ []) text k → Fronted name (b ∷ text) (suc k)
     more {k} m = record {
       whole = ap (λ (t : List ℕ). b ∷ t) m.whole;

@@ -35,6 +35,13 @@ use Rattle.std.specs.Prelude.{Err, None, Ok, Option, Result, Some, ◌==◌}
 
 -- A text that ends in a message, a text for the user, gives what it gives alone, with a longer last part, where bytes follow that neither
 -- end the message nor escape. It serves `SpecTree::extend`, which then reads none of the text again.
+-- Names: `t`, `u`, `q`, `w`: what is left of the text, from step to step. `b`: a byte. `tokens`: the flat list of parts. `f`: a class of
+-- bytes. `v`, `u`: what is left of the text, with the parts so far, before and after. `k`: a place in the text. `rest`: what is left of the
+-- text, and its place. `X`: any type. `size`: the length of the whole text. `ended`: a token that ends at this place. `is_said`: the byte
+-- belongs to the text of %e and %n. `goes_on`: whether what was read can be kept where this follows it. `said_to`: the tokens and labels of
+-- a text. `ending_in`: how a text of this size ends, by its last token. `IsQuoted`: the longest run of bytes of the class f and of escapes.
+-- `IsRun`: the longest run of bytes of the class f, and what is left after it. `with_last`: the last of some, with this change.
+-- `whole_given`: the tokens and labels of a whole text, or its fault. Numbers are bytes: 37 is %.
 
 -- the last of a list, changed
 
@@ -206,6 +213,7 @@ open_more text m goes says q more_says =
         (twice (λ label. lengthened label q) (λ label. lengthened label m) (λ label. lengthened label (m ++ q))
         (λ label. ap (λ (word : List ℕ). with_word label word) (sym (append_assoc label.word m q))) p.1)
       where
+        -- a label with another word
         with_word : Label → List ℕ → Label
         with_word label word = record {
           word = word;

@@ -25,6 +25,12 @@ use Rattle.std.specs.Prelude.{◌&&◌}
 -- reader's `x` and `choices`. The code opens the token, writes all items, and cuts the white space off at the end. The lemmas show that
 -- this is the alternative of specs/Labels, written at once (`wrote`). A `Tail` is where a list ends without that white space. A `Choice` is
 -- an alternative whose token is open. Owned is what an alternative has written when it ends at its tail (`owned_at`).
+-- Names: `z`: the parts so far. `a`, `b`, `t`: a test's value, so that `by` can go by both cases. `tail`: where a list ends. `negated`:
+-- whether the test has a `!`. `a`: what a test asks. `place`: a place in the text. `trimmed`: items without the white space at their end,
+-- of which an X has none (this project's profile). `unheld`: the parts as an X begins. `list_written`: writes the parts of items, one after
+-- another. `labels`: the labels of parts, in the order of their tokens. `tests_have_star`: tests hold a %* of the X around their braces.
+-- `tail_on`: what a list ends with after these items. `test_nodes`: the parts that the tests of an alternative are. `item_written`: writes
+-- an item with all that is inside it. `all_starred`: each test asks for a switch by a starred pattern, without a !.
 
 -- tests
 
@@ -90,6 +96,7 @@ trims (more s item items) z =
     one : Nodes
     one = node (kind_of item) (label_of item) (span s.start s.end) (inner_nodes item) no_node
 
+    -- Plan: by whether the item is white. If not, it stays; else the items after it decide.
     by : (t : Bool) (x : Items) → More (list_written x next) (list_written items next)
         → More (list_written (if t then kept_white s item x else more s item x) z) (list_written items next)
     by false x h = h
@@ -117,6 +124,7 @@ ended_is none tail z = refl
 ended_is (more s item items) tail z =
     cc (ended_is items (tail_after item tail s.end next) next, by (is_white_item item) (trimmed items), kept_is s item (trimmed items))
   where
+    -- Plan: by whether the item is white and nothing follows it but white space.
     next : Parts
     next = item_written s.start item s.end z
 

@@ -32,6 +32,12 @@ use Rattle.std.specs.Prelude.{Err, IfErr, Ok, Result, nat_le}
 
 -- A text that is cut short is cut at the place of what is open at its end, and at no other: the law `cut_at_open`. Descent is the grammar
 -- as functions (specs/Descent). The grammar itself has cases (specs/Spelling, Fronts, Refusals).
+-- Names: `size`: the length of the whole text. `place`: a place in the text. `t`: a text, or what is left of it. `r`: what was read.
+-- `level`: how many levels of lists may open. `z`: a test's value, so that `by` can go by both cases. `rest`: what follows in the text.
+-- `l`: what is left. `top`: the list that a whole text is. `text_limit`: a spec text has at most so many bytes. `read`: what a text gives.
+-- `parsed`: the tree of a text, or its fault. `judged`: what a text gives. `Refused`: a text has no tree for this fault. `Spells`: a text
+-- has this tree. `IsOpenAt`: the place of what a text of this size leaves open at its end, after whole items. `IsCutAt text place`: a text
+-- without a tree is cut short, and at this place is what it leaves open.
 
 -- a whole text of this size, which may have 64 levels
 module _ (size level : ℕ) (is : level ≡ 63) where
@@ -122,6 +128,7 @@ cut_there text place c = let m = open_is_cut (length text) 63 refl c.is_open (om
 pub cut_at : (text : List ℕ) (place : ℕ) → read text ≡ Cut place → IsCutAt text place
 cut_at text place h = by (open_or_whole (length text) 63 refl (unrefused_is_front text (inr (place, h))) (omega arith))
   where
+    -- Plan: the grammar leaves the text open, at the same place, or gives it a tree, which can't be (`no_tree`).
     no_tree : (items : Items) → Spells text items → ⊥
     no_tree items j = let z : Cut place ≡ Got items = sym h ∙ spelled_is_read text items j in absurd cc
 
@@ -164,6 +171,7 @@ module _ (text : List ℕ) where
   pub parsed_spelled : (items : Items) → parsed text ≡ Ok items → Spells text items
   parsed_spelled items h = by (nat_le (length text) text_limit) refl
     where
+      -- Plan: by whether the text fits the limit (`by`); a text that doesn't has no tree (`long`).
       given : (out : Out) → read text ≡ out → judged out ≡ Ok items → Spells text items
       given (Got others) e d = read_is_spelled text items (e ∙ (let same : others ≡ items = cc in ap Got same))
       given (Cut at) e d = absurd cc
@@ -180,6 +188,7 @@ module _ (text : List ℕ) where
   pub parsed_refused : (fault : SyntaxFault) → parsed text ≡ Err fault → Refused text fault
   parsed_refused fault h = by (nat_le (length text) text_limit) refl
     where
+      -- Plan: by whether the text fits the limit (`by`), and then by what Descent gives (`given`).
       is_fault : {other : SyntaxFault} → other ≡ fault → Refused text other → Refused text fault
       is_fault e = subst (λ (f : SyntaxFault). Refused text f) e
 

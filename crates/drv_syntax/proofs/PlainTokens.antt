@@ -5,6 +5,7 @@ use Rattle.std.proofs.Common.{◌≡◌, ◌∙◌, ◌+◌, ◌<◌, ◌++◌, 
 use Rattle.std.proofs.lemmas.List.{drop_more}
 
 -- The tokens of plain bytes. It serves `Tokens::push_run`.
+-- Names: `run`: bytes of one class that follow one another.
 
 -- a step of the loop of `push_plains` keeps the list of tokens that the loop leads to
 pub tokens_step : (old new all : List Token) (n next i : ℕ) (run : List ℕ) → i < length run

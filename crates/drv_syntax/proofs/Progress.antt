@@ -31,6 +31,13 @@ use Rattle.std.specs.Prelude.{None, Option, Some, ◌-◌, ◌==◌}
 -- What the code needs to know of what Descent makes of a part: how many bytes are left, that a directive is no white space, and that an
 -- alternative has a test. It follows from what the grammar says of the part (`Meant`). It serves the loops of the reader, which take a byte
 -- at least in each turn but the last, and `items`, which leaves out the white space at the end of an X.
+-- Names: `c`, `g`: where the list is, and what is around it. `rest`: what is left of the text, and its place. `at`: the place of the
+-- directive's `%`. `end`: what is left after a part. `size`: the length of the whole text. `t`, `q`: what is left of the text, from step to
+-- step. `X`: any type. `r`: what was read. `level`: how many levels of lists may open. `around`: what reads the lists in a list of so many
+-- levels. `then_read`: goes on with what was read and with what is left. `in_braces`: the context in the braces of a list, before the colon
+-- of an alternative. `after_turn`: goes on after a turn, unless it was the last. `after`: what is left so many bytes on. `Reads`: what
+-- these read as lists with this context is what the grammar says. `past_white`: what is left without the white space that comes next.
+-- `is_white_item`: the item is white space, of which an X has none at its end. `repeat`: one turn after another, up to the last.
 
 -- what was read and what is left have the property P, if a part was read
 abbrev pub Has : {X : Type 0} → (X → Left → Type 0) → Read X → Type 0
@@ -158,9 +165,11 @@ result_has c h at n rest = by (first_of rest.bytes)
     IsMade : d.Operand → Left → Type 0
     IsMade o end = (name : List ℕ) × ((items : Items) × (o ≡ d.result_operand name items))
 
+    -- a call makes the operand of a function's result
     call : {size : ℕ} {t q : List ℕ} {o : d.Operand} → CallIs d.result_operand size (in_braces c) t o q → IsMade o (left 0 q)
     call (call_is {name = name} {items = items} i) = (name, (items, refl))
 
+    -- by whether a colon follows
     colon : (t : Bool) → Has IsMade (if t then d.call_as d.result_operand (around c.levels).1 (in_braces c) at n (after 1 rest)
         else Stops rest.at (BadDirective n))
     colon true = meant_has IsMade (call_meant d.result_operand (in_braces c) h (around c.levels).1 (size (after 1 rest))

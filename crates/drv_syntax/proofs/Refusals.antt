@@ -13,6 +13,9 @@ use Rattle.std.proofs.lemmas.List.{length-take, length-take-le, take-append-drop
 
 -- A refusal, its place and a cut text by the fronts alone. It serves the laws `shortest_prefix`, `refused_after_front`,
 -- `refused_at_misfit`, `front_prefix` and `cut_front`.
+-- Names: `k`, `place`: a place in the text. `t`, `u`, `v`: what is left of the text, from step to step. `size`: the length of the whole
+-- text. `rest`: what follows in the text. `A`: any type. `read`: what a text gives. `refused_at`: where Descent refuses a text, the grammar
+-- does too. `Front`: the text is a front of a spec text.
 
 -- up to the byte of the refusal, with anything after it, the text is refused at that place
 refused_on : (text : List ℕ) (k : ℕ) (fault : SyntaxFault) → read text ≡ Bad k fault → (rest : List ℕ)
@@ -78,6 +81,7 @@ pub refused_after : (text : List ℕ) (k : ℕ) → k < length text → Front (t
     → (fault : SyntaxFault) × (read text ≡ Bad k fault)
 refused_after text k h f g = by (front_or (take (k + 1) text))
   where
+    -- Plan: the text up to that byte is a front, which can't be, or is refused (`by`); then so is the whole text, not before that byte.
     by : Front (take (k + 1) text) ⊎ ((j : ℕ) × (fault : SyntaxFault) × (read (take (k + 1) text) ≡ Bad j fault))
         → (fault : SyntaxFault) × (read text ≡ Bad k fault)
     by (inl i) = absurd (g i)

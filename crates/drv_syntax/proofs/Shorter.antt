@@ -11,6 +11,10 @@ use Rattle.std.proofs.Common.{◌≡◌, ◌≤◌, Bool, List, [], ◌∷◌, a
 
 -- Each part takes bytes of the text alone, and an item and a test one byte at least. So loops of Descent end. It serves the laws
 -- `spelled_is_read`, `front_is_unrefused` and `refusal_kinds`.
+-- Names: `t`, `q`: what is left of the text, from step to step. `size`: the length of the whole text. `c`: where the list is, and what is
+-- around it. `rest`: what is left of the text, and its place. `r`: what was read. `X`: any type. `a`: what a test asks. `end`: what is left
+-- after a part. `f`: a directive. `spaces_shorter`: white space takes bytes of the text alone. `pattern_shorter`: a pattern takes bytes of
+-- the text alone. `quoted_shorter`: a run takes bytes of the text alone. `mapped`: what was read, as this function of it.
 
 -- a suffix takes bytes of the text alone
 suffix_shorter : {t suffix q : List ℕ} → IsSuffix t suffix q → length q ≤ length t

@@ -17,6 +17,11 @@ use Rattle.std.specs.Prelude.{◌-◌, ◌==◌}
 
 -- A part of a text is the same part where that text goes on in another way, if a byte is left after the part: with that byte its end is
 -- settled. It serves the laws `refusal_kinds` and `refused_kinds`, and `SpecTree::extended`.
+-- Names: `t`, `u`, `v`, `q`, `w`: what is left of the text, from step to step. `c`: where the list is, and what is around it. `b`: a byte.
+-- `due`: what is due where the text is open. `size`: the length of the whole text. `f`: a class of bytes, or a directive. `any`, `loose`,
+-- `grow`: from what is before the swapped ends, a weaker or a longer form of it. `i`, `l`, `o`: an alternative's tests, its items, and what
+-- follows; `k`, `m`, `j`: the same of the other text. `order`: the place of a test in its braces. `IsItem`: one item of a list with this
+-- context, by its first byte. Numbers are bytes: 37 is %, 58 :, 92 a backslash.
 
 -- a text that ends in x, and one that ends in y
 module _ (x y : List ℕ) where

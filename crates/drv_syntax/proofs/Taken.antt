@@ -15,6 +15,8 @@ use Rattle.std.specs.Result.{IsErrAnd}
 -- From what the code gives of a part to what Descent makes of it: where the code goes on, the part was read (`taken`), and where it returns
 -- a fault, the part has that fault (`Fails`). So each way through a function of src/descent/ follows the words of Descent. `given` turns
 -- what Descent makes of a part into the code's result. `outer` is the place of the outermost directive that is open, if one is.
+-- Names: `X`, `Y`: any type. `r`: what was read. `v`, `u`: what is left of the text, with the parts so far, before and after. `end`: what
+-- is left after a part. `tail`: where a list ends. `then_read`: goes on with what was read and with what is left.
 
 -- a result and what follows it, unless it is a fault
 abbrev pub then_ok : {X Y : Type 0} → Result X SyntaxFault → (X → Result Y SyntaxFault) → Result Y SyntaxFault

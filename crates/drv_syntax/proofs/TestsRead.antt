@@ -20,6 +20,14 @@ use Rattle.std.specs.Prelude.{◌-◌, ◌==◌, Some}
 -- What the grammar says of calls and tests, Descent makes of it. It serves the laws `spelled_is_read`, `front_is_unrefused` and
 -- `refusal_kinds`. The numbers in the statements are bytes: 37 is %, 40 (, 41 ), 42 *, 44 a comma, 46 a period, 58 :, 124 |. What ends in
 -- `_on` says with what Descent goes on, whatever follows there; what ends in `_is` or `_are` says what is read.
+-- Names: `t`, `u`, `v`, `q`, `w`: what is left of the text, from step to step. `size`: the length of the whole text. `b`: a byte. `c`:
+-- where the list is, and what is around it. `at`: the place of the directive's `%`. `deep`, `lists`: how lists inside are read. `z`: a
+-- test's value, so that `by` can go by both cases. `emits`: whether the braces may still be patterns. `p`: a pattern. `here`: what is left
+-- of the text where these bytes are left. `spaces_shorter`: white space takes bytes of the text alone. `is_mark`: what begins a test of a
+-- suffix or of a language. `one`: one byte on. `is_white`: a space, a tab or a newline. `AreSpaces`: the text begins with white space, or
+-- with none. `Loops`: a loop from this rest on gives r, with any number of turns that is enough. `IsQuoted`: the longest run of bytes of
+-- the class f and of escapes. `mapped`: what was read, as this function of it. `in_braces`: the context in the braces of a list, before the
+-- colon of an alternative.
 
 -- the byte that a list ends at; 0 at the end of a text
 abbrev pub byte_of : List ℕ → ℕ
@@ -284,6 +292,7 @@ module _ (size at : ℕ) where
     operates (s.unstarred (s.quoted_escape i) e) f h = switch (s.unstarred (s.quoted_escape i) e) (s.at_byte refl) h
     operates {v = v} (s.unstarred (s.quoted_byte {b} {text = t} {run = word} y g i) e) f h = by (is_mark b) refl
       where
+        -- Plan: by whether the first byte is a mark (`by`), and then by whether more follows it (`bare`, `marked`).
         bare : {t v : List ℕ} → Follows v → is_mark b ≡ true → IsQuoted is_word t [] v → s.Stops (λ x. x == ascii.asterisk) v
             → suc (length t) ≤ size → Operates (b ∷ t) (pattern (b ∷ []) false) v
         bare (follows {b = x} {q} k) m (s.quoted_stop n o) (s.at_byte e) l =

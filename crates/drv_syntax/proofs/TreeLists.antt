@@ -10,6 +10,8 @@ use Rattle.std.proofs.Common.{◌≡◌, ℕ, ◌<◌, List, [], length, subst, 
 use Rattle.std.specs.Prelude.{Result, Ok, Err}
 
 -- The tokens and labels that are kept of a text are those of its tree. It serves `SpecTree::tokens`, `word` and their like.
+-- Names: `tokens`: the flat list of parts. `parsed`: the tree of a text, or its fault. `listed`: the tokens of a tree and their labels, or
+-- the fault in place of a tree. `labels_of`: the labels of a tree, in the order of its tokens. `tokens_of`: the tokens of a tree.
 
 -- the tokens of a text, or none where it has a fault
 abbrev tokens_in : Result (List Token × List Label) SyntaxFault → List Token

@@ -6,6 +6,8 @@ use Rattle.std.proofs.Common.{◌≡◌, ◌∙◌, Bool, true, false, ap, if◌
 use Rattle.std.specs.Prelude.{◌||◌}
 
 -- The X of an alternative ends without its white space, which has no %*. It serves the alternatives that the reader writes.
+-- Names: `has_star`: a %* that belongs to the X that these items are. `is_white_item`: the item is white space, of which an X has none at
+-- its end. `item_has_star`: an item is a %* of the X around it, or holds one.
 
 -- an item of white space before these items, which is left out if they are none
 abbrev pub kept_white : Span → Item → Items → Items

@@ -19,6 +19,10 @@ use Rattle.std.proofs.Common.{◌≡◌, ◌∙◌, ◌++◌, false, List, [], a
 use Rattle.std.specs.Prelude.{None, Ok, Result}
 
 -- A whole text is what follows a text without bytes. It serves `read` and `read_text` of src/descent/reading.rt.
+-- Names: `tokens`: the flat list of parts. `rest`: what is left of the text, and its place. `r`: what was read. `more`: more text behind.
+-- `labels`: the labels of parts, in the order of their tokens. `nodes_of`: the parts that items are, each with those inside it.
+-- `rest_given`: the tokens and labels of a text of which the first n bytes were read before. `top`: the list that a whole text is. `flat`:
+-- the tokens of parts, from the place n of the list on. `given`: what the reading of a part gives.
 
 -- a text that is read from its start, with no tokens or labels before it, gives what a whole text gives
 pub from_start : (text : List ℕ) (tokens : List Token) (names : List Label) → [] ≡ tokens → [] ≡ names
@@ -48,6 +52,7 @@ rest_given_by n more tokens names rest e =
     (λ list end. (tokens ++ flat (length tokens) (nodes_of list.0), names ++ labels (nodes_of list.0))) ((levels 64).0 top l)) (sym e)
     ∙ by ((levels 64).0 top rest)
   where
+    -- Plan: by what Descent reads of the rest.
     by : (r : Read (Items × ℕ))
         → given {Y = List Token × List Label} None
         (λ list end. (tokens ++ flat (length tokens) (nodes_of list.0), names ++ labels (nodes_of list.0))) r

@@ -20,6 +20,12 @@ use Rattle.std.specs.Prelude.{◌-◌, ◌==◌, false}
 
 -- What the grammar says of a whole text, Descent makes of it: the laws `spelled_is_read`, `front_is_unrefused` and `refusal_kinds`. Descent
 -- is the grammar as functions (specs/Descent). The grammar itself has cases (specs/Spelling, Fronts, Refusals).
+-- Names: `c`: where the list is, and what is around it. `rest`: what follows in the text. `deep`, `lists`: how lists inside are read.
+-- `size`: the length of the whole text. `t`, `q`: what is left of the text, from step to step. `k`: a place in the text. `level`: how many
+-- levels of lists may open. `r`: what was read. `l`: what is left. `whole`: the size of the whole text. `top`: the list that a whole text
+-- is. `depth`: braces and arguments may be within one another up to so many levels, whatever the text. `ListStops`: all lists with this
+-- context stop at the byte that doesn't fit. `in_braces`: the context in the braces of a list, before the colon of an alternative.
+-- `IsRefused text fault`: a text ends in the byte that no longer fits, and this is its fault. `Spells`: a text has this tree.
 
 -- all lists with this context are read and end as the grammar says
 abbrev pub Known : ℕ → Lists → ListContext → Type 0
@@ -58,6 +64,7 @@ levels_stop : (k : ℕ) (q : List ℕ) (level : ℕ) (c : ListContext) → c.lev
     → Known (whole k q) (levels level).0 c × ListStops k q (levels level).0 c
 levels_stop k q level = (all_levels (λ lists c. Known (whole k q) lists c × ListStops k q lists c) step level).0
   where
+    -- Plan: by induction on the levels; `step` adds one.
     step : (lists deep : Lists) (c : ListContext) → ((c.levels == 0) ≡ false → (inner : ListContext) → inner.levels ≡ c.levels - 1
         → Known (whole k q) lists inner × ListStops k q lists inner)
         → ((c.levels - 1 == 0) ≡ false → (inner : ListContext) → inner.levels ≡ c.levels - 1 - 1

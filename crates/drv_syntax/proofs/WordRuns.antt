@@ -15,6 +15,12 @@ use Rattle.std.specs.Prelude.{◌==◌, None, Option, Some}
 
 -- Words: runs of bytes and escapes, as the code takes them. It serves `word_run` and `escaped_run` of src/descent/words.rt.
 -- `more_ran w run v` is the run after the bytes w of its word.
+-- Names: `v`: what is left of the text, with the parts so far. `b`: a byte. `t`, `u`, `w`: what is left of the text, from step to step.
+-- `rest`: what is left of the text, and its place. `run`: bytes of one class that follow one another. `f`: a class of bytes. `more`: more
+-- text behind. `t`: a test's value, so that `by` can go by both cases. `more_ran`: more of a run, after these bytes of it. `in_class`: the
+-- byte belongs to a class that `word_run` of words.rt reads. `quoted_at`: the longest run of bytes of the class f and of escapes.
+-- `runs_in`: the bytes of a class that are no backslash. `quoted`: the longest run of bytes of the class f and of escapes. `after`: what is
+-- left so many bytes on. `first_of`: the byte that comes next, if there is one.
 
 -- a byte more of what was taken is a byte less of the run
 ran_byte : (w : List ℕ) (b : ℕ) (run : Run) (v : Reading) → more_ran (w ++ b ∷ []) run v ≡ more_ran w (with_byte b run) v

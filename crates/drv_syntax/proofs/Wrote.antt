@@ -20,6 +20,10 @@ use Rattle.std.proofs.Math.Seq.{set-append_seam}
 -- What is written of parts that follow one another, and of those that hold others. It serves the reader's `call`, `braces`, `result` and
 -- `close_choice`. `wrote nodes holds z` is z with the tokens and labels of these parts after its own (specs/Code/Writing). `holds` says
 -- that they have a %* of an X.
+-- Names: `a`, `b`: a test's value, so that `by` can go by both cases. `z`: the parts so far. `v`: what is left of the text, with the parts
+-- so far. `tail`: where a list ends. `labels`: the labels of parts, in the order of their tokens. `wrote`: writes these parts after those
+-- so far. `flat`: the tokens of parts, from the place n of the list on. `whole_token`: a part that is whole, and the place in the list
+-- after those inside it. `span`: the bytes from the place start up to the place end.
 
 -- parts of these tokens and labels, with or without a %* of their X
 abbrev pub parts_of : List Token → List Label → Bool → Parts

@@ -12,7 +12,7 @@ use Rattle.std.specs.Prelude.{◌≡◌, List, [], ◌∷◌, ◌++◌, Option, 
 -- Names: `F` is the facts before. `F'` is the facts after. `G` is later facts. `journal` is the journal before the call. `journal'` is the
 -- journal after the call. `event` is one more event. `Extends F G` says that G keeps every answer of F. `Asks journal journal' F F'` says
 -- that a call only asked, and learned the answers. `learnt F event` is the facts after one event. `learn F events` is the facts after the
--- questions among these events.
+-- questions among these events. `IsNew`: a question that F has no answer to. `keeps_answers`: one more question changes no known answer.
 
 -- facts keep their own answers
 pub extends_refl : (F : Facts) → Extends F F

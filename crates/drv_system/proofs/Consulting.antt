@@ -6,6 +6,7 @@ use Rattle.std.proofs.Common.{refl}
 use Rattle.std.specs.Prelude.{◌≡◌, Err, List, [], ◌∷◌, ◌++◌, None, Ok, Option, Result, Some}
 
 -- For `FactTable`: one look-up, over the journal and the facts before and after it.
+-- Names: `X`, `Y`: any type. `E`: the type of a refusal.
 
 module _ {X : Type 0} (journal journal' : List Event) (F F' : Facts) (event : X → Event) (before after : Option X)
     (new : None ≡ before) where

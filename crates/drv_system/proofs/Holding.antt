@@ -21,7 +21,9 @@ use Rattle.std.specs.Prelude.{◌≡◌, ◌<◌, ◌≤◌, ◌+◌, Bool, List
 -- the next child. `m` is that number after the event. `p` says whether a pipe is pending before. `q` says whether a pipe is pending after.
 -- `step` is the step that was made. `a` is the answer to the step. `taken` is the answer that a script has left for a start. `x` is the
 -- answer to a start. `run_of` is the steps of a run among the events of a journal. `Holds n p events` says that n and p are what the
--- journal shows. `made step a` is the event of a step.
+-- journal shows. `made step a` is the event of a step. `Numbered n events`: the children that the events started have numbers below n.
+-- `IsBelow`: the number of a started child is below n. `AreBelow`: all children of these events have numbers below n. `children_after`: the
+-- number of children after a start.
 
 -- a number that is below n is below a greater one
 below_answer : (n m : ℕ) (a : Answer) → n ≤ m → IsBelow n a → IsBelow m a

@@ -14,7 +14,8 @@ use Rattle.std.specs.Prelude.{cond, nat_eq}
 -- For the kinds of paths: a table in the order of the questions, seen as a map in the order of its keys.
 -- Names: `Y` is the type of the answers in a map. `pairs` is the pairs in the order of the questions. `key` is the path or name that is
 -- asked. `other` is another path or name. `path` is a path. `answer` is an answer. `answer_to es key` is the answer that a map has for the
--- key. `with_pair es key y` puts a pair at its place in the order of keys.
+-- key. `with_pair es key y` puts a pair at its place in the order of keys. `in_order`: the pairs, ordered by their keys. `SameAnswers`: the
+-- table answers as the finite map.
 
 -- pairs put into a map one by one, and one more after them
 from_more : {Y : Type 0} (done pairs : List (List ℕ × Y)) (key : List ℕ) (answer : Y)

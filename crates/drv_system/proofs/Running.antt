@@ -10,7 +10,9 @@ use Rattle.std.specs.Prelude.{◌≡◌, ◌&&◌, ◌||◌, Bool, List, [], ◌
 
 -- For the steps of a run: the run, the pending pipe and the open children of one journal after another.
 -- Names: `before` is the events before, and `after` those after. `place` is the place of a command, and `id` a child's number. `e` and `f`
--- are events of a run. `run_of` is the steps of a run among the events of a journal.
+-- are events of a run. `run_of` is the steps of a run among the events of a journal. `open_from`: whether a child is open after events.
+-- `is_wait_for`: whether a step is the wait for this child at this place. `is_child`: the answer says that the child of this number was
+-- started. `is_start_at`: a start at this place.
 
 -- the run in two journals is the run in both
 pub run_of-append : (before after : List Event) → run_of (before ++ after) ≡ run_of before ++ run_of after
@@ -58,6 +60,7 @@ stays_open place id (e ∷ events) none =
     not_both (is_wait_for place id e.step) _ none in
     still (is_start_at place e.step && is_child id e.answer) (is_wait_for place id e.step) both.0 (stays_open place id events both.1)
   where
+    -- a child that was not waited for stays open
     still : (starts waits : Bool) → waits ≡ false → open_from place id true events ≡ true
         → open_from place id (if starts then true else if waits then false else true) events ≡ true
     still true waits is rest = rest

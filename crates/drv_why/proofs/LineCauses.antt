@@ -31,10 +31,18 @@ use Rattle.std.specs.Option.{option_to_list}
 use Rattle.std.specs.Prelude.{get_or, map, nat_eq, nat_le, nat_lt}
 
 -- For origins_report (src/causes.rt, src/taking.rt): what the words of a command are for, token by token and part by part.
+-- Names: `n` is a place in a list, and the item there has the list's name in the singular: `job` of `jobs`, `token` of `tokens`. `before`
+-- and `after` are what was gathered before a step and after it, and `whole` is all. `left` is a place that is counted down over groups and
+-- jobs, or the switches that are left: `switch` and those after it, `later`. `rest` is that place behind one group or job. `word` is the
+-- word whose cause is looked for, and `inputs` the inputs of the line. `pattern` is a pattern of a text. `case` is a word of a command,
+-- beside the line and its plan (specs/Causes). `items` is the tree of a text. `parts` is the marked parts of the set's texts, and `numbers`
+-- those of the marks in the word. `behind_groups` and `source_of` count a place over groups and jobs, `makers` and `word_of_input` are the
+-- inputs that a word of %o is for (specs/Causes). `is_taken` says that a pattern takes a switch, and `fits` that a word repeats it
+-- (specs/Taken). `tokens_told`, `tree_told` and `numbers_told` are what tokens, a tree and marks say about the word.
 
 -- names and switches
 
--- `add_names` has added one name more
+-- For `add_names`: if the names so far with those left are all, then they still are after one name more.
 pub name_next : (n : ℕ) (others : List (List ℕ)) (name : List ℕ) (before after whole : List (List ℕ)) → n < length others
     → name ≡ get_or others n name → after ≡ with_name before name
     → with_names before (drop n others) ≡ whole → with_names after (drop (n + 1) others) ≡ whole
@@ -43,7 +51,8 @@ name_next n others name before after whole below here grows is =
     ∙ ap (λ m. with_names before (m ∷ drop (n + 1) others)) here
     ∙ ap (with_names before) (sym (drop_more others n name below)) ∙ is
 
--- `taken` has added a switch that is taken and fits
+-- For `taken_options`: if the names so far with those of the switches left are all, then they still are after a switch that is taken and
+-- fits.
 pub switch_told : (pattern : Pattern) (word : Option (List ℕ)) (switch : Switch) (later left : List Switch) (option : List ℕ)
     (before after whole : List (List ℕ)) → left ≡ switch ∷ later → (fits word switch && is_taken pattern switch later) ≡ true
     → option ≡ hyphen ∷ switch.name → after ≡ with_name before option
@@ -52,7 +61,7 @@ switch_told pattern word switch later left option before after whole cut told sp
     ap (λ ns. with_switches pattern word ns later) (grows ∙ ap (with_name before) spelled)
     ∙ sym (ap (with_switches pattern word before) cut ∙ rw told refl) ∙ is
 
--- it passes over another one
+-- For `taken_options`: the same after a switch that isn't taken or doesn't fit, which adds no name.
 pub switch_untold : (pattern : Pattern) (word : Option (List ℕ)) (switch : Switch) (later left : List Switch)
     (before whole : List (List ℕ)) → left ≡ switch ∷ later → (fits word switch && is_taken pattern switch later) ≡ false
     → with_switches pattern word before left ≡ whole → with_switches pattern word before later ≡ whole
@@ -153,6 +162,7 @@ pub unnamed : (pattern : Pattern) (word : Option (List ℕ)) (switch : Switch) (
     → false ≡ (fits word switch && is_taken pattern switch later)
 unnamed pattern word switch later is = by (fits word switch) refl
   where
+    -- Plan: `by` goes by both answers of `fits word switch`.
     by : (test : Bool) → fits word switch ≡ test → false ≡ (fits word switch && is_taken pattern switch later)
     by true same = rw same (rw is refl)
     by false same = rw same refl
@@ -164,7 +174,7 @@ unlike pattern word switch later is = unnamed pattern word switch later (sym (un
 
 -- tokens and parts
 
--- `take_tree` has taken one token more
+-- For `take_tree`: if what is said so far and what the tokens left say are the whole, then they still are after one token more.
 pub token_next : (case : Case) (items : Items) (n : ℕ) (tokens : List Token) (token : Token) (before after whole : Telling)
     → n < length tokens → token ≡ get_or tokens n token → nat_le before.walk.last token.start ≡ false
     → after ≡ token_told case token (label_at items n) before
@@ -175,7 +185,7 @@ token_next case items n tokens token before after whole below here inside takes 
     ∙ sym (ap (tokens_told case items n before) (drop_more tokens n token below)
     ∙ ap (λ t. tokens_told case items n before (t ∷ drop (n + 1) tokens)) (sym here) ∙ rw inside refl) ∙ is
 
--- it ends behind the part
+-- For `take_tree`: if token n begins behind the part, then what is said so far is the whole.
 pub token_behind : (case : Case) (items : Items) (n : ℕ) (tokens : List Token) (token : Token) (before whole : Telling)
     → n < length tokens → token ≡ get_or tokens n token → nat_le before.walk.last token.start ≡ true
     → tokens_told case items n before (drop n tokens) ≡ whole → before ≡ whole
@@ -191,17 +201,17 @@ no_tree text fault is = ap tree_in is
 pub same_text : (kept text : List ℕ) → pointwise nat_eq kept text ≡ true → kept ≡ text
 same_text kept text is = (slice_eq-Decides Decides-eqb kept text (pointwise nat_eq kept text) refl).0 is
 
--- `take_text` goes through the tree that is kept
+-- For `take_text`: if the tree that is kept is that of the text, then what it says is what the text's tree says.
 pub kept_told : (case : Case) (before after : Telling) (text kept : List ℕ) (has : Bool) → has ≡ true → (has ≡ true → kept ≡ text)
     → after ≡ tree_told case before (tree_of kept) → after ≡ tree_told case before (tree_of text)
 kept_told case before after text kept has is same takes = takes ∙ ap (λ t. tree_told case before (tree_of t)) (same is)
 
--- it goes through nothing where there is no tree
+-- For `take_text`: if the text has no tree, then it says nothing.
 pub none_told : (case : Case) (before : Telling) (text : List ℕ) (has : Bool) → has ≡ false → (has ≡ false → tree_of text ≡ none)
     → before ≡ tree_told case before (tree_of text)
 none_told case before text has is lacks = sym (ap (tree_told case before) (lacks is))
 
--- `outers_of` has judged one part more
+-- For `outers_of`: if the numbers so far and those of the parts left are all, then they still are after one part more.
 pub outer_next : (n : ℕ) (parts : List MarkedPart) (part : MarkedPart) (outer next : Outer) (before after whole : List ℕ) → n < length parts
     → part ≡ get_or parts n part → next ≡ outer_of n outer part → after ≡ before ++ next.number ∷ []
     → before ++ outers_from n outer (drop n parts) ≡ whole → after ++ outers_from (n + 1) next (drop (n + 1) parts) ≡ whole
@@ -212,7 +222,7 @@ outer_next n parts part outer next before after whole below here judged grows is
     ∙ ap (λ p. before ++ outers_from n outer (p ∷ drop (n + 1) parts)) here
     ∙ ap (λ ps. before ++ outers_from n outer ps) (sym (drop_more parts n part below)) ∙ is
 
--- `causes_of` has judged one number more
+-- For `causes_of`: if what is said so far and what the marks left say are the whole, then they still are after one mark more.
 pub number_next : (case : Case) (n number : ℕ) (numbers : List ℕ) (before after whole : Telling)
     → n < length numbers → number ≡ get_or numbers n number → after ≡ number_told case before number
     → numbers_told case before (drop n numbers) ≡ whole → numbers_told case after (drop (n + 1) numbers) ≡ whole
@@ -221,7 +231,7 @@ number_next case n number numbers before after whole below here takes is =
     ∙ ap (λ m. numbers_told case before (m ∷ drop (n + 1) numbers)) here
     ∙ ap (numbers_told case before) (sym (drop_more numbers n number below)) ∙ is
 
--- `all_caused` has judged one word more
+-- For `all_caused`: if the words so far have their causes, then they still have after one word more.
 pub cause_next : (line : Line) (jobs js : List Job) (parts : List MarkedPart) (place : ℕ) (input : Option (List ℕ)) (outers : List ℕ)
     (trace it : Trace) (causes : List (List ℕ)) (before after yielded : List Trace)
     → js ≡ jobs → input ≡ input_at line.inputs (source_of js place) → outers ≡ outers_of parts

@@ -11,6 +11,10 @@ use Rattle.std.proofs.lemmas.List.{drop_more}
 use Rattle.std.specs.Prelude.{get_or}
 
 -- For fates_json (src/fates_json.rt): the switches of a line and the parts of texts, one after another.
+-- Names: `sources` is the files that were read. `name` is the name of a switch, and `live` says whether no later one cancels it. `naming`
+-- is a part of a text that names switches, the one at place `n` of `namings`. `left` is the switches that are left: `switch` and those
+-- after it, `later`. `before` and `after` are the tokens before a step and after it, and `whole` is all of them. `items_tokens` is the
+-- tokens of an array's items. `concerns` says that a part has to do with a switch (specs/Fates).
 
 -- a part of a text is an item if it has to do with the switch, and none otherwise
 one_more : (sources : List Source) (name : List ℕ) (live : Bool) (naming : Naming) (namings : List Naming)
@@ -18,13 +22,14 @@ one_more : (sources : List Source) (name : List ℕ) (live : Bool) (naming : Nam
     ≡ naming_tokens sources name live naming ++ items_tokens (namings_items sources name live namings)
 one_more sources name live naming namings = by (concerns name live naming) refl
   where
+    -- Plan: `by` goes by both answers of `concerns name live naming`.
     by : (test : Bool) → concerns name live naming ≡ test
         → items_tokens (namings_items sources name live (naming ∷ namings))
         ≡ naming_tokens sources name live naming ++ items_tokens (namings_items sources name live namings)
     by true is = rw is refl
     by false is = rw is refl
 
--- `put_namings` has written one part more: those that are left complete the array
+-- For `put_namings`: if what is written and the parts left are the array, then they still are after one part more.
 pub naming_next : (sources : List Source) (name : List ℕ) (live : Bool) (n : ℕ) (namings : List Naming) (naming : Naming)
     (before after whole : List Token) → n < length namings → naming ≡ get_or namings n naming
     → after ≡ before ++ naming_tokens sources name live naming
@@ -37,7 +42,7 @@ naming_next sources name live n namings naming before after whole below here gro
     ∙ ap (λ m. before ++ items_tokens (namings_items sources name live (m ∷ drop (n + 1) namings))) here
     ∙ ap (λ ns. before ++ items_tokens (namings_items sources name live ns)) (sym (drop_more namings n naming below)) ∙ is
 
--- `put_fates` has written one switch more: those that are left complete the array
+-- For `put_fates`: if what is written and the switches left are the array, then they still are after one switch more.
 pub fate_next : (sources : List Source) (namings : List Naming) (switch : Switch) (later left : List Switch)
     (before after whole : List Token)
     → left ≡ switch ∷ later → after ≡ before ++ json_tokens (fate_json sources namings switch later)

@@ -16,6 +16,12 @@ use Rattle.std.proofs.lemmas.List.{length-append, length-drop}
 use Rattle.std.specs.List.{flat_map}
 
 -- For `wants_next` (src/parting.rt): a line of one word lacks an argument only if the word takes the next one.
+-- Names: `line` is a line, or what its words are read as. `words` is the words of a line, or those that are left, and `word` one of them.
+-- `first` is the place of a part, and `count` how many words it has. `parts` and `parts'` are the parts before a step and after it, `left`
+-- and `after` the words that are left then, and `whole` is all parts, or the length of the line. `before` is the words before a part.
+-- `fault` is why a line is refused, and `start` how a word begins. `result` is what the code's call gives. `wants_next` says that a word
+-- takes the next one, by how it begins. `parts_from` is the parts of words, and `part_words` the words of a part (specs/Parts). `count_of`
+-- is how many words the first part has (specs/Code/Counting).
 
 -- a line of one word alone, by which the code asks whether that word lacks its argument
 abbrev pub alone_word : List ℕ → Expanded
@@ -61,6 +67,7 @@ of_output line (Some output) =
 of_line : (line : Line) → missing_in (line_fault line) ≡ false
 of_line line = by line.settings.dump
   where
+    -- Plan: `by` goes by whether the line asks for a dump.
     by : (dump : Bool) → missing_in (if dump then None else or_later (inputs_fault line) (output_fault line.settings.output line)) ≡ false
     by true = refl
     by false = either (inputs_fault line) (output_fault line.settings.output line) (of_inputs line) (of_output line line.settings.output)
@@ -103,6 +110,7 @@ step [] first some = absurd (omega (arith, some))
 step (word ∷ []) first some = refl
 step (word ∷ next ∷ words) first some = by (wants_next (start_of word)) refl
   where
+    -- Plan: `by` goes by both answers of `wants_next (start_of word)`.
     by : (wants : Bool) → wants_next (start_of word) ≡ wants
         → parts_from first (word ∷ next ∷ words)
         ≡ part first (count_of (word ∷ next ∷ words))
@@ -116,6 +124,7 @@ fits [] = omega arith
 fits (word ∷ []) = omega arith
 fits (word ∷ next ∷ words) = by (wants_next (start_of word)) refl
   where
+    -- Plan: `by` goes by both answers of `wants_next (start_of word)`.
     by : (wants : Bool) → wants_next (start_of word) ≡ wants → count_of (word ∷ next ∷ words) ≤ length (word ∷ next ∷ words)
     by true is = rw is (omega arith)
     by false is = rw is (omega arith)
@@ -126,6 +135,7 @@ some_count [] some = absurd (omega (arith, some))
 some_count (word ∷ []) some = omega arith
 some_count (word ∷ next ∷ words) some = by (wants_next (start_of word)) refl
   where
+    -- Plan: `by` goes by both answers of `wants_next (start_of word)`.
     by : (wants : Bool) → wants_next (start_of word) ≡ wants → 0 < count_of (word ∷ next ∷ words)
     by true is = rw is (omega arith)
     by false is = rw is (omega arith)
@@ -182,6 +192,7 @@ make_from before (word ∷ next ∷ words) =
     (next_after before words (word ∷ next ∷ []) 2 refl ∙ make_from (before ++ word ∷ next ∷ []) words)
     (next_after before (next ∷ words) (word ∷ []) 1 refl ∙ make_from (before ++ word ∷ []) (next ∷ words))
   where
+    -- Plan: `by` goes by both answers of `wants_next (start_of word)`.
     by : (wants : Bool) → wants_next (start_of word) ≡ wants
         → flat_map (part_words (before ++ word ∷ next ∷ words)) (parts_from (length before + 2) words) ≡ words
         → flat_map (part_words (before ++ word ∷ next ∷ words)) (parts_from (length before + 1) (next ∷ words)) ≡ next ∷ words

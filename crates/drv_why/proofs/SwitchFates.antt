@@ -14,6 +14,12 @@ use Rattle.std.specs.List.{list_any, starts_with}
 use Rattle.std.specs.Prelude.{codes, get_or, if◌then◌else◌, is_none, map, nat_eq, not, suc, take, zero}
 
 -- For fates_text (src/fates.rt): the switches of a line and the parts of texts, one after another.
+-- Names: `name` is the name of a switch. `switch` is one switch, and `later` those after it. `n` and `i` are places in a list. `live` says
+-- whether no later switch cancels it. `naming` is a part of a text that names switches, the one at place `n` of `namings`. `sources` is the
+-- files that were read. `pattern` is a pattern of a text. `left` is the switches that are left. `before` and `after` are the text before a
+-- step and after it, and `whole` is all of it, or what is looked for. `xs`, `ys` and `zs` are texts. `canceller` is the first later switch
+-- that cancels one of this name (specs/Fates). `cancels` says that one name cancels another, and `is_named` that a pattern names a switch
+-- (drv_match). `begin_alike` compares two first bytes (specs/Code/Beginning).
 
 -- the negative form of a name, whose beginning is compared first
 
@@ -24,6 +30,7 @@ in_two [] ys zs = refl
 in_two (x ∷ xs) ys [] = refl
 in_two (x ∷ xs) ys (z ∷ zs) = by (nat_eq x z) refl (in_two xs ys zs)
   where
+    -- Plan: `by` goes by both answers of `nat_eq x z`.
     by : (test : Bool) → nat_eq x z ≡ test
         → pointwise nat_eq (xs ++ ys) zs ≡ (pointwise nat_eq xs (take (length xs) zs) && pointwise nat_eq ys (drop (length xs) zs))
         → pointwise nat_eq ((x ∷ xs) ++ ys) (z ∷ zs)
@@ -42,14 +49,14 @@ pub with_front : (rest name : List ℕ) (same : Bool) → pointwise nat_eq (code
 with_front rest name same is goes =
     goes ∙ sym (in_two (codes "no-") rest name ∙ ap (λ test. test && pointwise nat_eq rest (drop 3 name)) is)
 
--- `canceller` found the first later switch that cancels this one
+-- For `canceller`: if the next later switch cancels this one, then it is the first that does.
 pub cancelled : (n : ℕ) (later : List Switch) (switch : Switch) (name : List ℕ) (whole : Option (List ℕ)) → n < length later
     → switch ≡ get_or later n switch → cancels switch.name name ≡ true → canceller (drop n later) name ≡ whole → Some switch.name ≡ whole
 cancelled n later switch name whole below here is so_far =
     sym (ap (λ ls. canceller ls name) (drop_more later n switch below)
     ∙ ap (λ s. canceller (s ∷ drop (n + 1) later) name) (sym here) ∙ rw is refl) ∙ so_far
 
--- `canceller` goes on after a switch that doesn't cancel it
+-- For `canceller`: if the next later switch doesn't cancel this one, then the first that does is behind it.
 pub kept : (n : ℕ) (later : List Switch) (switch : Switch) (name : List ℕ) (whole : Option (List ℕ)) → n < length later
     → switch ≡ get_or later n switch → cancels switch.name name ≡ false → canceller (drop n later) name ≡ whole
     → canceller (drop (n + 1) later) name ≡ whole
@@ -57,7 +64,7 @@ kept n later switch name whole below here is so_far =
     sym (ap (λ ls. canceller ls name) (drop_more later n switch below)
     ∙ ap (λ s. canceller (s ∷ drop (n + 1) later) name) (sym here) ∙ rw is refl) ∙ so_far
 
--- `canceller` found none: no later switch cancels it
+-- For `canceller`: if no later switch is left, then none cancels this one.
 pub none_left : (n : ℕ) (later : List Switch) (name : List ℕ) (whole : Option (List ℕ)) → length later ≤ n
     → canceller (drop n later) name ≡ whole → None ≡ whole
 none_left n later name whole past so_far = sym (ap (λ ls. canceller ls name) (drop_all n later past)) ∙ so_far
@@ -66,6 +73,7 @@ none_left n later name whole past so_far = sym (ap (λ ls. canceller ls name) (d
 unlike_bytes : (x y : ℕ) → nat_eq x y ≡ false → nat_eq y x ≡ false
 unlike_bytes x y is = by (nat_eq y x) refl
   where
+    -- Plan: `by` goes by both answers of `nat_eq y x`.
     by : (test : Bool) → nat_eq y x ≡ test → test ≡ false
     by false e = refl
     by true e =
@@ -85,6 +93,7 @@ apart (x ∷ xs) (y ∷ ys) is = (
 pub unlike_begun : (pattern : Pattern) (name : List ℕ) → begin_alike name pattern.name ≡ false → false ≡ is_named pattern name
 unlike_begun pattern name unlike = by pattern.star refl
   where
+    -- Plan: `by` goes by both answers of `pattern.star`.
     by : (star : Bool) → pattern.star ≡ star → false ≡ is_named pattern name
     by true is = rw is (apart name pattern.name unlike).0
     by false is = rw is (apart name pattern.name unlike).1
@@ -94,7 +103,7 @@ unlike_concerns : (name : List ℕ) (live : Bool) (naming : Naming) → begin_al
     → false ≡ concerns name live naming
 unlike_concerns name live naming unlike = rw (sym (unlike_begun (pattern_of naming) name unlike)) refl
 
--- `push_namings` has written one part more: those that are left complete the text
+-- For `push_namings`: if the text so far and the parts left are the whole, then they still are after one part more.
 pub namings_next : (sources : List Source) (name : List ℕ) (live : Bool) (n : ℕ) (namings : List Naming) (naming : Naming)
     (before after whole : List ℕ) → n < length namings → naming ≡ get_or namings n naming
     → after ≡ before ++ text_if sources name live naming
@@ -106,7 +115,7 @@ namings_next sources name live n namings naming before after whole below here gr
     ∙ ap (λ m. before ++ namings_text sources name live (m ∷ drop (n + 1) namings)) here
     ∙ ap (λ ns. before ++ namings_text sources name live ns) (sym (drop_more namings n naming below)) ∙ is
 
--- `push_if` adds nothing for a part whose pattern begins with another letter
+-- For `push_if`: if a part's pattern begins with another letter, then it adds nothing.
 pub passed_over : (sources : List Source) (name : List ℕ) (live : Bool) (naming : Naming) (text : List ℕ)
     → begin_alike name naming.word ≡ false → text ≡ text ++ text_if sources name live naming
 passed_over sources name live naming text unlike =
@@ -114,7 +123,7 @@ passed_over sources name live naming text unlike =
     ap (λ test. if test then naming_text sources naming else []) (unlike_concerns name live naming unlike) in
     sym (append-nil text) ∙ ap (λ t. text ++ t) none
 
--- `fates_text` has written one switch more: those that are left complete the text
+-- For `fates_text`: if the text so far and the switches left are the whole, then they still are after one switch more.
 pub switch_next : (sources : List Source) (namings : List Naming) (switch : Switch) (later left : List Switch) (before after whole : List ℕ)
     → left ≡ switch ∷ later → after ≡ before ++ fate_text sources namings switch later
     → before ++ fates_text sources namings left ≡ whole → after ++ fates_text sources namings later ≡ whole
@@ -131,6 +140,7 @@ uncancelled : (later : List Switch) (name : List ℕ)
 uncancelled [] name = refl
 uncancelled (switch ∷ later) name = by (cancels switch.name name) refl (uncancelled later name)
   where
+    -- Plan: `by` goes by both answers of `cancels switch.name name`.
     by : (test : Bool) → cancels switch.name name ≡ test
         → is_none (canceller later name) ≡ not (list_any (λ other. cancels other name) (map (λ s. s.name) later))
         → is_none (canceller (switch ∷ later) name) ≡ not (list_any (λ other. cancels other name) (map (λ s. s.name) (switch ∷ later)))

@@ -14,8 +14,12 @@ use Rattle.std.specs.Prelude.{get_or, if◌then◌else◌}
 
 -- For origins_report (src/origins.rt): the words of a command beside those of the plan, the bytes of a part, and the commands of a plan,
 -- one after another.
+-- Names: `t` is a word with its parts, the first of `ts`, and `ts'` is the others. `word` is the first of `words`, and `words'` the others.
+-- `command` is a command, and `marked` the same in the plan with marks. `part` is the bytes of a part, `byte` the one at place `n`, and
+-- `room` how many may still be shown. `line` is the command at place `n` of `lines`. `before` and `after` are what is written before a step
+-- and after it, and `whole` is all of it. `m` is what is known of the plan's marks. `is_cut` says that no further byte is shown.
 
--- `are_words` goes on after a word that is the same
+-- For `are_words`: if the first word is the same, then all are exactly if the others are.
 pub are_next : (t : Trace) (word : List ℕ) (ts ts' : List Trace) (words words' : List (List ℕ)) → ts ≡ t ∷ ts' → words ≡ word ∷ words'
     → is_found word t.word ≡ true → are_words ts words ≡ are_words ts' words'
 are_next t word ts ts' words words' cut cut' is =
@@ -27,12 +31,13 @@ pub traced_alike : (command : Command) (marked : Option PlanLine) (ts : List Tra
 traced_alike command None ts known = absurd cc
 traced_alike command (Some line) ts known = by (are_words (traces_of line.command) (words_of command)) refl known
   where
+    -- Plan: `by` goes by both answers of `are_words (traces_of line.command) (words_of command)`.
     by : (test : Bool) → are_words (traces_of line.command) (words_of command) ≡ test
         → (if test then Some (traces_of line.command) else None) ≡ Some ts → are_words ts (words_of command) ≡ true
     by true is same = ap (λ xs. are_words xs (words_of command)) (sym (ap (λ o. unwrap_or o []) same)) ∙ is
     by false is same = absurd cc
 
--- `push_shown` has added one byte more: those that are left complete the part
+-- For `push_shown`: if what is shown and the bytes left are the whole, then they still are after one byte more.
 pub shown_next : (n room : ℕ) (part : List ℕ) (byte : ℕ) (before after whole : List ℕ) → n < length part → byte ≡ get_or part n byte
     → is_cut room byte ≡ false → after ≡ before ++ byte ∷ []
     → before ++ shown room (drop n part) ≡ whole → after ++ shown (room - 1) (drop (n + 1) part) ≡ whole
@@ -44,7 +49,7 @@ shown_next n room part byte before after whole below here goes grows is =
     ∙ ap (λ b. before ++ shown room (b ∷ drop (n + 1) part)) here
     ∙ ap (λ bs. before ++ shown room bs) (sym (drop_more part n byte below)) ∙ is
 
--- it ends where no further byte is shown
+-- For `push_shown`: if no further byte is shown, then two periods end the part.
 pub shown_cut : (n room : ℕ) (part : List ℕ) (byte : ℕ) (before after whole : List ℕ) → n < length part → byte ≡ get_or part n byte
     → is_cut room byte ≡ true → after ≡ before ++ codes ".."
     → before ++ shown room (drop n part) ≡ whole → after ≡ whole
@@ -55,7 +60,7 @@ shown_cut n room part byte before after whole below here stops grows is =
     ∙ ap (λ b. before ++ shown room (b ∷ drop (n + 1) part)) here
     ∙ ap (λ bs. before ++ shown room bs) (sym (drop_more part n byte below)) ∙ is
 
--- `origins_text` has written one command more: those that are left complete the text
+-- For `origins_text`: if the text so far and the commands left are the whole, then they still are after one command more.
 pub command_next : (m : Marking) (lines : List PlanLine) (n : ℕ) (line : PlanLine) (before after whole : List ℕ) → n < length lines
     → line ≡ get_or lines n line → after ≡ before ++ command_text m n line
     → before ++ origins_from m n (drop n lines) ≡ whole → after ++ origins_from m (n + 1) (drop (n + 1) lines) ≡ whole
@@ -65,7 +70,7 @@ command_next m lines n line before after whole below here grows is =
     ∙ ap (λ l. before ++ origins_from m n (l ∷ drop (n + 1) lines)) here
     ∙ ap (λ ls. before ++ origins_from m n ls) (sym (drop_more lines n line below)) ∙ is
 
--- `put_origins` has written one command more: those that are left complete the array
+-- For `put_origins`: if what is written and the commands left are the array, then they still are after one command more.
 pub command_written : (m : Marking) (lines : List PlanLine) (n : ℕ) (line : PlanLine) (before after whole : List Token) → n < length lines
     → line ≡ get_or lines n line → after ≡ before ++ json_tokens (command_json m n line)
     → before ++ items_tokens (origins_items m n (drop n lines)) ≡ whole

@@ -13,7 +13,8 @@ use Rattle.std.proofs.lemmas.List.{length-append}
 -- For `split_within`: the words that are made become no fewer, and their number is that of the text's words.
 -- Names: `text` is a text, as a list of bytes. `words` is the words so far, or those that are found. `s` is the splitter between two bytes.
 -- `made` is the words that were made, and `most` how many may be. `words_of s text` is the words that the splitter `s` makes of the text.
--- `following words` is the splitter that adds to these words.
+-- `following words` is the splitter that adds to these words. `SplitsOnto` says that the words of a text were put after others. `words_in`:
+-- the number of words of a response file's text. `with_byte`: the splitter with one more byte of the word.
 
 -- the end of a word takes none away
 ended_grows : (word : Option (List ℕ)) (s : Splitter) → length s.words ≤ length (word_ended word s).words
@@ -35,6 +36,7 @@ step_grows s b = by s.escaped s.quote
     quoted false true = same
     quoted false false = same
 
+    -- outside quotes: a word ends, or takes one byte more
     plain : (space slash quote : Bool)
         → length s.words ≤ length (if space then ended s else if slash then record (opened s) { escaped = true } else if quote
         then record (opened s) { quote = Some b } else with_byte s b).words

@@ -17,7 +17,9 @@ use Rattle.std.specs.List.{list_all}
 -- that follows. `lines` is the lines of a plan. `program` is the program of the line that is read, once it has one. `next` is the text
 -- after the word. `b` is one byte. `front` is the part of the word, or the lines, before those at hand. `read reader text` is the reader
 -- after the text. `Shows text lines` says, by the grammar, that the text shows these lines. `ShowsWords` says that the text shows these
--- words, each after a blank. `longer reader b place` adds a byte to the word at hand.
+-- words, each after a blank. `longer reader b place` adds a byte to the word at hand. `is_plain`: a letter, a digit or one of ./-_.
+-- `with_word`: the word at hand is complete. `inside`: a byte in quotes. Numbers are bytes: 10 is a newline, 32 a blank, 34 ", 92 a
+-- backslash, 124 |.
 
 -- a reader that has these lines, program, words and word so far, at this place of a line
 abbrev pub at : List PlanLine → Option (List ℕ) → List (List ℕ) → List ℕ → Standing → LineReader
@@ -147,6 +149,7 @@ quoted_read {text} {word} e inside next lines program words =
     ∙ ap (λ s. read s (34 ∷ next)) (escapes_read inside lines program words [])
     ∙ close program
   where
+    -- the closing quote ends the quoted text
     close : (program : Option (List ℕ)) → read (at lines program words word Quoted) (34 ∷ next)
         ≡ read (with_word (at lines program words word Between)) next
     close None = rw e refl

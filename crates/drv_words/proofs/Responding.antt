@@ -4,6 +4,8 @@ use Rattle.std.proofs.Common.{◌≡◌, ◌||◌, ◌==◌, Bool, false, true, 
 
 -- For `respond_text`: splitting the response text of words gives the words back.
 -- Names: `words` is the words so far, or those that are found. `Splits text words` says, by the grammar, that the text means these words.
+-- `ArePieces`: pieces to the end of the word. `is_marked`: the bytes that need a backslash. `response_text`: each word has a newline after
+-- it. Numbers are bytes: 10 is a newline, 92 a backslash.
 
 -- if none of three tests holds, each fails
 none_of : (a b c : Bool) → (a || b || c) ≡ false → (a ≡ false) × (b ≡ false) × (c ≡ false)

@@ -15,7 +15,9 @@ use Rattle.std.specs.Prelude.{unwrap_or}
 -- Names: `text` is a text, as a list of bytes. `words` is the words so far, or those that are found. `word` is one word. `rest` is the text
 -- that follows. `b` is one byte. `s` is the splitter between two bytes. `run` is a run of plain bytes, and `count` its length. `marked` is
 -- whether a byte is a blank, a quotation mark or a backslash. `words_of s text` is the words that the splitter `s` makes of the text.
--- `open_word` is the word that is open, or an empty one.
+-- `open_word` is the word that is open, or an empty one. `plain_length`: how many plain bytes a text has at its front. `is_marked`: the
+-- bytes that need a backslash. `is_space`: tab to carriage return, and space. `is_outside`: whether the splitter is outside of quotes and
+-- after no backslash.
 
 -- a splitter outside quotes, with these words and perhaps an open one
 abbrev outside : List (List ℕ) → Option (List ℕ) → Splitter

@@ -7,6 +7,8 @@ use Rattle.std.proofs.Common.{◌≡◌, Bool, false, true, List, [], ◌∷◌,
 -- For `render` and `read_back`: the grammar of printed lines agrees with the functions that print them.
 -- Names: `text` is a text, as a list of bytes. `word` is one word. `lines` is the lines of a plan. `ShowsWord text word` says that the text
 -- shows this word. `Shows text lines` says, by the grammar, that the text shows these lines. `quoted word` is a word as it is printed.
+-- `Escapes`: the text between the quotes shows the bytes of a word. `lines_text`: the text of all lines. `words_text`: each word has a
+-- blank before it. Numbers are bytes: 32 is a blank, 34 ", 92 a backslash.
 
 -- the escaped text shows the bytes
 pub escapes_of : (word : List ℕ) → Escapes (escaped word) word

@@ -22,7 +22,9 @@ use Rattle.std.specs.Option.{IfSome}
 -- Names: `text` is a text, as a list of bytes. `words` is the words so far, or those that are found. `word` is one word. `lines` is the
 -- lines of a plan. `program` is the program of the line that is read, once it has one. `b` is one byte. `place` is where the reader is in a
 -- line. `quoted word` is a word as it is printed. `step` takes one byte. `Shows text lines` says, by the grammar, that the text shows these
--- lines. `read reader text` is the reader after the text.
+-- lines. `read reader text` is the reader after the text. `lines_text`: the text of all lines. `at`: a reader that has these lines,
+-- program, words and word so far, at this place of a line. `is_plain`: a letter, a digit or one of ./-_. `words_text`: each word has a
+-- blank before it. `is_bare`: a word that needs no quotes. Numbers are bytes: 10 is a newline, 32 a blank, 34 ", 92 a backslash, 124 |.
 
 -- the text of the open line
 abbrev open_text : Option (List ℕ) → List (List ℕ) → List ℕ

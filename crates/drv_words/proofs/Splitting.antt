@@ -13,7 +13,8 @@ use Rattle.std.proofs.lemmas.List.{append-nil}
 -- Names: `text` is a text, as a list of bytes. `words` is the words so far, or those that are found. `word` is one word. `rest` is the text
 -- that follows. `b` is one byte. `mark` is a byte: a quotation mark, or the one that a search looks for. `words_of s text` is the words
 -- that the splitter `s` makes of the text. `Splits text words` says, by the grammar, that the text means these words. `following words` is
--- the splitter that adds to these words. `open_word` is the word that is open, or an empty one.
+-- the splitter that adds to these words. `open_word` is the word that is open, or an empty one. `is_space`: tab to carriage return, and
+-- space. Numbers are bytes: 34 is ", 39 ', 92 a backslash.
 
 -- a splitter with these words, perhaps an open word and a quotation mark, perhaps after a backslash
 abbrev at : List (List ℕ) → Option (List ℕ) → Option ℕ → Bool → Splitter
@@ -220,6 +221,7 @@ goes_on (b ∷ text) = by (is_space b) refl (goes_on text)
       others = goes.went.others;
     }
 
+    -- a backslash and its byte go on with the run
     run_escape : Goes text → (mark : ℕ) → Ran mark (92 ∷ b ∷ text)
     run_escape goes mark =
         let ran : Ran mark text = goes.ran mark in

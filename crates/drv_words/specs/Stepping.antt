@@ -30,7 +30,7 @@ abbrev pub pending_from : Bool → List RunEvent → Bool
 pending_from pending [] = pending
 pending_from pending (e ∷ events) = pending_from (pending_with pending e.step e.answer) events
 
--- at the beginning of a run no pipe is pending
+-- whether a pipe is pending after these events; at the beginning of a run none is
 abbrev pub pipe_pending : List RunEvent → Bool
 pipe_pending = pending_from false
 

@@ -16,6 +16,8 @@ use Rattle.std.specs.Prelude.{find, is_some, nat_lt}
 
 -- For `may_be_meant` (meant.rt): one edit leaves the first three bytes of a word or its last one as they were. So a word with neither end
 -- of a long option was not meant to be one.
+-- Names: `t`: a test's value, so that `by` can go by both cases. `last_of`: the last byte of a word. `is_front`: whether two bytes are the
+-- second and third ones of a long option. `is_last`: whether a byte is the last one of a long option.
 
 -- a byte before a word leaves its last byte
 last_more : (b : ℕ) (word : List ℕ) → 0 < length word → last_of (b ∷ word) ≡ last_of word

@@ -14,9 +14,9 @@ use Rattle.std.specs.Prelude.{None, Option, Some, nat_eq}
 
 -- Words are near exactly where one edit makes the one the other.
 -- Names: `b` is a byte. `c` is the byte at the same place of the other word. `word` is a word. `edited` is another one, perhaps the first
--- with one edit. `t` is the value of a test. `s` is the value of a test too. `is_same` compares two words. `IsEdit` is the same as rules: a
--- byte less, more, another, or two bytes swapped. `is_near` says that one edit makes the second word of the first. `is_swapped` says that
--- the words differ in the order of their first two bytes alone.
+-- with one edit. `t` and `s` are values of tests. `is_same` compares two words. `IsEdit` is the same as rules: a byte less, more, another,
+-- or two bytes swapped. `is_near` says that one edit makes the second word of the first. `is_swapped` says that the words differ in the
+-- order of their first two bytes alone.
 
 -- words that compare as the same are
 same : (a b : List ℕ) → is_same a b ≡ true → a ≡ b

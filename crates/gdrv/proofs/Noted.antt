@@ -12,6 +12,7 @@ use Rattle.std.proofs.Common.{◌≡◌, ◌∙◌, Bool, Err, IfOk, List, Ok, R
 use Rattle.std.specs.List.{list_any}
 
 -- For what is said after a call: the note over the files of its line, and its specs.
+-- Names: `F`: what is known of the outside. `set`: the specs that are loaded.
 
 -- the note over the built-in set is that over the set at hand
 pub note_builtin : {E : Type 0} (F : Facts) (settings : Settings) (set : Set) (folders names : List (List ℕ)) (result : Result (List ℕ) E)

@@ -10,6 +10,9 @@ use Rattle.std.proofs.Common.{◌≡◌, ◌∙◌, ◌<◌, Err, List, [], ◌�
 use Rattle.std.specs.Prelude.{get_or}
 
 -- For `call_of` (src/calling.rt): the words that select a command and a form.
+-- Names: `words` is the words of the call after its command. `form` is the form that they ask for. `result` is what the code's call gives,
+-- and `defined` what the definition has. `are_compared` says that they are two paths, -- and a line. `line_compared` and `difference_asked`
+-- are what the words of diff ask for (specs/Calls).
 
 -- words that ask for a form have a first word, which the code takes away
 pub has_word : (words : List (List ℕ)) (form : Form) → form_asked words ≡ Some form → 0 < length words

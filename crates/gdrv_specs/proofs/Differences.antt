@@ -16,6 +16,12 @@ use Rattle.std.proofs.Common.{◌≡◌, ◌∙◌, ◌++◌, Err, List, None, O
 use Rattle.std.proofs.lemmas.List.{append-nil}
 
 -- For `tell_difference` (src/differing.rt): the call prints what differs between two works.
+-- Names: `journal` is the events of the system before, `journal'` after the questions, and `journal''` at the end. `F`, `F'` and `G` are
+-- what is known of the outside. `c` is two spec files and a line. `work` and `work'` (or `other`) are what the line asks for with each.
+-- `seed` is that for the names of temporaries. `ending` is how a line ends in place of a work. `outcome` is how the call ends. `Comes F
+-- args seed result`: the arguments ask for that work, or end so (drv_run). `with_specs` is a line with one more spec file. `ComesTwice`,
+-- `TellsWorks` and `TellsDifference` are in specs/Differences. `Asks journal journal' F F'`: questions were added, and their answers to the
+-- facts (drv_system).
 
 -- what differs was printed
 pub tells_put : (journal journal' : List Event) (text : List ℕ) (status : ℕ) (work work' : Work)

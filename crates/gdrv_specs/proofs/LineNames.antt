@@ -17,6 +17,12 @@ use Rattle.std.proofs.Common.{◌≡◌, Err, IsErrAnd, List, Ok, Result, refl, 
 use Rattle.std.specs.Prelude.{map}
 
 -- For `tell_database` (src/databases.rt): the names of a line's inputs are asked for, and then its plan is printed.
+-- Names: `F`, `F'` and `G` are what is known of the outside. `journal` is the events of the system before, `journal'` after the questions,
+-- and `journal''` at the end. `args` is the words of the line, and `copy` the same as the code holds them. `names` is the names of its
+-- inputs. `line` is the line that they give. `ending` is how they end in place of it. `directory` is the folder of the database. `seed` is
+-- that for the names of temporaries. `outcome` is how the call ends. `result` is what the code's call gives. `NamesOf` is the names of a
+-- line's inputs, or why it has none (specs/Databases). `Comes F args seed result`: the arguments ask for that work, or end so (drv_run).
+-- `Asks journal journal' F F'`: questions were added, and their answers to the facts (drv_system).
 
 -- words that have an ending in place of a line have no names
 pub stopped : (F : Facts) (args : List (List ℕ)) (ending : Ending) (result : Result (List (List ℕ)) Ending)

@@ -44,6 +44,15 @@ use Rattle.std.specs.Option.{unwrap_or}
 use Rattle.std.specs.Prelude.{get_or, nat_eq}
 
 -- For `tell_why` (src/explaining.rt): the call prints what each part of a line changes.
+-- Names: `F`, `F'` and `G` are what is known of the outside. `journal` is the events of the system before, `journal'` after the questions,
+-- and `journal''` at the end. `line` is the words of the line, or the line that they give, and `explained` the line whose reasons are asked
+-- for. `args` is its words. `set` is its spec texts. `work` is what it asks for. `part` is the one at place `n` of its `parts`, and `rest`
+-- the line without it. `found` is what that asks for. `reasons` and `reasons'` are the reasons before a step and after it, and `others`
+-- those of the parts that are left. `report` is the form of the text. `given` is the work of a line with its specs, or the refusal of its
+-- plan. `fault` is why a step is refused, and `ending` how the call ends then. `seed` is that for the names of temporaries. `outcome` is
+-- how the call ends. `result` is what the code's call gives. `Comes F args seed result`: the arguments ask for that work, or end so, and
+-- `ComesOfSpecs` and `ComesOfLine` say the same of a line (drv_run). `HasSpecs F line set`: the line has these specs
+-- (specs/Code/Explaining). `Answers`, `AnswersAll` and `Reports` are what is said of one part, of several, and of a line (specs/Reasons).
 
 -- the reasons were printed
 pub tells_put : (journal journal' : List Event) (text : List ℕ) (status : ℕ) → PutsText journal journal' text status
@@ -56,7 +65,7 @@ tells_short journal journal' text same = ([], same ∙ sym (append-nil journal),
 
 -- what is said of one part
 
--- `answer` says of a part what the line without it asks for: its work, or its refusal
+-- For `answer`: if what the line without the part asks for was found, then what is said of it is the part's reason.
 pub answered : {E : Type 0} (F : Facts) (line : List (List ℕ)) (work : Work) (seed : ℕ) (part : LinePart) (rest : List (List ℕ))
     (found : Result Work Ending) (result : Result Reason E)
     → rest ≡ without line part → Comes F rest seed found → IfOk result (λ reason. Some reason ≡ reason_of line work part found)
@@ -72,7 +81,7 @@ answered F line work seed part rest (Err (Done status)) (Ok reason) is comes sai
 -- what is said of parts
 
 module _ (F : Facts) (line : List (List ℕ)) (work : Work) (seed : ℕ) (parts : List LinePart) where
-  -- `answers` has one reason more: those of the parts that are left complete the list
+  -- For `answers`: if the reasons so far and those of the parts left are all, then they still are after one reason more.
   pub more_answers : (n : ℕ) (part : LinePart) (reasons reasons' : List Reason) (one : Reason) → n < length parts
       → Answers F line work seed (get_or parts n part) one → reasons' ≡ reasons ++ one ∷ []
       → ((others : List Reason) → AnswersAll F line work seed (drop n parts) others
@@ -113,6 +122,7 @@ same_bytes [] (y ∷ ys) is = absurd cc
 same_bytes (x ∷ xs) [] is = absurd cc
 same_bytes (x ∷ xs) (y ∷ ys) is = by (nat_eq x y) refl (λ k. same_bytes xs ys k) is
   where
+    -- Plan: `by` goes by both answers of `nat_eq x y`.
     by : (test : Bool) → nat_eq x y ≡ test → (pointwise nat_eq xs ys ≡ true → xs ≡ ys) → (test && pointwise nat_eq xs ys) ≡ true
         → (x ∷ xs) ≡ (y ∷ ys)
     by true same others rest = ap (λ z. z ∷ xs) (eqb-true x y same) ∙ ap (λ zs. y ∷ zs) (others rest)
@@ -125,6 +135,7 @@ same_words [] (other ∷ others) is = absurd cc
 same_words (word ∷ words) [] is = absurd cc
 same_words (word ∷ words) (other ∷ others) is = by (pointwise nat_eq word other) refl (λ k. same_words words others k) is
   where
+    -- Plan: `by` goes by both answers of `pointwise nat_eq word other`.
     by : (test : Bool) → pointwise nat_eq word other ≡ test → (pointwise (pointwise nat_eq) words others ≡ true → words ≡ others)
         → (test && pointwise (pointwise nat_eq) words others) ≡ true → (word ∷ words) ≡ (other ∷ others)
     by true same rest both = ap (λ w. w ∷ words) (same_bytes word other same) ∙ ap (λ ws. other ∷ ws) (rest both)

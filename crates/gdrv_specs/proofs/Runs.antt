@@ -21,6 +21,10 @@ use Rattle.std.proofs.Common.{◌≡◌, ◌∙◌, ◌++◌, ◌∷◌, ◌⊎�
 use Rattle.std.proofs.lemmas.List.{append-nil}
 
 -- For `tell_after` (src/running.rt): the call prints the run over the answers that the words give.
+-- Names: `journal` is the events of the system before, and `journal'` after. `plan` is the plan, and `manner` how it is run. `given` is the
+-- answers that the words give, and `g` one of them. `words` is these words, and `word` one of them. `events` and `shown` are the events of
+-- the run. `status` is an exit status. `r` is what the code's call gives. `TellsWork T journal journal' work outcome`: the work was printed
+-- as T says (specs/Told). `AfterOf words` is the printing of runs, and `IsStory` the text of one (specs/Runs).
 
 -- one more answer before the rest is an answer before all
 pub answers_more : (front : List Given) (g : Given) (rest : Result (List Given) AnswerFault)

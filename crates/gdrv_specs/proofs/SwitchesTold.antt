@@ -34,6 +34,13 @@ use Rattle.std.proofs.Common.{◌≡◌, ◌∙◌, ◌⊎◌, ◌++◌, Err, If
 use Rattle.std.proofs.lemmas.List.{append-nil}
 
 -- For `tell_switches` (src/switches.rt): the call prints what becomes of the switches of a line.
+-- Names: `F`, `F'` and `G` are what is known of the outside. `journal` is the events of the system before, `journal'` after the questions,
+-- and `journal''` at the end. `report` is the form of the text. `line` is the line, `args` its words, and `set` its spec texts. `sources`
+-- is the files that were read. `namings` is the parts of texts that name switches. `fault` is why a spec file is refused, and `ending` how
+-- the call ends then. `seed` is that for the names of temporaries. `outcome` is how the call ends. `result` is what the code's call gives.
+-- `GivesKnown fault view result defined`: the result is the defined one, or memory lacked (drv_system). `specs_of` is the specs of a line,
+-- and `Comes F args seed result` says that the arguments ask for that work, or end so (drv_run). `GivesFates` is what a line gives
+-- (specs/Switches), and `GivesLine` the same of one that was read (specs/Code/Following).
 
 -- the text is made of the sources, the dump and the namings that were found
 pub fates_are : {E : Type 0} (F : Facts) (report : Report) (line : Line) (set : Set) (sources : List Source)

@@ -13,6 +13,11 @@ use Rattle.std.proofs.Common.{◌≡◌, ◌∙◌, ◌++◌, Err, List, Ok, [],
 use Rattle.std.proofs.lemmas.List.{append-nil}
 
 -- For `tell_plan` and `tell_after` (src/planning.rt and src/running.rt): a call adds questions to the journal, and one text at most.
+-- Names: `F`, `F'` and `G` are what is known of the outside. `journal` is the events of the system before, `journal'` after the questions,
+-- and `journal''` at the end. `line` is the words of the line. `seed` is that for the names of temporaries. `work` is what the line asks
+-- for, and `ending` how it ends in place of that. `T` says what is printed of a work. `outcome` is how the call ends. `Comes F args seed
+-- result`: the arguments ask for that work, or end so (drv_run). `Asks journal journal' F F'`: questions were added, and their answers to
+-- the facts (drv_system). `learn F events` is F with the answers of these events.
 
 -- the answers to the questions of a call that began with an empty table
 pub known : {journal journal' : List Event} {F F' : Facts} → F ≡ no_facts → (asks : Asks journal journal' F F')

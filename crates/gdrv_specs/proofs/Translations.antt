@@ -11,6 +11,9 @@ use Rattle.std.proofs.Common.{◌≡◌, ◌∙◌, ◌⊎◌, Err, List, Ok, []
 use Rattle.std.proofs.lemmas.List.{append-nil}
 
 -- For `translate_file` (src/translating.rt): the call reads one file and prints its texts in the driver's language.
+-- Names: `journal` is the events of the system before, and `journal'` after. `path` is that of the file, and `dump` its text. `ours` is its
+-- texts in the driver's language. `status` is the exit status. `fault` is why the file is no dump. `our_dump_of` is drv_dump's: these
+-- texts, or that fault. `TranslatesDump` is what the call did with it (specs/Translations).
 
 -- the texts of a dump were printed, and those that are refused are named
 pub puts_texts : (journal journal' : List Event) (path dump : List ℕ) (ours : OurDump) (status : ℕ) → our_dump_of dump ≡ Ok ours

@@ -40,6 +40,15 @@ use Rattle.std.proofs.Common.{sym, ℕ}
 use Rattle.std.proofs.lemmas.List.{append-nil}
 
 -- For `tell_words` (src/word_origins.rt): the call prints where the words of a line's plan are from.
+-- Names: `F`, `F'` and `G` are what is known of the outside. `journal` is the events of the system before, `journal'` after the questions,
+-- and `journal''` at the end. `line` is the line, `args` its words, and `set` its spec texts. `text` is a dump with marks, or the text of
+-- an input. `after` is the set that the marked text makes, or the texts after a step, and `before` those before it. `work` is what the line
+-- asks for with that set, and `found` the same, or how it ends. `prefixes` is where files are searched for. `sources` is the files that
+-- were read. `plan` is the plan. `view` is the form of the text, and `said` the text. `seed` is that for the names of temporaries. `ending`
+-- is how a line ends in place of a work. `outcome` is how the call ends. `result` is what the code's call gives. `GivesKnown fault view
+-- result defined`: the result is the defined one, or memory lacked (drv_system). `Comes F args seed result`: the arguments ask for that
+-- work, or end so (drv_run). `IsMarked` is the work with marks (specs/Code/Tracing). `origins_of` and `origins_with` are the text about a
+-- plan (specs/WordOrigins).
 
 -- the plan with marks
 

@@ -1,5 +1,6 @@
 //! Answers that words of a call give ahead.
 
+// In clauses: `Gives` says that a result is the defined one, or lack of memory.
 ghost use Rattle.gdrv_specs.specs.Runs.{answer_of, answers_of};
 ghost use Rattle.drv_words.specs.Gives.{Gives};
 ghost use Rattle.gdrv_specs.specs.declared.answers.AnswerFault.TheVariants.{Memory};

@@ -1,5 +1,6 @@
 //! What a call of the program asks for.
 
+// In clauses: `Gives` says that a result is the defined one, or lack of memory.
 ghost use Rattle.gdrv_specs.specs.Calls.{are_compared, asks_parts, asks_switches, asks_words};
 ghost use Rattle.gdrv_specs.specs.Calls.{call_of, check_asked, command_named, difference_asked};
 ghost use Rattle.gdrv_specs.specs.Calls.{form_asked, line_compared, texts_compared, cut_from};

@@ -1,5 +1,6 @@
 //! Prints the plan of a line as a compilation database.
 
+// In clauses: `Extends F G` says that G has every answer of F.
 ghost use Rattle.drv_system.specs.Asking.{Asks, Extends};
 ghost use Rattle.drv_system.specs.Facts.{Facts};
 ghost use Rattle.gdrv_specs.specs.Databases.{NamesOf, TellsDatabase, input_name};

@@ -1,5 +1,7 @@
 //! Prints what differs between two plans of a line.
 
+// In clauses: `Extends F G` says that G has every answer of F. `Asked` says that a call only asked,
+// and that the table has the answers.
 ghost use Rattle.drv_run.specs.Drives.{Comes};
 ghost use Rattle.drv_run.specs.declared.work.Work.{Work};
 ghost use Rattle.drv_system.specs.Asking.{Extends};

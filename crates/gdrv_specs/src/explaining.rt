@@ -1,5 +1,7 @@
 //! Prints what each part of a line changes.
 
+// In clauses: `Extends F G` says that G has every answer of F. `Asked` says that a call only asked,
+// and that the table has the answers.
 ghost use Rattle.drv_run.specs.Code.Deciding.{ComesOfLine, ComesOfSpecs};
 ghost use Rattle.drv_run.specs.Drives.{Comes, work_of as work_given};
 ghost use Rattle.drv_run.specs.LineReads.{ComesLine, ReadsLine};

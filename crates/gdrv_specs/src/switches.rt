@@ -1,5 +1,8 @@
 //! Prints what becomes of the switches of a line.
 
+// In clauses: `Extends F G` says that G has every answer of F. `Asked` says that a call only asked,
+// and that the table has the answers. `GivesKnown` says that a result is the one defined over the
+// facts, or lack of memory.
 ghost use Rattle.drv_check.specs.Origins.{sources_of};
 ghost use Rattle.drv_run.specs.Drives.{specs_of};
 ghost use Rattle.drv_run.specs.LineReads.{ComesLine};

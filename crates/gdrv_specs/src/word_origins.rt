@@ -1,5 +1,8 @@
 //! Prints where the words of a line's plan are from, alone or with what becomes of its switches.
 
+// In clauses: `Extends F G` says that G has every answer of F. `Asked` says that a call only asked,
+// and that the table has the answers. `GivesKnown` says that a result is the one defined over the
+// facts, or lack of memory.
 ghost use Rattle.drv_plan.specs.Languages.{chosen_for};
 ghost use Rattle.drv_run.specs.LineReads.{ReadsLine};
 ghost use Rattle.drv_run.specs.declared.ending.Ending.TheVariants.{OutOfMemory};

@@ -1,5 +1,6 @@
 //! What a call of the program asks for.
 
+// In clauses: `Gives` says that a result is the defined one, or lack of memory.
 ghost use Rattle.drv_words.specs.Gives.{Gives};
 ghost use Rattle.gdrv_write_specs.specs.Calls.{call_of, is_option, is_specs, named_order_of};
 ghost use Rattle.gdrv_write_specs.specs.Calls.{order_of, question_of, row_of, row_order_of};

@@ -198,6 +198,7 @@ fn push_alternatives(glued: Glued<'_>, text: &mut Word) -> Result<bool, Fault> {
         text.extend_from_slice(piece.bytes.as_bytes())?;
     }
     push_all(glued.tail, text)?;
+    // If the last alternative has a test, it is no default: then add one that gives the tail alone.
     if it.has_tests {
         text.extend_from_slice(b";:")?;
         push_all(glued.tail, text)?;

@@ -16,6 +16,9 @@ use Rattle.std.specs.Prelude.{◌≡◌, Bool, List, [], ◌∷◌, ◌++◌, No
 
 -- The code's values without their references, and how the code goes over a line. Only private clauses of src/sources.rt, src/reading.rt and
 -- others cite them.
+-- Names: `r` is a row of the code's table. `known` is the names beyond the table. `wanting` is a row that waits for its argument before a
+-- word, and `next` after it. `old` and `new` are the items before the word and after it. `so_far` is what was counted. `name` and `other`
+-- are names.
 
 -- a row of the code, as the definitions have it
 abbrev pub shown : Row → OptionRow

@@ -7,6 +7,9 @@ use Rattle.std.specs.Prelude.{◌==◌, ◌&&◌, ◌||◌, ◌+◌, ◌-◌, �
 -- How the code looks up a row of the option table. It finds rows whose option is the word by their second and third byte and their length.
 -- It finds those whose option the word begins with by their second byte, and some by their third too. Only private clauses of src/table.rt,
 -- src/name_groups.rt and others cite it.
+-- Names: `word` is a word of the line. `option` is the text of a row. `b` and `c` are its second and third byte. `r` is a row, or an option
+-- with its ring. `key` is the number of a group. `takes_rest` says that the rest of a word may be the option's argument. A ring is a text
+-- of options of which the last one counts.
 
 -- the second byte of a word, or 0: the letter after the hyphen
 abbrev pub second : List ℕ → ℕ

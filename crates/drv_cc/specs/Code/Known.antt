@@ -6,6 +6,8 @@ use Rattle.std.specs.Prelude.{◌==◌, Bool, List, [], ◌∷◌, if◌then◌e
 
 -- How the code looks for a line of a text, and how it asks unknown words again. Only private clauses of src/reading.rt, src/known.rt and
 -- others cite them.
+-- Names: `known` is the names beyond the table, a line each. `name` is an unknown word. `newer` is the other name that newer compilers
+-- alone give it. `i` is an item.
 
 -- a line ends where this text begins
 abbrev pub is_ended : List ℕ → Bool

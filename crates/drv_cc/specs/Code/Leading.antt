@@ -4,6 +4,8 @@ use Rattle.std.specs.Prelude.{List, None, Option, Some, if◌then◌else◌, ℕ
 
 -- What leads the names of a link's side files, by the name of -dumpbase and the folder that options give. Only private clauses of
 -- src/leading.rt cite it.
+-- Names: `items` is the items of the line. `folder` is the folder that options give, if any. `name` is that of -dumpbase. `program` is the
+-- link's output without its end.
 
 -- what leads without -dumpbase, by the folder that options give: the program's name where none gives one
 abbrev pub link_program_in : List Item → Option (List ℕ) → Option (List ℕ)

@@ -6,6 +6,9 @@ use Rattle.std.specs.Prelude.{◌≡◌, ◌<◌, ◌&&◌, ◌||◌, Bool, List
 
 -- How the code goes over items from the last one on, with the classes of those that it has seen. Only private clauses of src/keeping.rt
 -- cite it.
+-- Names: `items` is all items of the line. `left` is those that the loop has still before it, and `following` the others. `stay` is what
+-- stays of those, the last one first. `class` is an item's class. `p` is any class, and `seen p` says whether it was met; `old` and `new`
+-- are that before an item and after it. `effective_items` and `all_stay` are in Kept.
 
 -- whether a class is that of a key
 abbrev pub is_seen : {K : Type 0} → List K → (K → List ℕ) → List ℕ → Bool

@@ -10,6 +10,9 @@ use Rattle.drv_syntax.specs.declared.token.TokenKind.{TokenKind}
 use Rattle.std.specs.Prelude.{◌+◌, List, [], ◌∷◌, ◌++◌, drop, if◌then◌else◌, nat_lt, ℕ}
 
 -- Branches that no line reaches, as the code finds them in the flat list of parts. For private clauses of src/branches.rt.
+-- Names: `f` gives something of a part. `n` is the place of a token in the list, `end` the place behind a part, and `next` the one before
+-- which tokens are inside another part. `items` is the tree of a text. `label` is what a part names. `branch` is an alternative. `earlier`
+-- is the tests of those before it. `start` is where the text begins in its piece. A mark is here a warning at a byte of a piece.
 
 -- What the parts inside a part give that are inside no other one of these. Its last part precedes the place `end`; the first token has the
 -- place n, and those before `next` are inside another part.

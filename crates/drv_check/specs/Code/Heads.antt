@@ -2,6 +2,7 @@ use Rattle.drv_specs.specs.Directives.{is_colon}
 use Rattle.std.specs.Prelude.{Bool, List, None, Option, Some, false, slice_get, ℕ}
 
 -- Whether a colon is at a place of a line. Only a private clause of src/origins.rt cites it.
+-- Names: `line` is the line, and `n` a place in it. `b` is the byte there.
 
 -- by the byte there, if there is one
 abbrev pub is_colon_there : Option ℕ → Bool

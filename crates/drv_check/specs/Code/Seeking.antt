@@ -17,6 +17,10 @@ use Rattle.std.specs.Prelude.{◌≡◌, List, None, Option, Some, ℕ}
 
 -- The files that spec files include, as the code seeks them: it opens what %include names, and changes no set. For private clauses of
 -- src/seeking.rt.
+-- Names: `F` is what is known of the outside. `prefixes` is where files are searched for. `levels` is how deep files may still be within
+-- one another. `c` is a check. `file` is the open file, and `piece` one of its pieces. `before` and `after` are checks before a step and
+-- after it. `set` and `findings` are others than those of the check, and `set'` and `findings'` what these become. `whole` and `rest` are
+-- what is made of a check. `opened` is in specs/Checks.
 
 -- the file that a piece opens, if it includes one
 abbrev pub sought_by : Facts → Prefixes → ℕ → Checking → OpenFile → Piece → Option Inclusion → Known (Checking × Option OpenFile)

@@ -12,6 +12,10 @@ use Rattle.drv_system.specs.declared.event.TellAnswer.{TellAnswer}
 use Rattle.std.specs.Prelude.{◌≡◌, List, [], ◌∷◌, ◌++◌, drop, length, ℕ}
 
 -- What a call does after its questions, of two journals. Only private clauses of src/compiling.rt cite it.
+-- Names: `journal` is the events of the system before, and `journal'` after. `text` is what is said after a work, and `said` before it.
+-- `prepared` is what the call has to do. `status` is the work's exit status. `outcome` is how the call ends. `events` is what the host was
+-- asked. `noted`, `did` and `opened` are events that were added. `Closes`, `Opens` and `settings` are in specs/Compiles. `OnlySays` is
+-- drv_run's: nothing but texts was said.
 
 -- a text is said after a work
 abbrev pub IsClosed : List Event → List Event → List ℕ → ℕ → Outcome → Type 0

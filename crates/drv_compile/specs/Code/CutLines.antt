@@ -3,6 +3,7 @@ use Rattle.std.specs.List.{starts_with}
 use Rattle.std.specs.Prelude.{◌||◌, Bool, List, [], None, Option, Some, length, nat_eq, suc, zero, ℕ}
 
 -- How the code goes over the lines of a text: what is left of it. Only private clauses of src/compilers.rt cite it.
+-- Names: `text` is a text, and `lines` its lines (specs/Compilers). `one` and `other` are two keys.
 
 -- the lines that are left, of a text or of none
 abbrev pub lines_from : Option (List ℕ) → List (List ℕ)

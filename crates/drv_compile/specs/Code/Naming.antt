@@ -6,6 +6,8 @@ use Rattle.drv_system.specs.Known.{◌>>=◌, Is, Known}
 use Rattle.std.specs.Prelude.{List, None, Option, Some, ℕ}
 
 -- The items of a line by names of options in a file. Only private clauses of src/naming.rt cite it.
+-- Names: `F` is what is known of the outside. `words` is the words of a line. `known` is a text of options beyond the table. `specs` is the
+-- path of a spec file. `items_of` is the items of words by such names (drv_cc).
 
 -- the items of a line by names of options, if the file that has them is whole
 abbrev pub items_named : List (List ℕ) → Option (List ℕ) → Option (List Item)

@@ -18,6 +18,10 @@ use Rattle.drv_system.specs.Facts.{Facts}
 use Rattle.std.specs.Prelude.{◌≡◌, ◌⊎◌, List, [], Some, true, ℕ}
 
 -- The steps of a line that is carried out. Only private clauses of src/preparing.rt cite them.
+-- Names: `F` is what is known of the outside. `line` is the line of gcc, with what the call is given, its words and its chain (spec file,
+-- compiler, known names). `call` is what the front made of it. `events` is what the host was asked. `driven` is what the driver is called
+-- with. `prepared` is what the call has to do. `text` is the text of a refusal. `IsSaid` is a refusal's text (specs/Notes), `Stops` how a
+-- line of the driver ends (specs/Runs), and `IsWorker` who carries a line out (specs/Driven).
 
 -- a line of the driver is refused
 abbrev pub IsFailure : Facts → List ℕ → DriverLine → ℕ → List ℕ → Type 0

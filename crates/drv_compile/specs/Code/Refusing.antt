@@ -6,6 +6,8 @@ use Rattle.drv_system.specs.Facts.{Facts}
 use Rattle.std.specs.Prelude.{List, ℕ}
 
 -- What is said of a line that ends so. Only private clauses of src/refusing.rt cite it.
+-- Names: `F` is what is known of the outside. `name` is that of the program. `given` is the driver's line. `IsSaid` is a refusal's text
+-- (specs/Notes).
 
 -- a line ends by a refusal, and this text says it
 abbrev pub IsEndSaid : Facts → List ℕ → DriverLine → Ending → List ℕ → Type 0

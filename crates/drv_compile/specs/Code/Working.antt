@@ -13,6 +13,8 @@ use Rattle.drv_system.specs.Known.{Is}
 use Rattle.std.specs.Prelude.{◌≡◌, ◌⊎◌, Err, Ok, Result, false, true, ℕ}
 
 -- The work of a line over a set that is loaded. Only private clauses of src/running.rt and src/sources.rt cite it.
+-- Names: `F` is what is known of the outside. `line` is the driver's line. `set` is its spec texts. `seed` is that for the names of
+-- temporaries. `work` is what is done. `has_several` says that one -o is for several sources (specs/Runs).
 
 -- several sources are refused, unless memory lacks
 abbrev pub Judges : {X : Type 0} → Set → Line → Result X ArgsFault → Type 0

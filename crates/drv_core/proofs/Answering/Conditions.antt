@@ -33,6 +33,9 @@ use Rattle.std.specs.Prelude.{⊤}
 -- test, so that `by` can go by both cases. `i` is the index of a child or of a temporary. `group_at job g` is the commands of the group.
 -- `asks k job s` is the next step of a job at this stage. `asked` takes a step out of its option. `after job s a` is the stage after the
 -- answer. `left` says whether a source at this stage has more to do. `enter_waits` is the stage of the next wait, or what follows the last.
+-- In `makes` the letters are what is known of the step: `v` that it is valid, `z` the sizes, `o` that its child is open, `l` that the
+-- source has more to do, `p` the pending pipe. `job_at`: the job of a number. `pending_with`: whether a pipe is pending after one more step
+-- and its answer. `pipe_pending`: whether a pipe is pending after these events.
 
 -- whether a pipe is pending at this stage: between the starts of a group
 abbrev pub piped : Stage → Bool

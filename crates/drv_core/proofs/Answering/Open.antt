@@ -42,6 +42,8 @@ use Rattle.std.specs.Prelude.{⊤}
 -- child. `asks k job s` is the next step of a job at this stage. `asked` takes a step out of its option. `after job s a` is the stage after
 -- the answer. `group_at job g` is the commands of the group. `enter_waits` is the stage of the next wait, or what follows the last.
 -- `enter_removals` is the stage of the next removal, or the end. `enter_group` is the stage of a group's first start, or the end.
+-- `is_child`: the answer says that the child of this number was started. `is_start_at`: a start at this place. `is_wait_for`: whether a
+-- step is the wait for this child at this place. `end_group`: the stage after a group. `none`: whether a list is empty.
 
 -- whether a step is a wait at this place
 abbrev pub is_wait_at : Place → Step → Bool
@@ -248,6 +250,7 @@ later_waited k g i id reply E w group member at =
     last true u e = e
     last false u e = refl
 
+    -- the wait is another one: of an earlier group, or of an earlier child of the group
     apart : (g < group) ⊎ ((group ≡ g) × (i + 1 ≤ member)) → (nat_eq k k && (nat_eq group g && nat_eq member i)) ≡ false
     apart (inl x) = last (nat_eq k k) (nat_eq group g && nat_eq member i)
         (let ne : nat_eq group g ≡ false = grind (arith, nat_tests) in rw ne refl)

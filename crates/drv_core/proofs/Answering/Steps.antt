@@ -47,7 +47,9 @@ use Rattle.std.specs.Prelude.{⊤}
 -- source. `t` is the value of a test, so that `by` can go by both cases. `ev` is the new event. `no_job` is a job without commands.
 -- `events_of` lists the events of blocks. `inside` says whether a block is open at this stage. `open_of k job s` is the events so far of
 -- the block that is open at stage s. `base s` is the stage at which the block began that is open at stage s. `group_at job g` is the
--- commands of the group. `after job s a` is the stage after the answer.
+-- commands of the group. `after job s a` is the stage after the answer. `blocks_of`: the blocks without their sources. `Filled`: each group
+-- of the job has a command. `SourceBlock`: a block, with the number of its source. `enter_waits`: the stage of the wait for the i-th child,
+-- or what follows the group. `asks`: the next step of job k at this stage, if there is one.
 
 -- what a stage says of its job: the claim, command, child or removal that is next is there
 abbrev pub Valid : Job → Stage → Type 0
@@ -467,6 +469,7 @@ sources_begin jobs N st cur E some r = by (inside (st cur)) refl
           ∙ sym (events_append r.blocks f.more);
     }
 
+    -- the block that is open at the end, with what its source still does, is a whole one
     closed : (b : Block) (rest : Block) → b ≡ open_of cur (get_or jobs cur no_job) (st cur) ++ rest
         → Finished jobs N (r.blocks ++ record { source = cur; block = b } ∷ []) → Begins jobs N E
     closed b rest is f = record {
@@ -485,6 +488,7 @@ sources_begin jobs N st cur E some r = by (inside (st cur)) refl
           ∙ sym (events_append (r.blocks ++ record { source = cur; block = b } ∷ []) f.more);
     }
 
+    -- where the source is inside a block, that block is closed (`closed`)
     into : inside (st cur) ≡ true → (c : Closes cur (get_or jobs cur no_job) (st cur)) → Begins jobs N E
     into e c = closed (open_of cur (get_or jobs cur no_job) (st cur) ++ c.rest) c.rest refl
         (finish jobs N (put (bases st) cur c.m) (r.blocks ++ record {

@@ -40,7 +40,10 @@ use Rattle.std.specs.Option.{option_to_list}
 -- source (or of the link) at hand. `k` is the number of a job in the plan. `j` is the number of any source. `t` is the value of a test, so
 -- that `by` can go by both cases. `stage_in f k` is the stage of source k. `no_job` is a job without commands. `inside` says whether a
 -- block is open at this stage. `asks k job s` is the next step of a job at this stage. `asked` takes a step out of its option. `begin job`
--- is a job's first stage. `left` says whether a source at this stage has more to do.
+-- is a job's first stage. `left` says whether a source at this stage has more to do. `next_stage`: the stage of the source in progress
+-- after the answer to its next step. `Sized`: at this stage the group has at most as many children as commands. `taken`: the source in
+-- progress takes an answer, and at the end of a block a source is picked. `made`: the event of that step and answer. `Opens`: what holds of
+-- a stage's children.
 
 -- All that is known of the sources while one goes on, after these events; `most` is the most events that they can have. `opens` says that
 -- each stage's children were started and not waited for. `sized` says that no group has more children than commands. `pipe` says whether a
@@ -175,6 +178,7 @@ sure_takes jobs N most f E reply some filled s kind = by (takes jobs N f E reply
     at : (j : ℕ) → stage_in (taken jobs f reply) j ≡ put (stage_in f) f.current (next_stage jobs f (stage_in f) reply) j
     at j = stage_settled jobs (gone_on jobs f reply) j ∙ z.at j
 
+    -- which children are open: of the source at hand by its answer, of the others as before
     opens_by : (j : ℕ) (t : Bool) → nat_eq f.current j ≡ t → Opens j (if t then next_stage jobs f (stage_in f) reply else stage_in f j)
         (E ++ made jobs f (stage_in f) reply ∷ [])
     opens_by j true e = subst (λ i. Opens i (next_stage jobs f (stage_in f) reply) (E
@@ -183,12 +187,14 @@ sure_takes jobs N most f E reply some filled s kind = by (takes jobs N f E reply
     opens_by j false e = opens_other f.current j (get_or jobs f.current no_job) (stage_in f f.current) (stage_in f j) reply E
         (turn_about f.current j false e) (s.opens j)
 
+    -- the sizes that a stage counts fit: of the source at hand after its answer, of the others as before
     sized_by : (j : ℕ) (t : Bool) → nat_eq f.current j ≡ t
         → Sized (get_or jobs j no_job) (if t then next_stage jobs f (stage_in f) reply else stage_in f j)
     sized_by j true e = subst (λ i. Sized (get_or jobs i no_job) (next_stage jobs f (stage_in f) reply)) (same f.current j e)
         (sized_after f.current (get_or jobs f.current no_job) (stage_in f f.current) reply valid more kind (s.sized f.current))
     sized_by j false e = s.sized j
 
+    -- the events so far and those to come are still within the room
     bound : length (E ++ made jobs f (stage_in f) reply ∷ []) + to_come jobs (stage_in (taken jobs f reply)) ≤ most
     bound =
         let less : to_come jobs (put (stage_in f) f.current (next_stage jobs f (stage_in f) reply)) < to_come jobs (stage_in f) =
@@ -208,11 +214,13 @@ sure_takes jobs N most f E reply some filled s kind = by (takes jobs N f E reply
     pipe_is : pipe_pending (E ++ made jobs f (stage_in f) reply ∷ []) ≡ piped (next_stage jobs f (stage_in f) reply)
     pipe_is = pipe_kept f.current (get_or jobs f.current no_job) (stage_in f f.current) reply E more kind s.pipe
 
+    -- where the source at hand ends a block, no source is inside one
     out_by : inside (next_stage jobs f (stage_in f) reply) ≡ false → (j : ℕ) (t : Bool) → nat_eq f.current j ≡ t
         → inside (if t then next_stage jobs f (stage_in f) reply else stage_in f j) ≡ false
     out_by e j true is = e
     out_by e j false is = ap inside (s.going.at j) ∙ s.going.run.others j is
 
+    -- a pipe is pending where the source that is then in progress says so
     pipe_by : (t : Bool) → inside (next_stage jobs f (stage_in f) reply) ≡ t → piped (next_stage jobs f (stage_in f) reply)
         ≡ piped (stage_in (taken jobs f reply) (taken jobs f reply).current)
     pipe_by true e = sym (ap (λ k. piped (stage_in (taken jobs f reply) k)) (current_settled jobs (gone_on jobs f reply)

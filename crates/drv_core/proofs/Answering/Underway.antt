@@ -37,7 +37,9 @@ use Rattle.std.specs.Prelude.{slice_set}
 -- so that `by` can go by both cases. `r` is what `Running` says of the sources. `h` is the sources after the block. `i` is the number of
 -- any other source. `stage_in f k` is the stage of source k. `no_job` is a job without commands. `left` says whether a source at this stage
 -- has more to do. `inside` says whether a block is open at this stage. `count n p` is how many numbers below n pass p. `begin job` is a
--- job's first stage. `base s` is the stage at which the block began that is open at stage s.
+-- job's first stage. `base s` is the stage at which the block began that is open at stage s. `Counts jobs N f blocks`: what the code counts
+-- of the sources is right after these blocks. `idle`: a source that has nothing to do. `busy`: whether a job has something to do.
+-- `first_busy`: the first job from number k on that has a group, or the number of jobs. `fresh_fleet`: all sources at their beginnings.
 
 -- A source is in progress: the stages of the code's list are those of a run in progress, the code's counts are right, and the source may go
 -- on. `st` gives the stages, which are the code's (`at`). `run` is the run up to here. `may` says that a block of this source may come
@@ -224,6 +226,7 @@ stages_of jobs N f a st lt at = record {
       (record { stage = after (get_or jobs f.current no_job) (stage_in f f.current) a; room = (source_in f f.current).room });
 }
   where
+    -- each stage after the answer: the source in progress has the next one, the others theirs
     at_new : (j : ℕ) → stage_in (gone_on jobs f a) j ≡ put st f.current (next_stage jobs f st a) j
     at_new j = stage_set f.sources f.current j
         (record { stage = after (get_or jobs f.current no_job) (stage_in f f.current) a; room = (source_in f f.current).room }) st lt at
@@ -296,6 +299,7 @@ takes jobs N f E reply some filled going kind = subst (λ s. Going jobs N (taken
     was : left (stage_in f f.current) ≡ true
     was = ap left (going.at f.current) ∙ going.more
 
+    -- inside a block nothing is counted anew: the source goes on in it
     into : inside (next_stage jobs f going.st reply) ≡ true
         → (r : Running jobs N (put going.st f.current (next_stage jobs f going.st reply)) f.current (E ++ made jobs f going.st reply ∷ []))
         → Counts jobs N (gone_on jobs f reply) r.blocks → Going jobs N (gone_on jobs f reply) (E ++ made jobs f going.st reply ∷ [])
@@ -308,6 +312,7 @@ takes jobs N f E reply some filled going kind = subst (λ s. Going jobs N (taken
       counts = c;
     }
 
+    -- what the code counts after the answer, where one block more is whole
     following : (blocks : List SourceBlock) (b : Block)
         → Worked jobs N f (gone_on jobs f reply) going.run.blocks (going.run.blocks ++ record { source = f.current; block = b } ∷ [])
     following blocks b = record {
@@ -328,6 +333,7 @@ takes jobs N f E reply some filled going kind = subst (λ s. Going jobs N (taken
           (has_new j f.current b);
     }
 
+    -- at the end of a block the code counts the source anew, and looks for one that may go on
     out : inside (next_stage jobs f going.st reply) ≡ false
         → (r : Running jobs N (put going.st f.current (next_stage jobs f going.st reply)) f.current (E ++ made jobs f going.st reply ∷ []))
         → Worked jobs N f (gone_on jobs f reply) going.run.blocks r.blocks
@@ -341,6 +347,7 @@ takes jobs N f E reply some filled going kind = subst (λ s. Going jobs N (taken
         (counts_closed jobs N (opened jobs (gone_on jobs f reply)) r.blocks (opened_is jobs N f (gone_on jobs f reply) going.run.blocks
         r.blocks w))
 
+    -- both ways in one: by whether the source is still inside a block
     settled_by : (t : Bool) → inside (next_stage jobs f going.st reply) ≡ t
         → Going jobs N (if t then gone_on jobs f reply else turned jobs (gone_on jobs f reply)) (E ++ made jobs f going.st reply ∷ [])
         ⊎ Landed jobs N (if t then gone_on jobs f reply else turned jobs (gone_on jobs f reply)) (E ++ made jobs f going.st reply ∷ [])
@@ -425,6 +432,7 @@ starts jobs N some filled = settles jobs N (fresh_fleet jobs N) 0 (λ j. begin (
     has_by j true e l = absurd (let clash : true ≡ false = sym l ∙ idle_before j (is_less j (first_busy 0 jobs) e) in cc)
     has_by j false e l = refl
 
+    -- before the first event no source has begun
     counts : Counts jobs N (fresh_fleet jobs N) []
     counts = record {
       sizes = length-map jobs fresh;

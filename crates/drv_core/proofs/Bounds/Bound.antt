@@ -34,6 +34,7 @@ use Rattle.std.specs.List.{sum_by}
 -- `no_job` is a job without commands. `enter_waits` is the stage of the next wait, or what follows the last. `after job s a` is the stage
 -- after the answer. `enter_removals` is the stage of the next removal, or the end. `group_at job g` is the commands of the group.
 -- `enter_claims` is the stage of the next claim, or of the first group. `enter_group` is the stage of a group's first start, or the end.
+-- `none`: whether a list is empty.
 
 -- the most events of the groups from the g-th on: a start, a wait and their reports for each command
 abbrev groups_cost : Job → ℕ → ℕ

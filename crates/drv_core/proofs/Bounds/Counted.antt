@@ -27,8 +27,8 @@ use Rattle.std.specs.Prelude.{slice_set}
 -- For the removals at the end: the code counts the claims of each job as they are answered, and its counts are those that the events show
 -- (`tally`).
 -- Names: `E` is the events so far. `x` is the leftover files, with what the code counts and marks of them. `k` is the number of a job in
--- the plan. `a` is the answer to the step. `t` is the value of a test, so that `by` can go by both cases. `n` is the number of jobs.
--- `tally k E` is how many temporaries of job k were claimed.
+-- the plan. `a` is the answer to the step. `t` is the value of a test, so that `by` can go by both cases. `n` is the number of jobs. `tally
+-- k E` is how many temporaries of job k were claimed. `claims_of`: how many temporaries of a job an answer claims.
 
 -- the code's counts are those of these events, for n sources and the link
 pub record Counted (n : ℕ) (x : Leftovers) (E : List RunEvent) : Type 0 where

@@ -9,6 +9,7 @@ use Rattle.std.specs.List.{sum_by}
 use Rattle.std.specs.Option.{option_to_list}
 
 -- For `events_needed`, which sums up the most events of a run, or says that the sum is too great for `usize`.
+-- Names: `X`: any type. `fitting`: a number that fits into `usize`.
 
 -- if a part is too great for `usize`, so is the whole
 pub too_many : (a b : ℕ) → fitting a ≡ None → a ≤ b → fitting b ≡ None

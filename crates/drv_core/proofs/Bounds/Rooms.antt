@@ -15,8 +15,9 @@ use Rattle.std.specs.List.{sum_by}
 use Rattle.std.specs.Option.{option_to_list}
 
 -- For the room of `Run`: a run has room for the events of the sources, of the link, and of the removals at the end.
--- Names: `k` is the number of a job in the plan. `files_from` is the leftover files of jobs. `no_job` is a job without commands.
--- `begin job` is a job's first stage.
+-- Names: `k` is the number of a job in the plan. `files_from` is the leftover files of jobs. `no_job` is a job without commands. `begin
+-- job` is a job's first stage. `temp_files`: the temporaries of job k, from number i on. `marked_files`: the marked files of job k, from
+-- number i on. `summed`: the sum of f over the numbers below n. `job_files`: the files of a job that makes calls.
 
 -- a job has as many leftover files that are temporaries as it has temporaries
 many_temps : (k i : ℕ) (ts : List Temp) → length (temp_files k i ts) ≡ length ts

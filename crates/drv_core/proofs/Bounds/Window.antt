@@ -19,7 +19,8 @@ use Rattle.std.proofs.Common.{nat_eq, refl, subst, sym, ℕ}
 
 -- For the window of `Run`, which never changes: so what is known of a run may name the window that the run itself has.
 -- Names: `plan` is the plan of the run: the jobs of its sources, and perhaps a link. `f` is all sources as the code keeps them. `p` is the
--- run as the code keeps it. `a` is the answer to the step. `t` is the value of a test, so that `by` can go by both cases.
+-- run as the code keeps it. `a` is the answer to the step. `t` is the value of a test, so that `by` can go by both cases. `Kept plan N p`:
+-- what is known of every run.
 
 -- a move from phase to phase keeps the fleet and the events
 abbrev SameStory : RunState → RunState → Type 0

@@ -26,6 +26,9 @@ use Rattle.std.proofs.lemmas.Cmp.{nat_eq_equiv}
 -- tests, so that `by` can go by both cases. `stage_in f k` is the stage of source k. `left` says whether a source at this stage has more to
 -- do. `has k bs` says whether source k has a block among `bs`. `count n p` is how many numbers below n pass p. `listed n p` is the numbers
 -- below n that pass p. `pending s` is how many children are still to be waited for. `of k bs` is the blocks of source k among `bs`.
+-- `SourceBlock`: a block, with the number of its source. `in_flight`: a child was started and has not been waited for. `Counts jobs N f
+-- blocks`: what the code counts of the sources is right after these blocks. `Keeps jobs N st blocks`: what holds between blocks. `Picks
+-- jobs N st blocks k`: source k has blocks to come, and its next block may come.
 
 -- a source's next block may come if the source may go on
 
@@ -68,6 +71,7 @@ may_come jobs N f blocks k lt e = record {
     last : (in_window && wait) ≡ true
     last = and_second (nat_eq (count k (λ j. not (has j blocks) && left (stage_in f j))) 0) window_and_wait rest
 
+    -- where the block is a wait, as many sources as possible have a child in flight
     waited : (t : Bool) → t ≡ true
         → (not t || nat_eq (count (length jobs) (λ j. in_flight (of j blocks))) (min N (count (length jobs) (λ j. left (stage_in f j)))))
         ≡ true → nat_eq (count (length jobs) (λ j. in_flight (of j blocks))) (min N (count (length jobs) (λ j. left (stage_in f j)))) ≡ true
@@ -96,6 +100,7 @@ before_next jobs N f blocks keep c k lt = by (left (stage_in f k)) refl
     turn false true = refl
     turn false false = refl
 
+    -- for a block that may come without a wait, the three tests give what the code's test gives
     by_goes : MayCome (length jobs) N (λ j. has j blocks) (λ j. left (stage_in f j)) (λ j. in_flight (of j blocks)) k false
         → (nat_eq (count k (λ j. not (has j blocks) && left (stage_in f j))) 0
         && (nat_lt (count (length jobs) (λ j. (has j blocks || nat_eq j k) && left (stage_in f j))) (N + 1)
@@ -114,6 +119,7 @@ before_next jobs N f blocks keep c k lt = by (left (stage_in f k)) refl
         ∙ ap (λ (t : Bool). t || not (nat_lt 0 (pending (stage_in f k)))) (sym (fly_is jobs N f blocks keep c))
         ∙ ap (λ (t : Bool). all_fly f || not t) (sym (awaits_is (stage_in f k)))
 
+    -- a source that has begun may go on, if its block is no wait
     quiet : Between (length jobs) N (λ j. has j blocks) (λ j. left (stage_in f j)) (λ j. in_flight (of j blocks))
         (λ j. nat_lt 0 (pending (stage_in f j))) → has k blocks ≡ true
         → MayCome (length jobs) N (λ j. has j blocks) (λ j. left (stage_in f j)) (λ j. in_flight (of j blocks)) k false
@@ -159,6 +165,7 @@ begun_many jobs N f blocks c = ap (λ (l : List ℕ). length l) (c.begun_is
     beyond j le = there j (left (stage_in f j)) refl ∙ ap (λ (t : Bool). left (stage_in f j) && t) (not_less j f.next le)
         ∙ and_none (left (stage_in f j))
 
+    -- below `next`, a source with more to do has a block
     within : (j : ℕ) → j < f.next → (has j blocks && left (stage_in f j)) ≡ left (stage_in f j)
     within j below = there j (left (stage_in f j)) refl ∙ ap (λ (t : Bool). left (stage_in f j) && t) (less j f.next below)
         ∙ last (left (stage_in f j))
@@ -201,6 +208,7 @@ at_next jobs N f blocks keep c lt = ap (λ (t : Bool). t && (nat_eq (count f.nex
     order : count f.next (λ j. not (has j blocks) && left (stage_in f j)) ≡ 0
     order = count_none f.next (λ j. not (has j blocks) && left (stage_in f j)) (λ j below. old j below (left (stage_in f j)) refl)
 
+    -- with the next source one more has begun and not ended
     one : count (length jobs) (λ j. (has j blocks || nat_eq j f.next) && left (stage_in f j)) ≡ count (length jobs)
         (λ j. has j blocks && left (stage_in f j)) + 1
     one = count_with (length jobs) f.next (λ j. has j blocks && left (stage_in f j)) (λ j. (has j blocks || nat_eq j f.next)
@@ -214,6 +222,7 @@ at_next jobs N f blocks keep c lt = ap (λ (t : Bool). t && (nat_eq (count f.nex
     no_wait true w = absurd (clash (has f.next blocks) (b.begun_waits f.next lt w) new)
     no_wait false w = refl
 
+    -- one more has room in the window where the code counts fewer than the window
     both : (n : ℕ) → (nat_lt (n + 1) (N + 1) && true) ≡ nat_lt n N
     both n = by (nat_lt n N) refl
       where
@@ -238,6 +247,7 @@ after_next jobs N f blocks c k lt past = ap (λ (t : Bool). left (stage_in f k) 
     skipped : (not (has f.next blocks) && left (stage_in f f.next)) ≡ true
     skipped = ap (λ (t : Bool). not t && left (stage_in f f.next)) (c.has_is f.next more ∙ not_less f.next f.next (omega arith)) ∙ more
 
+    -- an earlier source has not begun and has blocks to come: that is `next` itself
     none : nat_eq (count k (λ j. not (has j blocks) && left (stage_in f j))) 0 ≡ false
     none =
         let some : 1 ≤ count k (λ j. not (has j blocks) && left (stage_in f j)) =

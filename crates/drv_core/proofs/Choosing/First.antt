@@ -21,7 +21,9 @@ use Rattle.std.proofs.lemmas.Bool.{not-true}
 -- Names: `plan` is the plan of the run: the jobs of its sources, and perhaps a link. `f` is all sources as the code keeps them. `p` is the
 -- run as the code keeps it. `t` is the value of a test, so that `by` can go by both cases. `between_blocks` says whether another source may
 -- be chosen. `stage_in f k` is the stage of source k. `inside` says whether a block is open at this stage. `clash` shows that a test can't
--- both pass and fail. `able` is the code's list of the sources that may go on.
+-- both pass and fail. `able` is the code's list of the sources that may go on. `removing_next`: the file that was removed is passed, and
+-- the next one is removed. `sources_left`: the sources have ended. `link_after`: the link takes an answer. `removal_made`: the files after
+-- a removal.
 
 -- between blocks the source in progress is the first of those that may go on
 abbrev pub WorksFirst : Plan → RunState → Type 0

@@ -11,6 +11,9 @@ use Rattle.std.specs.Prelude.{slice_set}
 use Rattle.std.specs.Vec.{vec_capacity}
 
 -- For the sources of `Run`: the code's list of sources is seen as the list of their stages, and its function for an answer is `settled`.
+-- Names: `f`: all sources as the code keeps them. `t`, `u`: a test's value, so that `by` can go by both cases. `k`: the number of a job in
+-- the plan. `jobs`: the jobs of the sources, in plan order. `source_of`: a source of the code. `inside`: whether a block is open at this
+-- stage. `idle`: a source that has nothing to do.
 
 -- one source takes an answer: in the list only its stage changes
 pub worked_is : (xs : List CodeSource) (k : ℕ) (s t : CodeSource) (job : Job) (a : Answer) → k < length xs → s ≡ get_or xs k s

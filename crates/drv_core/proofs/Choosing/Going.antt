@@ -27,7 +27,9 @@ use Rattle.std.specs.List.{filter}
 -- a list of jobs. `g` is the sources before the block ended, and `f` after. `a` and `b` are numbers to be compared. `v` is the value of a
 -- third test. `stage_in f k` is the stage of source k. `left` says whether a source at this stage has more to do. `has k bs` says whether
 -- source k has a block among `bs`. `count n p` is how many numbers below n pass p. `no_job` is a job without commands. `of k bs` is the
--- blocks of source k among `bs`. `in_flight` says whether a child was started in these blocks and not waited for.
+-- blocks of source k among `bs`. `in_flight` says whether a child was started in these blocks and not waited for. `none`: whether a list is
+-- empty. `SourceBlock`: a block, with the number of its source. `awaits`: whether the next block is a wait for a child. `first_busy`: the
+-- first job from number k on that has a group, or the number of jobs. `may_go`: a source that has begun may go on.
 
 -- What the code counts of the sources is right after these blocks: which have begun, how many have not ended, and which is the next to
 -- begin. `sizes` says that each job has a source. `next` is the first source that has not begun and has a block (`next_within`,
@@ -163,6 +165,7 @@ first_at k (job ∷ js) = by (none job.groups) refl (first_at (k + 1) js)
     at_later zero f e lt = absurd (let le = f.least in omega (arith, le, e))
     at_later (suc i) f e lt = f.at i (let h = e in omega (arith, h)) (omega arith)
 
+    -- a job before the first busy one has no commands
     before_later : (i : ℕ) → none job.groups ≡ true → (f : FirstAt (k + 1) js (first_busy (k + 1) js)) → k + i < first_busy (k + 1) js
         → none (get_or (job ∷ js) i no_job).groups ≡ true
     before_later zero n f lt = n
@@ -289,22 +292,27 @@ opened_is jobs N f g blocks more w = by (nat_eq g.current g.next) refl
     still_was j true e = subst (λ i. left (stage_in f i) ≡ true) (sym (same j g.current e)) w.was_left ∙ sym (or_all (left (stage_in g j)))
     still_was j false e = ap (λ s. left s) (sym (w.others j e)) ∙ sym (or_same (left (stage_in g j)))
 
+    -- in `f` a source has more to do if it has in `g`, or is the one in progress
     same_was : (j : ℕ) → left (stage_in f j) ≡ (left (stage_in g j) || nat_eq j g.current)
     same_was j = still_was j (nat_eq j g.current) refl
 
+    -- which sources have blocks, where the one in progress is counted too
     has_by : (r : ℕ) → g.current < r → ((j : ℕ) → nat_eq j g.current ≡ false → left (stage_in g j) ≡ true → nat_lt j f.next ≡ nat_lt j r)
         → (j : ℕ) (t : Bool) → nat_eq j g.current ≡ t → left (stage_in g j) ≡ true → (has j blocks || t) ≡ nat_lt j r
     has_by r lt later j true e l = or_all (has j blocks) ∙ sym (less j r (subst (λ i. i < r) (sym (same j g.current e)) lt))
     has_by r lt later j false e l = or_same (has j blocks) ∙ c.has_is j (ap (λ s. left s) (sym (w.others j e)) ∙ l) ∙ later j e l
 
+    -- the same after its block: those with more to do before r have blocks
     has_is : (r : ℕ) → g.current < r → ((j : ℕ) → nat_eq j g.current ≡ false → left (stage_in g j) ≡ true → nat_lt j f.next ≡ nat_lt j r)
         → (j : ℕ) → left (stage_in g j) ≡ true → has j more ≡ nat_lt j r
     has_is r lt later j l = w.has_more j ∙ has_by r lt later j (nat_eq j g.current) refl l
 
+    -- between the source in progress and the next busy one no source has anything to do
     following : (r : ℕ) → Next jobs (g.current + 1) r → g.current ≡ f.next → (j : ℕ) → g.current < j → j < r → left (stage_in g j) ≡ false
     following r nx is j after_it lt = ap (λ s. left s) (w.others j (not_same g.current j after_it)
         ∙ c.waiting j (subst (λ i. i < j) is after_it)) ∙ idle_next (get_or jobs j no_job) (nx.before j (omega (arith, after_it)) lt)
 
+    -- of the other sources with more to do the same ones are before `next`, whether the old or the new one
     later_next : (r : ℕ) → Next jobs (g.current + 1) r → g.current ≡ f.next → (j : ℕ) → nat_eq j g.current ≡ false
         → left (stage_in g j) ≡ true → nat_lt j f.next ≡ nat_lt j r
     later_next r nx is j e l = at (apart_from j g.current e)
@@ -318,6 +326,7 @@ opened_is jobs N f g blocks more w = by (nat_eq g.current g.next) refl
         at (inr lt) = not_less j f.next (let le : g.current ≤ j = omega (arith, lt) in subst (λ i. i ≤ j) is le)
             ∙ sym (beyond (nat_lt j r) refl lt)
 
+    -- the list of those that have begun, with the source in progress at its end
     begun_first : (r : ℕ) → Next jobs (g.current + 1) r → g.current ≡ f.next
         → g.begun ++ g.current ∷ [] ≡ listed r (λ j. left (stage_in g j) || nat_eq j g.current)
     begun_first r nx is = ap (λ l. l ++ g.current ∷ []) (w.same_begun ∙ c.begun_is ∙ ap (λ n. listed n (λ j. left (stage_in f j))) (sym is)
@@ -331,10 +340,12 @@ opened_is jobs N f g blocks more w = by (nat_eq g.current g.next) refl
         none_there j past lt = ap (λ (t : Bool). left (stage_in g j) || t) (not_same g.current j past) ∙ or_same (left (stage_in g j))
             ∙ following r nx is j past lt
 
+    -- the count of those with more to do stays, since the source in progress still counts
     unended : g.unended ≡ count (length jobs) (λ j. left (stage_in g j) || nat_eq j g.current)
     unended = w.same_unended ∙ c.unended_is ∙ count_same (length jobs) (λ j. left (stage_in f j))
         (λ j. left (stage_in g j) || nat_eq j g.current) (λ j lt. same_was j)
 
+    -- the source in progress was `next`: it joins the list, and the next busy one follows
     first : (r : ℕ) → Next jobs (g.current + 1) r → g.current ≡ f.next
         → Opened jobs N (record g { begun = g.begun ++ g.current ∷ []; next = r }) more
     first r nx is = record {
@@ -356,6 +367,7 @@ opened_is jobs N f g blocks more w = by (nat_eq g.current g.next) refl
         past : g.current < r
         past = let le = nx.least in omega (arith, le)
 
+    -- the source in progress had begun before: all counts stay
     again : g.current < f.next → Opened jobs N g more
     again lt = record {
       sizes = w.sizes ∙ c.sizes;
@@ -431,6 +443,7 @@ fly_is jobs N f blocks keep c = ap (λ n. nat_eq n (min f.window f.unended)) (sy
     both j lt true a = sym (ap (λ (t : Bool). t && true) (b.waits_left j lt (sym (awaits_is (stage_in f j)) ∙ a)))
     both j lt false a = sym (and_none (left (stage_in f j)))
 
+    -- the code counts those in flight: the sources that have begun and wait
     many : count (length jobs) (λ j. in_flight (of j blocks)) ≡ flying f
     many = count_same (length jobs) (λ j. in_flight (of j blocks)) (λ j. left (stage_in f j) && awaits (stage_in f j)) (λ j lt. b.fly j lt
         ∙ sym (awaits_is (stage_in f j)) ∙ both j lt (awaits (stage_in f j)) refl)
@@ -464,16 +477,19 @@ picks jobs N f blocks some keep c k below more = subst (λ l. Picks jobs N (stag
     is_all e = fly_is jobs N f blocks keep c ∙ ap (λ n. nat_eq n (min N (count (length jobs) (λ j. left (stage_in f j))))) e
         ∙ nat_eq_equiv.refl (min N (count (length jobs) (λ j. left (stage_in f j))))
 
+    -- a source that waits and passes the code's test: all that can be are in flight
     goes : (x : ℕ) → (u : Bool) → awaits (stage_in f x) ≡ u → (left (stage_in f x) && (all_fly f || not u)) ≡ true
         → awaits (stage_in f x) ≡ true → all_fly f ≡ true
     goes x true a e w = pass (left (stage_in f x)) (all_fly f) e
       where
+        -- the second part of a test that passes
         pass : (t v : Bool) → (t && (v || false)) ≡ true → v ≡ true
         pass true true e = refl
         pass true false e = absurd cc
         pass false v e = absurd cc
     goes x false a e w = absurd (clash (awaits (stage_in f x)) w a)
 
+    -- a source that has begun and passes the code's test may go on
     old : (x : ℕ) → x < f.next → (left (stage_in f x) && may_go (all_fly f) f x) ≡ true → Picks jobs N (stage_in f) blocks x
     old x lt q =
         let l : left (stage_in f x) ≡ true = and_first (left (stage_in f x)) (may_go (all_fly f) f x) q in
@@ -495,11 +511,13 @@ picks jobs N f blocks some keep c k below more = subst (λ l. Picks jobs N (stag
             ∙ sym (ap (λ (t : Bool). left (stage_in f g.k) && (t || not u)) e)
             ∙ sym (ap (λ (t : Bool). left (stage_in f g.k) && (all_fly f || not t)) a) ∙ none g.k lt
 
+        -- by the values of both tests: a source that may go on passes the code's test, which `none` forbids
         no : (v u : Bool) → all_fly f ≡ v → awaits (stage_in f g.k) ≡ u → ⊥
         no true u e a = clash true refl (quiet true u e a)
         no false false e a = clash true refl (quiet false false e a)
         no false true e a = clash (all_fly f) (is_all (g.may.all_in_flight (sym (awaits_is (stage_in f g.k)) ∙ a))) e
 
+    -- the source that may go on is `next`, where no earlier one may
     begins_next : ((j : ℕ) → j < f.next → (left (stage_in f j) && may_go (all_fly f) f j) ≡ false)
         → (g : Goes (length jobs) N (λ j. has j blocks) (λ j. left (stage_in f j)) (λ j. in_flight (of j blocks))
         (λ j. nat_lt 0 (pending (stage_in f j)))) → g.k ≡ f.next
@@ -508,6 +526,7 @@ picks jobs N f blocks some keep c k below more = subst (λ l. Picks jobs N (stag
         in_range : g.k < length jobs
         in_range = is_less g.k (length jobs) g.may.is_source
 
+        -- if a later one went on, `next` would be passed over, which the order forbids
         skipped : f.next < g.k → (not (has f.next blocks) && left (stage_in f f.next)) ≡ true
         skipped lt =
             let l : left (stage_in f f.next) ≡ true = c.next_left (let r = in_range in omega (arith, r, lt)) in
@@ -525,6 +544,7 @@ picks jobs N f blocks some keep c k below more = subst (λ l. Picks jobs N (stag
             let z : g.k ≤ f.next = is_not_less f.next g.k h in
             omega (arith, a, z)
 
+    -- so the next source begins, as the code says
     new : ((j : ℕ) → j < f.next → (left (stage_in f j) && may_go (all_fly f) f j) ≡ false)
         → (g : Goes (length jobs) N (λ j. has j blocks) (λ j. left (stage_in f j)) (λ j. in_flight (of j blocks))
         (λ j. nat_lt 0 (pending (stage_in f j)))) → Picks jobs N (stage_in f) blocks f.next

@@ -5,6 +5,8 @@ use Rattle.std.specs.List.{filter}
 
 -- For the choices of `Run`: the code finds the k-th of the sources that may go on. It takes that of index k among those that have begun and
 -- may go on. Past the end of that list it takes the next source that begins.
+-- Names: `f`: all sources as the code keeps them. `k`: the number of a job in the plan. `jobs`: the jobs of the sources, in plan order.
+-- `may_go`: a source that has begun may go on.
 
 -- an index past the end of a list finds the default, as if that were the last item
 found_after : (xs : List ℕ) (n k : ℕ) → get_or xs k n ≡ get_or (xs ++ n ∷ []) k n

@@ -43,7 +43,9 @@ use Rattle.std.proofs.lemmas.Cmp.{nat_eq_equiv}
 -- or a test of source numbers. `o` says that the run is between blocks. `left` says whether a source at this stage has more to do.
 -- `stage_in f k` is the stage of source k. `count n p` is how many numbers below n pass p. `asks k job s` is the next step of a job at this
 -- stage. `listed n p` is the numbers below n that pass p. `inside` says whether a block is open at this stage. `next_of` is the step that
--- the code asks for.
+-- the code asks for. `Going jobs N f E`: a source is in progress. `Kept plan N p`: what is known of every run. `IsNextOf plan N E b k
+-- asked`: the next step is one of source k of those that may go on. `test`: whether source k may go on after these blocks, by the stages of
+-- the code. `BetweenBlocks plan N E`: the events are whole blocks of the sources.
 
 -- a test whose negation holds fails
 out_of : (t : Bool) → not t ≡ true → t ≡ false
@@ -199,6 +201,7 @@ where_is plan N p k = at (stands plan N p.room p k.some (filled_at plan N p k) k
     })
     sources t phase g false e = inl (record { phase = phase; going = g; out = e })
 
+    -- behind the sources nothing may be chosen: the run goes on as one whose choice is closed
     following : (t : Stands plan N p.room p) (q : Phase) → p.phase ≡ q → between_blocks q p.fleet ≡ false → Following plan N t.c.events
         → IsOpen plan N p ⊎ IsClosed plan N p
     following t q phase e z = inr (record {

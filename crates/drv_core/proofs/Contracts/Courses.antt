@@ -51,7 +51,9 @@ use Rattle.std.specs.Option.{option_to_list}
 -- source (or of the link) at hand. `a` is the answer to the step. `t` is the value of a test, so that `by` can go by both cases. `s` is a
 -- step. `p` is a phase. `n` and `files` are numbers of events. `asked` takes a step out of its option. `run_code` is the greatest code of
 -- events. `left` says whether a source at this stage has more to do. `link_by` is the link's job if all codes so far are 0. `no_job` is a
--- job without commands. `stage_in f k` is the stage of source k. `asks k job s` is the next step of a job at this stage.
+-- job without commands. `stage_in f k` is the stage of source k. `asks k job s` is the next step of a job at this stage. `most_of`: the
+-- most events of the sources. `needed`: the most events of all jobs and of the link. `HoldsAt`: what is known in a phase. `first_cost`: the
+-- most events of a job's story. `AtEnd plan N failed c`: i files are removed, and the next one is to be removed.
 
 -- no group of the plan is empty
 pub record FilledPlan (plan : Plan) : Type 0 where

@@ -47,7 +47,9 @@ use Rattle.std.specs.Prelude.{⊤, option_map, replicate, slice_set}
 -- the files that are still to be removed. `room` is the room for events. `s` is the step of the answer. `due_index` is the code's search
 -- for the next file to be removed. `run_code` is the greatest code of events. `no_job` is a job without commands. `tally k E` is how many
 -- temporaries of job k were claimed. `link_by` is the link's job if all codes so far are 0. `after job s a` is the stage after the answer.
--- `is_less` and `same` turn a true test of numbers into `<` and `≡`.
+-- `is_less` and `same` turn a true test of numbers into `<` and `≡`. `link_of`: the link's job. `no_leftover`: a file where a list has
+-- none. `to_remove`: the files that are still to be removed, if these paths are gone. `none`: whether a list is empty. `noting`: an answer
+-- is noted.
 
 -- What the code's run and the course have in common in every phase. `code` is the greatest code so far. `room_is` says that the room for
 -- events stays. `files` are all files that may be left, by number. `many` is the number of sources. `counted` says that the claims are
@@ -138,6 +140,7 @@ removing_matches plan room p x from c due a is = by (nat_lt (due_index x from (d
     f : Found x (drop from x.files) (due_index x from (drop from x.files))
     f = found x from (drop from x.files) refl
 
+    -- what the code counts is not changed by the search
     alike : (q : Phase) → Alike plan room (record p { leftovers = seeking x from; phase = q }) (record c { phase = q; due = due })
     alike q = record {
       fleet = a.fleet;
@@ -149,6 +152,7 @@ removing_matches plan room p x from c due a is = by (nat_lt (due_index x from (d
       counted = record { sizes = a.counted.sizes; counts = a.counted.counts };
     }
 
+    -- a file is due: it is the one that the definition removes next
     some : due_index x from (drop from x.files) < length x.files → InEnd (seeking x from) due
     some lt = record {
       within = lt;
@@ -157,6 +161,7 @@ removing_matches plan room p x from c due a is = by (nat_lt (due_index x from (d
           (due_index x from (drop from x.files)) (drop (due_index x from (drop from x.files) + 1) x.files)));
     }
 
+    -- by whether one is due, which the code and the definition find alike
     shows : (t u : Bool) → t ≡ u → (t ≡ true → due_index x from (drop from x.files) < length x.files)
         → Matches plan room (record p { leftovers = seeking x from; phase = if t then Removals else Done })
         (record c { phase = if not u then Done else Removals; due = due })
@@ -267,6 +272,7 @@ flown_matches plan room p c phase a h = subst (λ (t : Bool). Matches plan room 
     ran None t e is = refl
     ran (Some job) t e is = ap (λ (u : Bool). if u then job else no_job) (e ∙ is)
 
+    -- where one is not, a link without commands takes its place
     not_ran : (l : Option Job) → nat_eq (run_code c.events) 0 ≡ false → link_by l (run_code c.events) ≡ no_job
     not_ran None e = refl
     not_ran (Some job) e = ap (λ (u : Bool). if u then job else no_job) e
@@ -284,6 +290,7 @@ flown_matches plan room p c phase a h = subst (λ (t : Bool). Matches plan room 
       counted = record { sizes = a.counted.sizes; counts = a.counted.counts };
     }
 
+    -- the same where the link does not run
     end_alike : Alike plan room p (record c { link = Ended })
     end_alike = record {
       fleet = a.fleet;
@@ -295,6 +302,7 @@ flown_matches plan room p c phase a h = subst (λ (t : Bool). Matches plan room 
       counted = a.counted;
     }
 
+    -- by whether all codes are 0: the link begins, or the removals
     left_by : (t : Bool) → nat_eq (run_code c.events) 0 ≡ t
         → Matches plan room (if t then linked (record p { leftovers = record p.leftovers { linked = true } }) else removing_first p)
         (following_sources plan (link_by plan.link (run_code c.events)) c)
@@ -355,6 +363,7 @@ fresh_matches plan N room = flown_matches plan room (first_run plan N room)
     in_zeros (x ∷ xs) h zero = h 0 (omega arith)
     in_zeros (x ∷ xs) h (suc k) = in_zeros xs (λ i lt. h (suc i) (omega (arith, lt))) k
 
+    -- before the first event no claim is counted
     nothing : (k : ℕ) → get_or {A = ℕ} (replicate (length plan.jobs) 0 ++ 0 ∷ []) k 0 ≡ 0
     nothing k = in_zeros (replicate (length plan.jobs) 0)
         (λ i lt. get_or-replicate (length plan.jobs) i 0 0
@@ -468,11 +477,13 @@ step_matches plan N room p c s reply h m is kind =
         let no = claims_of_other k (length plan.jobs) job t s reply (apart k (length plan.jobs) lt) e in
         omega (arith, more, no, none)
 
+    -- a step of the sources leaves no file for the end
     in_sources : InSources plan p c → tally (length plan.jobs) (c.events ++ event s reply ∷ []) ≡ 0
         → InSources plan (record (kept p s reply) { fleet = taken plan.jobs p.fleet reply })
         (record c { events = c.events ++ event s reply ∷ []; fleet = taken plan.jobs c.fleet reply })
     in_sources here none = record { link = here.link; linked = z.linked ∙ here.linked; gone = z.gone ∙ here.gone; unclaimed = none }
 
+    -- by whether the removal failed: its report comes next, or the next removal
     removal_by : (t : Bool) → InEnd (noting p.leftovers s reply) c.due
         → Matches plan room (if t then record (kept p s reply) { phase = Report } else removing_next (kept p s reply))
         (if t then record c { events = c.events ++ event s reply ∷ []; phase = Report }
@@ -492,6 +503,7 @@ step_matches plan N room p c s reply h m is kind =
     }
     removal_by false here = next_matches plan room (kept p s reply) (record c { events = c.events ++ event s reply ∷ [] }) l here
 
+    -- after a step of the link the code and the course have the same stage of it
     link_alike : Alike plan room (record (kept p s reply) { link = link_after plan.link p.link reply })
         (record c { events = c.events ++ event s reply ∷ []; link = after (link_of plan.link) c.link reply })
     link_alike = record {

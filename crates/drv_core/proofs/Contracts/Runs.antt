@@ -34,7 +34,8 @@ use Rattle.std.specs.Vec.{vec_capacity}
 -- and not ended. `a` is the answer to the step. `w` is the run of the code before, `v` after. `r` is what a caller sees of it. `s` is a
 -- step. `o` is the next step, if there is one. `i` is the number of a choice. `n` is the exit status, or a number of choices. `pass_codes`
 -- says how the codes of a run make its status. `next_of` is the step that the code asks for. `Windowed plan N o E` says that E is a whole
--- run with these answers.
+-- run with these answers. `run_state_of`: the code's run. `IfMake`: what holds of the next step, and of the status. `status_from`: the
+-- status for the greatest code of a run. `IfDone`: what holds of the status. `action_of`: the next step, or else the status.
 
 -- what the code relies on: each index is in its list
 pub is_ready : (plan : Plan) (w : CodeRun) → Stands plan w → Ready plan (run_state_of w)

@@ -43,7 +43,9 @@ use Rattle.std.proofs.lemmas.List.{get_or_past}
 -- and not ended. `p` is the run as the code keeps it. `a` is the answer to the step. `s` is a step. `room` is the room for events.
 -- `next_of` is the step that the code asks for. `between_blocks` says whether another source may be chosen. `left` says whether a source at
 -- this stage has more to do. `has k bs` says whether source k has a block among `bs`. `Filled` says that no group of a job is empty.
--- `no_job` is a job without commands. `stage_in f k` is the stage of source k.
+-- `no_job` is a job without commands. `stage_in f k` is the stage of source k. `IsWhole plan N E`: E is a whole run, with some answers.
+-- `needed`: the most events of all jobs and of the link. `FilledPlan plan`: no group of the plan is empty. `fits`: whether an answer fits
+-- the step after these events. `same_next`: the code and the course have the same next step.
 
 -- there is a course that matches the code's position, and what is known of it
 pub record Stands (plan : Plan) (N room : ℕ) (p : RunState) : Type 0 where
@@ -100,6 +102,7 @@ chosen plan N room p k t lt = by (between_blocks p.phase p.fleet) refl lt
       counted = t.match.alike.counted;
     }
 
+    -- a choice changes the fleet alone, so each phase keeps what it knows
     here : (q : Phase) → between_blocks q t.c.fleet ≡ true → InPhase q plan p t.c
         → InPhase q plan (record p { fleet = selected plan.jobs p.fleet k }) (record t.c { fleet = selected plan.jobs t.c.fleet k })
     here Sources e h = record { link = h.link; linked = h.linked; gone = h.gone; unclaimed = h.unclaimed }

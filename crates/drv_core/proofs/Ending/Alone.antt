@@ -17,10 +17,11 @@ use Rattle.std.proofs.Common.{sym, zero, ℕ}
 -- For the link, which runs alone: after each event, the events so far are the beginning of the link's story. (`Alone` is for one job what
 -- `Running` is for the sources.)
 -- Names: `E` is the events so far. `job` is the job of the source (or of the link) at hand. `k` is the number of a job in the plan. `s` is
--- a source's stage before. `t` is the value of a test, so that `by` can go by both cases. `events_of` lists the events of blocks.
--- `open_of k job s` is the events so far of the block that is open at stage s. `begin job` is a job's first stage. `asks k job s` is the
--- next step of a job at this stage. `asked` takes a step out of its option. `after job s a` is the stage after the answer. `inside` says
--- whether a block is open at this stage.
+-- a source's stage before. `t` is the value of a test, so that `by` can go by both cases. `events_of` lists the events of blocks. `open_of
+-- k job s` is the events so far of the block that is open at stage s. `begin job` is a job's first stage. `asks k job s` is the next step
+-- of a job at this stage. `asked` takes a step out of its option. `after job s a` is the stage after the answer. `inside` says whether a
+-- block is open at this stage. `Path`: the blocks lead from s to m. `ToldStory k job bs`: complete answers whose story these blocks are.
+-- `base`: the stage at which the open block began.
 
 -- The events so far are whole blocks of the job, and the open one, up to stage s. `path` leads through the `blocks` to the stage at which
 -- the open block began. `valid` says that stage s is one of the job.
@@ -147,6 +148,7 @@ alone_begins k job s E r = by (inside s) refl
           ∙ append-nil (events_of r.blocks)) ∙ sym (events_both r.blocks l.more) ∙ ap (λ x. events_of x) l.told.is;
     }
 
+    -- inside a block: that block is closed, and the rest of the story follows
     into : (c : Closes k job s) → Leads k job (r.blocks ++ (open_of k job s ++ c.rest) ∷ []) → AloneBegins k job E
     into c l = record {
       a = l.told.a;

@@ -43,7 +43,10 @@ use Rattle.std.specs.Option.{option_to_list}
 -- is removed next. `l` and `due` are files to be removed. `failed` says whether the removal of file i failed, so that its report comes
 -- next. `claimed` gives the number of claims of each job. `no_job` is a job without commands. `files_from` is the leftover files of jobs.
 -- `due_files` is the files to be removed at the end, by the counts of claims. `tally k E` is how many temporaries of job k were claimed.
--- `link_by` is the link's job if all codes so far are 0. `run_code` is the greatest code of events.
+-- `link_by` is the link's job if all codes so far are 0. `run_code` is the greatest code of events. `AllFiles`: each of these files is at a
+-- place of the plan. `file_at`: the i-th of the files that are removed at the end. `Ending plan N i failed E`: the sources and the link are
+-- done, and of the files to be removed i are removed. `first_cost`: the most events of a job's story. `pipe_pending`: at the beginning of a
+-- run no pipe is pending.
 
 -- the most events of the sources
 abbrev pub most_of : Plan → ℕ
@@ -155,6 +158,7 @@ link_ends plan N c job is k = removing_holds plan N 0 c (due_files plan job (λ 
     files = files_are plan N 0 false c.events (end_of_link plan N (most_of plan + first_cost job) job c.events k)
         ∙ ap (λ x. due_files plan x (λ j. tally j (k.sources ++ k.own))) link ∙ ap (λ E. due_files plan job (λ j. tally j E)) (sym k.split)
 
+    -- the events up to there, and two for each file, are within the room
     bound : length c.events + 2 *
         (length (end_files plan N 0 false c.events (end_of_link plan N (most_of plan + first_cost job) job c.events k)) - 0) ≤ needed plan
     bound =

@@ -27,7 +27,8 @@ use Rattle.std.specs.Prelude.{replicate}
 -- Names: `plan` is the plan of the run: the jobs of its sources, and perhaps a link. `x` is the leftover files, with what the code counts
 -- and marks of them. `job` is the job of the source (or of the link) at hand. `k` is the number of a job in the plan. `t` is the value of a
 -- test, so that `by` can go by both cases. `files_from` is the leftover files of jobs. `tally k E` is how many temporaries of job k were
--- claimed.
+-- claimed. `left_file`: whether a file is due. `all_files`: the files of the sources, then of the link. `number_in`: the number of a path
+-- among these files. `job_files`: the files of a job that makes calls.
 
 -- the link's job, by whether the code has noted that the link was run
 pub data LinkNoted (plan : Plan) (x : Leftovers) : Job → Type 0 where

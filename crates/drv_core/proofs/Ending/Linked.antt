@@ -40,7 +40,9 @@ use Rattle.std.specs.Option.{option_to_list}
 -- by both cases. `i` is the number of a file to be removed. `failed` says whether its removal failed. `tally k E` is how many temporaries
 -- of job k were claimed. `asks k job s` is the next step of a job at this stage. `asked` takes a step out of its option. `removed_at_end`
 -- is the files that are removed at the end. `claimed_count` is how many claims succeeded. `link_run` is the link's job, if every source
--- succeeded. `no_job` is a job without commands.
+-- succeeded. `no_job` is a job without commands. `AloneRan k job E`: the events are the story of complete answers. `IsBeginning plan N E`:
+-- E is the beginning of a whole run. `answers`: the answers of sources, link and removals at the end. `cost`: the most events that can
+-- still come from this stage.
 
 -- The link is at stage s, after the events of the sources and some of its own. The events are those of the `sources`, which are a whole run
 -- (`ran`), followed by the link's `own` (`split`), which are `alone` a beginning of its story. `runs` says that the link has this job after
@@ -217,6 +219,7 @@ files_are plan N i failed E e = due_at_end plan (answers e.ran.run.answers e.lin
         let all = both j in
         omega (arith, front, back, all)
 
+    -- the claims of the link are those that the events count for it
     last : tally (length plan.jobs) (e.sources ++ e.own) ≡ claimed_count e.link.a.claims
     last =
         let front : tally (length plan.jobs) e.sources ≡ 0 = ap (λ l. tally (length plan.jobs) l) e.ran.events

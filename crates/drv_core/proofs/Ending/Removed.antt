@@ -22,7 +22,9 @@ use Rattle.std.specs.Prelude.{⊤, slice_set}
 -- of a test, so that `by` can go by both cases. `i` is the index of a file. `ls` is the leftover files from that one on. `claimed` is the
 -- code's counts of claims, one for each job. `sources` is the number of sources. `linked` says whether the link runs. `f` is a file. `fs`
 -- is files. `seen` is the paths that were seen. `each_once` keeps each path once, at its first place. `due_index` is the code's search for
--- the next file to be removed.
+-- the next file to be removed. `temp_files`: the temporaries of job k, from number i on. `marked_files`: the marked files of job k, from
+-- number i on. `to_remove`: the files that are still to be removed, if these paths are gone. `no_leftover`: a file where a list has none.
+-- `place_in`: the place of a file.
 
 -- the code finds the next file
 

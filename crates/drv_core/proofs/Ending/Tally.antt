@@ -39,7 +39,9 @@ use Rattle.std.proofs.lemmas.Cmp.{nat_eq_equiv}
 -- the jobs. `claimed` gives the number of claims of each job. `events_of` lists the events of blocks. `tally k E` is how many temporaries
 -- of job k were claimed. `claimed_count` is how many claims succeeded. `of k bs` is the blocks of source k among `bs`. `group_blocks` is
 -- the blocks of groups: of each its starts, then its waits. `wait_blocks` is the blocks of a group's waits. `own_removals` is the blocks in
--- which a failed job removes its failure files.
+-- which a failed job removes its failure files. `total`: a sum over events. `summed`: the sum of f over the numbers below n. `no_answers`:
+-- the answers of a job without calls. `JobAnswers`: the answers to a job's claims, of its groups, and to the removals of its failure files.
+-- `whole_jobs`: the answers of all jobs are complete.
 
 -- in the events of a story
 
@@ -224,6 +226,7 @@ sources_tally jobs N blocks run k lt = blocks_total (length jobs) (claims_in k) 
     (λ j. if nat_eq j k then claimed_count (get_or run.answers j no_answers).claims else 0) (λ j below. one j below)
     ∙ summed_only (length jobs) k (λ j. claimed_count (get_or run.answers j no_answers).claims) lt
   where
+    -- the claims in the blocks of a source: its own job's, or none
     one : (j : ℕ) → j < length jobs
         → tally k (events_of (of j blocks)) ≡ (if nat_eq j k then claimed_count (get_or run.answers j no_answers).claims else 0)
     one j below = ap (λ l. tally k (events_of l)) (subst

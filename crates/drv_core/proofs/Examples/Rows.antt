@@ -29,6 +29,12 @@ use Rattle.std.specs.Prelude.{map}
 
 -- Examples of runs, which the prover computes from the definitions. NAME_whole: whether answers are complete. NAME_come: whether an order
 -- of blocks is permitted in a window. Others are the events in that order, the most events that a plan needs, and the status.
+-- Names: `N`: the window: at most so many sources have begun and not ended. `k`: the number of a job in the plan. `event`: a step and its
+-- answer. `has`: whether source k has a block. `count`: how many sources below n pass the test. `nowhere`: no source has more blocks to
+-- come. `whole`: each answer is there once, and nothing else. `Answers`: the answers of the sources, of the link, and of the removals at
+-- the end. `Told A`: an answer, and whether its report was written, which counts only if there is a report. `SourceBlock`: a block, with
+-- the number of its source. `JobAnswers`: the answers to a job's claims, of its groups, and to the removals of its failure files.
+-- `status_of`: the status of a run with these answers.
 
 -- the rules of a window as a test
 abbrev may_come : ℕ → ℕ → List SourceBlock → List SourceBlock → ℕ → Bool → Bool

@@ -19,7 +19,8 @@ use Rattle.std.specs.List.{list_any}
 -- child, or 1 for a child that did not end by itself, and for a failed claim or start.
 -- Names: `N` is the window: at most so many sources have begun and not ended. `t` is the value of a test, so that `by` can go by both
 -- cases. `a` is a code. `run_code` is the greatest code of events. `events_of` lists the events of blocks. `of k bs` is the blocks of
--- source k among `bs`. `code_of` is the code of one event.
+-- source k among `bs`. `code_of` is the code of one event. `greatest`: the greatest of what `f` gives, or 0 of an empty list. `is_claimed`:
+-- whether a claim succeeded. `is_started`: whether a start succeeded. `job_code`: the greatest code of a job.
 
 -- a code that is not 0 is greater than 0
 some_code : (a : ℕ) → nat_eq a 0 ≡ false → 0 < a

@@ -15,7 +15,9 @@ use Rattle.std.proofs.Common.{suc, take, ℕ}
 -- order up to the first failure, so their number says which they are.
 -- Names: `k` is the number of a job in the plan. `t` is the value of a test, so that `by` can go by both cases. `claimed_count` is how many
 -- claims succeeded. `whole_groups` says that answers are complete up to the first group with a fault. `claims_failed` says whether a claim
--- of the job failed. `and_first` and `and_second` give the parts of a true `&&`.
+-- of the job failed. `and_first` and `and_second` give the parts of a true `&&`. `none`: whether a list is empty. `whole_claims`: up to the
+-- first that isn't Claimed. `claimed_temps`: the claimed temporaries of job k, from number i on. `temp_files`: the temporaries of job k,
+-- from number i on.
 
 -- without claims no temporary was claimed
 no_temps : (k i : ℕ) (ts : List Temp) → claimed_temps k i ts [] ≡ []

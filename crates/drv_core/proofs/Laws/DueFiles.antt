@@ -17,7 +17,8 @@ use Rattle.std.specs.Prelude.{⊤, nat_eq}
 -- Names: `plan` is the plan of the run: the jobs of its sources, and perhaps a link. `job` is the job of the source (or of the link) at
 -- hand. `k` is the number of a job in the plan. `t` is the value of a test, so that `by` can go by both cases. `xs` is files. `claimed`
 -- gives the number of claims of each job. `each_once` keeps each path once, at its first place. `files_from` is the leftover files of jobs.
--- `no_job` is a job without commands.
+-- `no_job` is a job without commands. `temp_files`: the temporaries of job k, from number i on. `marked_files`: the marked files of job k,
+-- from number i on. `job_at`: the job of a number. `job_files`: the files of a job that makes calls.
 
 -- each of these files is at a place of the plan
 abbrev pub AllFiles : Plan → List File → Type 0

@@ -43,6 +43,8 @@ use Rattle.std.specs.Prelude.{⊤}
 -- events these are. `events_of` lists the events of blocks. `story k job a` is all blocks of job k that these answers make. `run_code` is
 -- the greatest code of events. `no_job` is a job without commands. `group_blocks` is the blocks of groups: of each its starts, then its
 -- waits. `wait_blocks` is the blocks of a group's waits. `own_removals` is the blocks in which a failed job removes its failure files.
+-- `is_work_of`: whether a step is a claim, a start or a wait of a job. `no_answers`: the answers of a job without calls. `codes_in`: those
+-- codes of all events. `answer_code`: the code of an answer.
 
 -- a claim, a start or a wait of job j, or another event, which has no code
 abbrev IsAt : ℕ → RunEvent → Type 0
@@ -185,6 +187,7 @@ fails_where plan N o E w k lt = job_is (get_or o.jobs k no_answers) ∙ ap (λ n
         (apart_above (length plan.jobs) k lt) (of_story (length plan.jobs) (link_run plan.link o.jobs) o.link))
         (no_last (work_code k) (λ p x t. (refl, refl)) (removed_at_end plan o) o.last)
 
+    -- the greatest code among the events of job k is the job's
     codes_are : greatest (λ c. c) (codes_in k E) ≡ job_code (get_or o.jobs k no_answers)
     codes_are = ap (λ l. greatest (λ c. c) l)
         (halves (work_code k) plan N o E w k (λ j job a other. other_codes j k (events_of (story j job a)) other (of_story j job a))

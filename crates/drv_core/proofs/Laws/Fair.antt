@@ -30,7 +30,9 @@ use Rattle.std.proofs.Common.{nat_eq, nat_lt, refl, subst, sym, ℕ}
 -- events of blocks. `group_blocks` is the blocks of groups: of each its starts, then its waits. `whole_groups` says that answers are
 -- complete up to the first group with a fault, and `whole_group` that those of one group are. `own_removals` is the blocks in which a
 -- failed job removes its failure files. `claims_failed` says whether a claim of the job failed. `wait_blocks` is the blocks of a group's
--- waits. `starts_block` is the events of a group's starts.
+-- waits. `starts_block` is the events of a group's starts. `total`: a sum over events. `none`: whether a list is empty. `Told A`: an
+-- answer, and whether its report was written, which counts only if there is a report. `group_failed`: whether a start or a wait of the
+-- group failed.
 
 -- of blocks before which s children were started and w were waited for: each wait has a child to wait for, and at the end none is left
 abbrev pub Fair : ℕ → ℕ → List Block → Type 0

@@ -36,7 +36,9 @@ use Rattle.std.specs.List.{list_any}
 -- both cases. `cs` is groups of commands. `rest` is the blocks that follow. `sift f bs` is what `f` picks out of the events of blocks.
 -- `story k job a` is all blocks of job k that these answers make. `group_blocks` is the blocks of groups: of each its starts, then its
 -- waits. `link_run` is the link's job, if every source succeeded. `whole_groups` says that answers are complete up to the first group with
--- a fault. `no_job` is a job without commands. `whole_job` says that a job's answers are complete.
+-- a fault. `no_job` is a job without commands. `whole_job` says that a job's answers are complete. `none`: whether a list is empty.
+-- `calls_of`: the claims and starts of job k in events. `Told A`: an answer, and whether its report was written, which counts only if there
+-- is a report. `nothing`: two lists without an item have none together.
 
 -- the claims and starts of job k that an event makes
 abbrev calls : ℕ → RunEvent → List Step
@@ -150,6 +152,7 @@ own_calls k job a filled busy whole = calls_in k job.groups a.claims a.groups (o
     (and_first (whole_claims job.temps a.claims && (if claims_failed a then none a.groups else whole_groups job.groups a.groups))
     (nat_eq (length a.removals) (length (removed_by_job job a))) answered))
   where
+    -- the answers of the job are whole: claims, groups, removals
     answered : (whole_claims job.temps a.claims && (if claims_failed a then none a.groups else whole_groups job.groups a.groups)
         && nat_eq (length a.removals) (length (removed_by_job job a))) ≡ true
     answered = sym (ap (λ (t : Bool). if t then none a.claims && none a.groups && none a.removals else whole_claims job.temps a.claims

@@ -18,7 +18,9 @@ use Rattle.std.proofs.lemmas.Cmp.{nat_eq_equiv}
 -- is the number of any source. `t` is the value of a test, so that `by` can go by both cases. `n` is the number of sources. `xs` is the
 -- answers of the jobs. `of k bs` is the blocks of source k among `bs`. `has k bs` says whether source k has a block among `bs`. `in_flight`
 -- says whether a child was started in these blocks and not waited for. `count n p` is how many numbers below n pass p. `is_less` and `same`
--- turn a true test of numbers into `<` and `≡`. `and_first` and `and_second` give the parts of a true `&&`.
+-- turn a true test of numbers into `<` and `≡`. `and_first` and `and_second` give the parts of a true `&&`. `SourceBlock`: a block, with
+-- the number of its source. `nowhere`: no source has more blocks to come. `TellStories`: the blocks of each source, from source k on, are
+-- its story. `whole_jobs`: the answers of all jobs are complete.
 
 -- a source whose list of blocks is empty has no block
 absent : (j : ℕ) (bs : List SourceBlock) → of j bs ≡ [] → has j bs ≡ false
@@ -47,6 +49,7 @@ may n k before later wait lt ended waiting here done flies = record {
     either true = refl
     either false = refl
 
+    -- where k has a block, no other source is between its first block and its last
     others : (j : ℕ) → nat_eq j k ≡ false → ((has j before || nat_eq j k) && (has j later || nowhere j)) ≡ false
     others j e = by (nat_lt j k) refl
       where
@@ -54,6 +57,7 @@ may n k before later wait lt ended waiting here done flies = record {
         by true is = rw (absent j later (ended j (is_less j k is))) (neither (has j before || nat_eq j k))
         by false is = rw (absent j before (waiting j (grind (arith, nat_tests))), e) refl
 
+    -- no other source has a child in flight
     still : (j : ℕ) → nat_eq j k ≡ false → in_flight (of j before) ≡ false
     still j e = by (nat_lt j k) refl
       where
@@ -61,6 +65,7 @@ may n k before later wait lt ended waiting here done flies = record {
         by true is = done j (is_less j k is)
         by false is = rw (waiting j (grind (arith, nat_tests))) refl
 
+    -- before a wait, the one source that can has a child in flight
     fly : wait ≡ true → count n (λ j. in_flight (of j before)) ≡ min 1 (count n (λ j. has j later || nowhere j))
     fly e =
         let most : count n (λ j. in_flight (of j before)) ≤ 1 = count_other n k (λ j. in_flight (of j before)) still in
@@ -94,6 +99,7 @@ walk n m before (b ∷ after) upto order fair = (
     done j below = settled (of j before) (subst (λ l. Fair 0 0 l) (of_append j before (b ∷ after)
         ∙ ap (λ l. of j before ++ l) (ended j below) ∙ append-nil (of j before)) (fair j))
 
+    -- the blocks of a source: those before, this one, those after
     split : of b.source (before ++ b ∷ after) ≡ of b.source before ++ b.block ∷ of b.source after
     split = of_append b.source before (b ∷ after)
         ∙ ap (λ (t : Bool). of b.source before ++ (if t then b.block ∷ of b.source after else of b.source after))

@@ -44,7 +44,9 @@ use Rattle.std.specs.Prelude.{⊤}
 -- the answers to removals. `events_of` lists the events of blocks. `sift f bs` is what `f` picks out of the events of blocks.
 -- `end_removals` is the blocks of the removals at the end. `story k job a` is all blocks of job k that these answers make. `own_removals`
 -- is the blocks in which a failed job removes its failure files. `link_run` is the link's job, if every source succeeded. `removed_at_end`
--- is the files that are removed at the end.
+-- is the files that are removed at the end. `none`: whether a list is empty. `Told A`: an answer, and whether its report was written, which
+-- counts only if there is a report. `JobAnswers`: the answers to a job's claims, of its groups, and to the removals of its failure files.
+-- `removed_by_job`: the files that a failed job removes itself, if it started a command. `AllRemove`: each event is a removal or a report.
 
 -- the removals of job k's own failure files that an event makes
 abbrev own : ℕ → RunEvent → List Place
@@ -337,6 +339,7 @@ removes_by_rule plan N o E w = record {
     files : List File
     files = removed_at_end plan o
 
+    -- the last removals have an answer each
     lengths : length o.last ≡ length (removed_at_end plan o)
     lengths = same (length o.last) (length (removed_at_end plan o))
         (and_second (whole_jobs plan.jobs o.jobs && whole_job (link_run plan.link o.jobs) o.link)
@@ -345,6 +348,7 @@ removes_by_rule plan N o E w = record {
     others : (k j : ℕ) (job : Job) (a : JobAnswers) → nat_eq j k ≡ false → sift (own k) (story j job a) ≡ []
     others k j job a other = removals_alone k j job a ∙ other_removals k j 0 a.removals other
 
+    -- each source removes its own files by the rule
     sources : (k : ℕ) → k < length plan.jobs → RemovesOwn E k (get_or plan.jobs k no_job) (get_or o.jobs k no_answers)
     sources k lt = halves (own k) plan N o E w k (others k)
         ∙ only_first (ap (λ l. sift (own k) l) (story_is plan N o E w k lt) ∙ own_story k (get_or plan.jobs k no_job)
@@ -353,6 +357,7 @@ removes_by_rule plan N o E w = record {
         ∙ nothing (others k (length plan.jobs) (link_run plan.link o.jobs) o.link (apart_above (length plan.jobs) k lt))
         (no_own_at_end k (removed_at_end plan o) o.last (at_end plan o)))
 
+    -- so does the link
     link : RemovesOwn E (length plan.jobs) (link_run plan.link o.jobs) o.link
     link = halves (own (length plan.jobs)) plan N o E w (length plan.jobs) (others (length plan.jobs))
         ∙ ap (λ l. sift (own (length plan.jobs)) l ++ sift (own (length plan.jobs)) (after_sources plan o))

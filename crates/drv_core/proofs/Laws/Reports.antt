@@ -25,7 +25,8 @@ use Rattle.std.proofs.Common.{subst, sym, ℕ}
 -- For report_law: in a whole run each failure is followed directly by its report, and there is no other report. That is shown of each kind
 -- of block (`Leads`): a claim, the starts of a group, a wait, and a removal.
 -- Names: `k` is the number of a job in the plan. `t` is the value of a test, so that `by` can go by both cases. `i` is the index of an
--- event's place in its group. `events_of` lists the events of blocks.
+-- event's place in its group. `events_of` lists the events of blocks. `Reported`: Each answer that requires a report is followed directly
+-- by it, and there is no other report. `after_sources`: the events after the sources.
 
 -- the law holds of events that begin with this block, if it holds of the events after it
 abbrev Leads : Block → Type 0

@@ -40,7 +40,10 @@ use Rattle.std.specs.Prelude.{slice_get}
 -- group's number too. `i` is the next member of a group. `cs` is groups of commands. `xs` is answers. `group_at job g` is the commands of
 -- the group. `group_blocks` is the blocks of groups: of each its starts, then its waits. `link_run` is the link's job, if every source
 -- succeeded. `starts_block` is the events of a group's starts. `whole_groups` says that answers are complete up to the first group with a
--- fault. `no_job` is a job without commands. `story k job a` is all blocks of job k that these answers make.
+-- fault. `no_job` is a job without commands. `story k job a` is all blocks of job k that these answers make. `none`: whether a list is
+-- empty. `job_at`: the job of a number. `started_in`: the started commands of job k, in the order of the events. `JobAnswers`: the answers
+-- to a job's claims, of its groups, and to the removals of its failure files. `GroupAnswers`: the starts of a group's commands, and a wait
+-- for each started command. refused.
 
 -- the commands of job k that these blocks start
 abbrev seen : Plan → ℕ → List Block → List Command
@@ -95,6 +98,7 @@ starts plan k g size i refused cs (Started id ∷ xs) at = ap (λ l. l ++ starte
         ≡ started_in_group ds (Started id ∷ xs)
     by [] first later following = nothing (ap option_to_list first) (later [] following ∙ none_left xs)
       where
+        -- a group without commands starts nothing
         none_left : (ys : List StartAnswer) → started_in_group [] ys ≡ []
         none_left [] = refl
         none_left (y ∷ ys) = refl
@@ -192,6 +196,7 @@ own_story plan k job a here whole = in_story plan k k job a ∙ by (none job.gro
     claimed false h busy = groups plan k 0 job.groups a.groups
         (λ m. ap (λ i. group_at (job_at plan k) i) (let is : 0 + m ≡ m = omega arith in is) ∙ ap (λ j. group_at j m) (here busy)) h
 
+    -- where no group started anything, it doesn't matter whether the job has groups
     nothing_started : (t : Bool) → started_in_groups job.groups a.groups ≡ []
         → (if t then [] else started_in_groups job.groups a.groups) ≡ []
     nothing_started true e = refl
@@ -265,18 +270,21 @@ started_first plan N o E w = each 0 plan.jobs o.jobs (jobs_whole plan N o E w) w
       every = λ well. is ∙ every_one job a whole well;
     }
 
+    -- what a source starts in the events is what its answers say
     source : (k : ℕ) (job : Job) (a : JobAnswers) → k < length plan.jobs → job_at plan k ≡ job → of k w.blocks ≡ story k job a
         → whole_job job a ≡ true → started_in plan k E ≡ started job a
     source k job a lt here told whole = in_halves plan N o E w k ∙ only_first (ap (λ l. seen plan k l) told
         ∙ own_story plan k job a (λ busy. here) whole) (ends k ∙ other_story plan k (length plan.jobs) (link_run plan.link o.jobs) o.link
         (apart_above (length plan.jobs) k lt))
 
+    -- the same of the link
     link : started_in plan (length plan.jobs) E ≡ started (link_run plan.link o.jobs) o.link
     link = in_halves plan N o E w (length plan.jobs) ∙ ap (λ l. seen plan (length plan.jobs) l ++ seen plan (length plan.jobs)
         (after_sources plan o)) (none_above plan N o E w (length plan.jobs) (omega arith))
         ∙ ends (length plan.jobs) ∙ own_story plan (length plan.jobs) (link_run plan.link o.jobs) o.link
         (link_there plan.jobs plan.link o.jobs) (link_whole plan N o E w)
 
+    -- the jobs from one on, one after another
     each : (from : ℕ) (jobs : List Job) (xs : List JobAnswers) → whole_jobs jobs xs ≡ true → TellStories w.blocks from jobs xs
         → from + length jobs ≡ length plan.jobs → ((h : ℕ) → h < length jobs → job_at plan (from + h) ≡ get_or jobs h no_job)
         → EachStartsFirst plan E from (jobs ++ link_run plan.link o.jobs ∷ []) (xs ++ o.link ∷ [])

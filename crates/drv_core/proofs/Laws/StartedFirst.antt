@@ -19,7 +19,9 @@ use Rattle.std.specs.Prelude.{if◌then◌else◌}
 -- Names: `job` is the job of the source (or of the link) at hand. `a` is the answers to a job's steps. `t` is the value of a test, so that
 -- `by` can go by both cases. `rest` is the commands that follow. `gs` is groups of commands, and `xs` their answers. `failed` says whether
 -- a group failed. `whole_groups` says that answers are complete up to the first group with a fault. `claims_failed` says whether a claim of
--- the job failed. `whole_job` says that a job's answers are complete. `and_first` and `and_second` give the parts of a true `&&`.
+-- the job failed. `whole_job` says that a job's answers are complete. `and_first` and `and_second` give the parts of a true `&&`. `none`:
+-- whether a list is empty. `group_failed`: whether a start or a wait of the group failed. `started_in_group`: the commands of a group
+-- before its first refused start. `GroupAnswers`: the starts of a group's commands, and a wait for each started command. refused.
 
 -- if none of two tests holds, each fails
 or_parts : (a b : Bool) → (a || b) ≡ false → (a ≡ false) × (b ≡ false)

@@ -35,7 +35,9 @@ use Rattle.std.specs.Prelude.{⊤}
 -- member of a group. `f` gives a code for each job. `cs` is groups of commands. `run_code` is the greatest code of events. `events_of`
 -- lists the events of blocks. `of k bs` is the blocks of source k among `bs`. `group_blocks` is the blocks of groups: of each its starts,
 -- then its waits. `whole_groups` says that answers are complete up to the first group with a fault. `link_run` is the link's job, if every
--- source succeeded. `whole_job` says that a job's answers are complete.
+-- source succeeded. `whole_job` says that a job's answers are complete. `none`: whether a list is empty. `greatest`: the greatest of what
+-- `f` gives, or 0 of an empty list. `job_code`: the greatest code of a job. `Told A`: an answer, and whether its report was written, which
+-- counts only if there is a report. `JobAnswers`: the answers to a job's claims, of its groups, and to the removals of its failure files.
 
 -- the greater of a code and 0 is the code
 max_nothing : (n : ℕ) → max n 0 ≡ n
@@ -145,6 +147,7 @@ code_groups k g (c ∷ cs) (x ∷ xs) e =
     (code_waits k g 0 c x.starts x.waits this)
     ∙ ap (λ n. max (group_code x) n) (rest (group_failed x) xs others (λ w. code_groups k (g + 1) cs xs w))
   where
+    -- the groups after the first: by whether it failed, and so nothing follows
     rest : (t : Bool) (ys : List GroupAnswers) → (if t then none ys else whole_groups cs ys) ≡ true
         → (whole_groups cs ys ≡ true → run_code (events_of (group_blocks k (g + 1) cs ys)) ≡ greatest group_code ys)
         → run_code (events_of (group_blocks k (g + 1) cs ys)) ≡ greatest group_code ys

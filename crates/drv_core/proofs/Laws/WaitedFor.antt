@@ -34,7 +34,8 @@ use Rattle.std.proofs.lemmas.Grind.{flat_map-append}
 -- is the blocks of groups: of each its starts, then its waits. `story k job a` is all blocks of job k that these answers make. `link_run`
 -- is the link's job, if every source succeeded. `whole_groups` says that answers are complete up to the first group with a fault.
 -- `wait_blocks` is the blocks of a group's waits. `starts_block` is the events of a group's starts. `of k bs` is the blocks of source k
--- among `bs`.
+-- among `bs`. `Act`: the effect of an event on the children of a job. `none`: whether a list is empty. `Ascends`: Each place starts at most
+-- one child. `Waited`: From these open children on. `acts_in`: the acts of job k's children in events.
 
 -- the acts of job k in these blocks
 abbrev seen : ℕ → List Block → List Act
@@ -180,6 +181,7 @@ groups k g (c ∷ cs) (x ∷ xs) e = subst (λ l. Following g 0 l) (sym is) (gro
         (if group_failed x then none xs else whole_groups cs xs) e)))
         ∙ append_assoc (map Begins (children g 0 x.starts)) (map Awaits (children g 0 x.starts)) (seen k (group_blocks k (g + 1) cs xs))
 
+    -- the groups after the first: by whether it failed, and so nothing follows
     rest : (t : Bool) (ys : List GroupAnswers) → (if t then none ys else whole_groups cs ys) ≡ true
         → (whole_groups cs ys ≡ true → Following (g + 1) 0 (seen k (group_blocks k (g + 1) cs ys)))
         → Following (g + 1) 0 (seen k (group_blocks k (g + 1) cs ys))
@@ -274,6 +276,7 @@ waits_for_each plan N o E w k = done (by (nat_lt k (length plan.jobs)) refl)
     done : Following 0 0 (acts_in k E) → WaitsForEach k E
     done b = record { each = b.each; once = b.once }
 
+    -- job k is the link, or the link's blocks show nothing of it
     link_of : (t : Bool) → nat_eq (length plan.jobs) k ≡ t
         → Following 0 0 (seen k (story (length plan.jobs) (link_run plan.link o.jobs) o.link))
     link_of true e = subst (λ i. Following 0 0 (seen i (story (length plan.jobs) (link_run plan.link o.jobs) o.link)))

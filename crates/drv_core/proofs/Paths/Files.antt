@@ -6,7 +6,7 @@ use Rattle.std.specs.Option.{option_to_list}
 
 -- For the removals at the end: the leftover files of a plan, which are the temporaries and marked files of its sources, and then of its
 -- link.
--- Names: `files_from` is the leftover files of jobs.
+-- Names: `files_from` is the leftover files of jobs. `job_files`: the files of a job that makes calls.
 
 -- the leftover files of two lists of jobs are those of the one and those of the other
 pub files_append : (k : ℕ) (xs ys : List Job) → files_from k (xs ++ ys) ≡ files_from k xs ++ files_from (k + length xs) ys

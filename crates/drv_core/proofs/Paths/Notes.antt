@@ -19,7 +19,9 @@ use Rattle.std.specs.Cmp.Lexicographic.{pointwise, same_text}
 -- Names: `t` is the value of a test, so that `by` can go by both cases. `before` is the files that were numbered before. `find` gives the
 -- number that the code's map has for a path. `files` is the code's list of files. `n` is the number of the next file. `p` is any path.
 -- `path` is the path of the file that is added. `first` is the number of the first file of that path. `new` and `now` are the list and the
--- map after it. `place` is the place of the file. `x` is what a search finds.
+-- map after it. `place` is the place of the file. `x` is a file, an item of a list, or what a search finds. In `Noting all rest` `all` is
+-- the list, and `rest` what is left of it. `first_with`: the number of the first file with a path. `numbered_files`: each file with the
+-- number of the first file of its path. `same`: a true test for equality.
 
 -- the search continues after a list
 

@@ -11,7 +11,8 @@ use Rattle.std.specs.Prelude.{replicate, unwrap_or}
 
 -- For the removals at the end: the number of a path is that of its first file. So two paths have the same number exactly if they are equal.
 -- Names: `t` is the value of a test, so that `by` can go by both cases. `fs` is all files. `before` is the files before those at hand, and
--- `rest` the others. `f` and `g` are files of the list. `p` is a path. `i` is the number of a file.
+-- `rest` the others. `f` and `g` are files of the list. `p` is a path. `i` is the number of a file. `first_with`: the number of the first
+-- file with a path.
 
 -- the number of a path among these files
 abbrev pub number_in : List File → List ℕ → ℕ
@@ -124,6 +125,7 @@ alike fs f g i j = by (pointwise nat_eq g.path f.path) refl
         ∙ nat_eq_equiv.refl (number_in fs f.path))
     by false e = no (nat_eq (number_in fs f.path) (number_in fs g.path)) refl
       where
+        -- other paths have other numbers
         no : (u : Bool) → nat_eq (number_in fs f.path) (number_in fs g.path) ≡ u → false ≡ u
         no true h = absurd (clash (pointwise nat_eq g.path f.path) (ap (λ p. pointwise nat_eq g.path p) (one h)
             ∙ nat_list_eq_equiv.refl g.path) e)

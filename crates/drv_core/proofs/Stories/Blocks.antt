@@ -35,7 +35,9 @@ use Rattle.std.specs.List.{list_any}
 -- members it has. `why` says why a start was refused. `group_at job g` is the commands of the group. `enter_waits` is the stage of the next
 -- wait, or what follows the last. `inside` says whether a block is open at this stage. `enter_removals` is the stage of the next removal,
 -- or the end. `base s` is the stage at which the block began that is open at stage s. `enter_claims` is the stage of the next claim, or of
--- the first group. `starts_block` is the events of a group's starts.
+-- the first group. `starts_block` is the events of a group's starts. `starts_so_far`: the events of the open block. `start_event`: the
+-- starts of a group of n, from member i on. `refused_so_far`: the events of a group whose start was refused and reported. `none`: whether a
+-- list is empty.
 
 -- the children of a group's starts, up to the first refused one
 abbrev pub ids_of : List StartAnswer → List ℕ

@@ -25,7 +25,7 @@ use Rattle.std.proofs.Common.{◌≡◌, ◌<◌, ◌∙◌, Bool, false, true, 
 -- Names: `bs` is blocks of one source, in order. `job` is the job of the source (or of the link) at hand. `k` is the number of a job in the
 -- plan. `s` is a source's stage before. `m` is the source's stage after. `l` is the next block. `more` says whether the story goes on, and
 -- `wait` whether with a wait. `begin job` is a job's first stage. `events_of` lists the events of blocks. `group_at job g` is the commands
--- of the group.
+-- of the group. `Path`: the blocks lead from s to m. `none`: whether a list is empty.
 
 -- The stage t to which a source's blocks lead from its beginning; `more`: it has more to do; `wait`: its next block is a wait. `path` leads
 -- to `t`. `sound` says that a wait there has a child. `left_is` and `waits_is` give the values of `more` and `wait`.

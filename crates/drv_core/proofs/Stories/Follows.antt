@@ -28,7 +28,9 @@ use Rattle.std.specs.List.{list_any}
 -- started a child. `own_removals` is the blocks in which a failed job removes its failure files. `whole_groups` says that answers are
 -- complete up to the first group with a fault. `group_blocks` is the blocks of groups: of each its starts, then its waits. `group_at job g`
 -- is the commands of the group. `is_less` and `same` turn a true test of numbers into `<` and `≡`. `claims_failed` says whether a claim of
--- the job failed. `enter_group` is the stage of a group's first start, or the end.
+-- the job failed. `enter_group` is the stage of a group's first start, or the end. `none`: whether a list is empty. `Told A`: an answer,
+-- and whether its report was written, which counts only if there is a report. `group_failed`: whether a start or a wait of the group
+-- failed. `whole_claims`: up to the first that isn't Claimed. `any_child`: whether a command of these groups was started.
 
 -- removals
 
@@ -247,6 +249,7 @@ claims_follow k job i (c ∷ cs) gs rs claims all many = by (nat_lt i (length jo
     last [] (h ∷ hs) qs x y m = absurd cc
     last (x ∷ xs) hs qs y h m = absurd cc
 
+    -- by whether the file was claimed: the claims go on, or the story fails there
     next : (t : Bool) → is_claimed c.answer ≡ t → (if t then whole_claims (drop (i + 1) job.temps) cs else none cs) ≡ true
         → (if not t || unclaimed cs then none gs else whole_groups job.groups gs) ≡ true
         → length rs ≡ length (failed_removals (((not t || unclaimed cs) || list_any group_failed gs) && any_child gs) job)

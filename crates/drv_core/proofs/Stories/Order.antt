@@ -9,7 +9,8 @@ use Rattle.std.specs.Prelude.{⊤}
 -- Names: `bs` is blocks of several sources. `k` is the number of a job in the plan. `j` is the number of any source. `t` is the value of a
 -- test, so that `by` can go by both cases. `a` and `b` are numbers to be compared. `n` is the number of sources. `m` is a bound of source
 -- numbers. `xs` is blocks too. `lo` is the first source number. `p` is a test of source numbers. `of k bs` is the blocks of source k among
--- `bs`. `count n p` is how many numbers below n pass p.
+-- `bs`. `count n p` is how many numbers below n pass p. `SourceBlock`: a block, with the number of its source. `only`: the sources' blocks,
+-- source by source in plan order.
 
 -- the first part of a true && is true
 pub and_first : (a b : Bool) → (a && b) ≡ true → a ≡ true

@@ -15,7 +15,7 @@ use Rattle.std.specs.Prelude.{unwrap_or}
 -- For the sources and files of the code, which searches a list from an index on: what its search finds is what the definitions
 -- (`first_busy`, `due_index`) say.
 -- Names: `k` is the index at which the search begins. `xs` is the list. `due_index` is the code's search for the next file to be removed.
--- `first_busy` is the first job with something to do.
+-- `first_busy` is the first job with something to do. `busy`: whether a job has something to do.
 
 -- the index of the first item that passes, or else the length, in two ways to compute it
 or_length : {X : Type 0} (p : X → Bool) (xs : List X) → unwrap_or (position p xs) (length xs) ≡ position_or_len p xs

@@ -31,6 +31,7 @@ use Rattle.std.proofs.Common.{if◌then◌else◌, length, length-append, nat_lt
 -- job's commands. `ids` is the children of the group that were started, in order. `was` says whether an earlier group of the job started a
 -- child. `t` is the value of a test, so that `by` can go by both cases. `i` is the next member of the group. `enter_waits` is the stage of
 -- the next wait, or what follows the last. `group_at job g` is the commands of the group. `starts_block` is the events of a group's starts.
+-- `any_refused`: whether a start of a group was refused. `ids_of`: the children of a group's starts, up to the first refused one.
 
 -- from stage s on the source asks for each step of these events, takes its answer, and is at stage m after the last
 abbrev pub Replays : ℕ → Job → Stage → List RunEvent → Stage → Type 0

@@ -31,7 +31,9 @@ use Rattle.std.proofs.Common.{if◌then◌else◌, length, length-append, nat_lt
 -- whether an earlier group of the job started a child. `s` is a source's stage before. `m` is the source's stage after. `t` is the value of
 -- a test, so that `by` can go by both cases. `group_at job g` is the commands of the group. `begin job` is a job's first stage. `events_of`
 -- lists the events of blocks. `story k job a` is all blocks of job k that these answers make. `base s` is the stage at which the block
--- began that is open at stage s. `Filled` says that no group of a job is empty. `after job s a` is the stage after the answer.
+-- began that is open at stage s. `Filled` says that no group of a job is empty. `after job s a` is the stage after the answer. `Replays`:
+-- from stage s on the source asks for each step of these events. `Valid`: what a stage says of its job. `Sound`: a stage between blocks.
+-- `Path`: the blocks lead from s to m.
 
 -- the same events, from the same stage on, lead to only one stage
 pub same_end : (k : ℕ) (job : Job) (stage : Stage) (E : List RunEvent) (one other : Stage) → Replays k job stage E one

@@ -33,7 +33,9 @@ use Rattle.std.specs.List.{list_any}
 -- says that answers are complete up to the first group with a fault. `own_removals` is the blocks in which a failed job removes its failure
 -- files. `group_blocks` is the blocks of groups: of each its starts, then its waits. `enter_group` is the stage of a group's first start,
 -- or the end. `enter_claims` is the stage of the next claim, or of the first group. `group_at job g` is the commands of the group.
--- `is_less` and `same` turn a true test of numbers into `<` and `≡`.
+-- `is_less` and `same` turn a true test of numbers into `<` and `≡`. `none`: whether a list is empty. `Told A`: an answer, and whether its
+-- report was written, which counts only if there is a report. `is_claimed`: whether a claim succeeded. `GroupAnswers`: the starts of a
+-- group's commands, and a wait for each started command. refused. `wait_failed`: whether a wait shows a failure.
 
 -- the blocks lead from s to the end
 abbrev pub Walk : ℕ → Job → Stage → List Block → Type 0
@@ -395,6 +397,7 @@ claims_tell k job i (b ∷ bs) w = by (nat_lt i (length job.temps)) refl w (clai
           job)) (sym claimed);
     }
 
+    -- a claim that failed ends the story
     last : nat_lt i (length job.temps) ≡ true → (a : Told ClaimAnswer) → b ≡ claim_block k i a → is_claimed a.answer ≡ false → bs ≡ []
         → TellsClaims k job i (b ∷ bs)
     last e a is failed end = record {
@@ -416,6 +419,7 @@ claims_tell k job i (b ∷ bs) w = by (nat_lt i (length job.temps)) refl w (clai
         → m ≡ (if t then enter_claims job (i + 1) else Ended)
     leads m s t e = s.leads ∙ ap (λ (u : Bool). if u then enter_claims job (i + 1) else Ended) e
 
+    -- after a claim the story goes on with the next one
     next : nat_lt i (length job.temps) ≡ true → (m : Stage) (s : ClaimBlock k job i b m) → Walk k job m bs
         → (Walk k job (enter_claims job (i + 1)) bs → TellsClaims k job (i + 1) bs) → (t : Bool) → is_claimed s.a.answer ≡ t
         → TellsClaims k job i (b ∷ bs)
@@ -456,6 +460,7 @@ tells k job bs w = by (none job.groups) refl w
     }
     idle (c ∷ cs) e v = absurd v.1.0
 
+    -- a job with commands tells its claims first
     works : none job.groups ≡ false → TellsClaims k job 0 bs → ToldStory k job bs
     works e t = record {
       a = record { claims = t.cs; groups = t.gs; removals = t.rs };

@@ -34,7 +34,8 @@ use Rattle.std.proofs.Common.{if◌then◌else◌, length, min, nat_eq, nat_lt, 
 -- `b` is a split of the events into blocks. `i` is a source number too. `no_job` is a job without commands. `of k bs` is the blocks of
 -- source k among `bs`. `count n p` is how many numbers below n pass p. `events_of` lists the events of blocks. `begin job` is a job's first
 -- stage. `left` says whether a source at this stage has more to do. `open_of k job s` is the events so far of the block that is open at
--- stage s.
+-- stage s. `Replays`: from stage s on the source asks for each step of these events. `inside`: whether a block is open at this stage.
+-- `with_open`: the blocks of a run in progress. `count_same`: tests that agree below n count the same.
 
 -- tests that agree on all sources permit the same sources to go on
 may_go_same : (n N : ℕ) (begun begun' left left' flying flying' waits waits' : ℕ → Bool) (k : ℕ) → k < n → ((j : ℕ) → j < n → begun j
@@ -152,6 +153,7 @@ seen plan N f E filled g between = record { out = out; tests = tests }
         (running_owned (length plan.jobs) plan.jobs N g.st f.current E g.run) (between_owned plan N E between)
         (sym (open_events plan.jobs N g.st f.current E g.run) ∙ between.events)
 
+    -- the stage of each source is the one that its events so far lead to
     stage_is : (j : ℕ) → (lt : j < length plan.jobs) → g.st j ≡ (fate_at plan N E between j lt).t
     stage_is j lt = same_end j (get_or plan.jobs j no_job) (begin (get_or plan.jobs j no_job)) (events_of (of j between.blocks)) (g.st j)
         (fate_at plan N E between j lt).t
@@ -167,6 +169,7 @@ seen plan N f E filled g between = record { out = out; tests = tests }
     out : inside (stage_in f f.current) ≡ false
     out = ap inside (g.at f.current) ∙ out_at
 
+    -- an open block without events adds none
     nothing_open : (j : ℕ) (t : Bool)
         → events_of (of j g.run.blocks ++ (if t then open_of f.current (get_or plan.jobs f.current no_job) (g.st f.current) ∷ [] else []))
         ≡ events_of (of j g.run.blocks)
@@ -179,6 +182,7 @@ seen plan N f E filled g between = record { out = out; tests = tests }
     events_same j = sym (lane j) ∙ ap (λ l. events_of l) (own_blocks plan.jobs N g.st f.current E g.run j)
         ∙ nothing_open j (nat_eq f.current j)
 
+    -- which sources have blocks is the same in both descriptions
     has_same : (j : ℕ) → j < length plan.jobs → has j between.blocks ≡ has j g.run.blocks
     has_same j lt = ap not (sym (none_events j (get_or plan.jobs j no_job) (of j between.blocks) (fate_at plan N E between j lt).t
         (filled.jobs j)
@@ -191,11 +195,13 @@ seen plan N f E filled g between = record { out = out; tests = tests }
     flying_same : (j : ℕ) → j < length plan.jobs → in_flight (of j between.blocks) ≡ in_flight (of j g.run.blocks)
     flying_same j lt = ap (λ F. nat_lt (total waits_child F) (total starts_child F)) (events_same j)
 
+    -- which sources wait next is the same too
     waits_same : (j : ℕ) → (lt : j < length plan.jobs) → left (stage_in f j) ≡ true → between.waits j ≡ nat_lt 0 (pending (stage_in f j))
     waits_same j lt e = sym ((fate_at plan N E between j lt).waits_is (left_same j lt ∙ e))
         ∙ ap (λ s. nat_lt 0 (pending s)) (sym (stage_is j lt)
         ∙ sym (g.at j))
 
+    -- so the test of a source that may go on is the code's
     tests : (j : ℕ) → j < length plan.jobs → source_may plan N E between j ≡ test plan.jobs N f g.run.blocks j
     tests j lt = may_go_same (length plan.jobs) N (λ i. has i between.blocks) (λ i. has i g.run.blocks) between.left (λ i. left (stage_in f
         i))

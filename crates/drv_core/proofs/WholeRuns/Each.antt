@@ -23,7 +23,8 @@ use Rattle.std.specs.Prelude.{⊤}
 -- Names: `k` is the number of a job in the plan. `g` is the number of a group of a job's commands. `t` is the value of a test, so that `by`
 -- can go by both cases. `P` is a property of blocks, and `kinds` says that each kind of block has it. `i` is the index of a claim, start,
 -- wait or removal. `of k bs` is the blocks of source k among `bs`. `group_blocks` is the blocks of groups: of each its starts, then its
--- waits. `own_removals` is the blocks in which a failed job removes its failure files.
+-- waits. `own_removals` is the blocks in which a failed job removes its failure files. `Told A`: an answer, and whether its report was
+-- written, which counts only if there is a report.
 
 -- each of these blocks has the property
 abbrev pub Each : (Block → Type 0) → List Block → Type 0

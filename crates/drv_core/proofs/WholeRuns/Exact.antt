@@ -35,7 +35,9 @@ use Rattle.std.specs.List.{list_any}
 -- source. `t` is the value of a test, so that `by` can go by both cases. `w` says that E is a whole run with these answers. `n` is the
 -- number of jobs. `no_job` is a job without commands. `link_run` is the link's job, if every source succeeded. `of k bs` is the blocks of
 -- source k among `bs`. `events_of` lists the events of blocks. `removed_at_end` is the files that are removed at the end. `story k job a`
--- is all blocks of job k that these answers make. `end_removals` is the blocks of the removals at the end.
+-- is all blocks of job k that these answers make. `end_removals` is the blocks of the removals at the end. `AtEndOnly`: these files are
+-- removed at the end. `Answers`: the answers of the sources, of the link, and of the removals at the end. `tag`: blocks as those of source
+-- k. `Windowed plan N o E`: E is a whole run with these answers.
 
 -- the blocks of a whole run, each with its owner
 

@@ -41,7 +41,9 @@ use Rattle.std.proofs.lemmas.Cmp.{nat_eq_equiv}
 -- the file that is removed next. `n` is the number of sources. `failed` says whether the last removal failed. `events_of` lists the events
 -- of blocks. `of k bs` is the blocks of source k among `bs`. `end_removals` is the blocks of the removals at the end. `story k job a` is
 -- all blocks of job k that these answers make. `link_run` is the link's job, if every source succeeded. `claimed_count` is how many claims
--- succeeded. `open_of k job s` is the events so far of the block that is open at stage s.
+-- succeeded. `open_of k job s` is the events so far of the block that is open at stage s. `tag`: blocks as those of source k. `Ran jobs N
+-- E`: these events are a whole run of the sources. `AllOwned`: the events of each of these blocks belong to its source. `Answers`: the
+-- answers of the sources, of the link, and of the removals at the end. `Windowed plan N o E`: E is a whole run with these answers.
 
 -- blocks of the sources below n are none of job n
 none_of : (n : ℕ) (bs : List SourceBlock) → Below n bs → of n bs ≡ []
@@ -174,6 +176,7 @@ taken_apart plan N o E w sources ran own last x y is = record {
       ∙ lanes (suc (length plan.jobs)) ∙ ap events_of (last_after plan N sources ran own last);
 }
   where
+    -- the events of each source are the same in both
     lanes : (j : ℕ) → events_of (of j (all_blocks plan o w.blocks)) ≡ events_of (of j (following_sources plan N sources ran own last))
     lanes j = same_lane (length plan.jobs) j (all_blocks plan o w.blocks) (following_sources plan N sources ran own last)
         (whole_owned plan N o E w) (after_owned plan N sources ran own last x y) (sym (whole_events plan N o E w) ∙ is

@@ -11,6 +11,7 @@ use Rattle.drv_words.specs.declared.plan.Plan.{Plan}
 use Rattle.std.proofs.Common.{◌≡◌, ◌+◌, false, true, None, ap, refl, ℕ}
 
 -- For the end of `Run`: there is no next step exactly if the events are a whole run.
+-- Names: `N`: the window: at most so many sources have begun and not ended.
 
 -- where the events are a whole run the course has no next step
 pub whole_ends : (plan : Plan) (N : ℕ) (c : Course) → FilledPlan plan → Holds plan N c → IsWhole plan N c.events → asked_by plan c ≡ None

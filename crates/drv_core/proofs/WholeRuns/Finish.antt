@@ -32,7 +32,9 @@ use Rattle.std.proofs.lemmas.Cmp.{nat_eq_equiv}
 -- `by` can go by both cases. `i` is a number below n, or an index. `n` is the number of sources. `has k bs` says whether source k has a
 -- block among `bs`. `left` says whether a source at this stage has more to do. `no_job` is a job without commands. `of k bs` is the blocks
 -- of source k among `bs`. `count n p` is how many numbers below n pass p. `pending s` is how many children are still to be waited for.
--- `enter_waits` is the stage of the next wait, or what follows the last.
+-- `enter_waits` is the stage of the next wait, or what follows the last. `SourceBlock`: a block, with the number of its source. `none`:
+-- whether a list is empty. `end_group`: the stage after a group. `is_less`: a true test for less. `in_flight`: a child was started and has
+-- not been waited for.
 
 -- how far a source is from its end
 abbrev pub still : Job → Stage → ℕ
@@ -266,6 +268,7 @@ keeps_more jobs N st blocks k b m keep more o may = record {
     has_other : (j : ℕ) → nat_eq k j ≡ false → has j (blocks ++ new ∷ []) ≡ has j blocks
     has_other j e = has_is j ∙ ap (λ (t : Bool). has j blocks || not (none (if t then b ∷ [] else []))) e ∙ or_false_is (has j blocks)
 
+    -- a source that has begun and not ended after the block had before, or is k
     shrinks : (j : ℕ) (t : Bool) → nat_eq k j ≡ t → (has j (blocks ++ new ∷ []) && left (if nat_eq k j then m else st j)) ≡ true
         → ((has j blocks || nat_eq j k) && left (st j)) ≡ true
     shrinks j true e h =
@@ -279,6 +282,7 @@ keeps_more jobs N st blocks k b m keep more o may = record {
         widen true y z g = g
         widen false y z g = absurd cc
 
+    -- a source that has begun still has none before it that waits to begin
     orders : (j i : ℕ) → j < i → (t u : Bool) → nat_eq k i ≡ t → nat_eq k j ≡ u → has i (blocks ++ new ∷ []) ≡ true
         → (not (has j (blocks ++ new ∷ [])) && left (if nat_eq k j then m else st j)) ≡ false
     orders j i lt t true e f h = rw (has_k j f) refl
@@ -359,11 +363,13 @@ nearer_by jobs N st blocks keep goes = record {
     path : Path goes.k (get_or jobs goes.k no_job) (begin (get_or jobs goes.k no_job)) (of goes.k blocks) (st goes.k)
     path = keep.stand.paths goes.k below
 
+    -- a block of source k that brings it nearer to its end
     f : Fails goes.k (get_or jobs goes.k no_job) (st goes.k)
     f = fails goes.k (get_or jobs goes.k no_job) (st goes.k) (path_even goes.k (get_or jobs goes.k no_job)
         (begin (get_or jobs goes.k no_job)) (of goes.k blocks) (st goes.k) (begins (get_or jobs goes.k no_job)).sound
         path).sound goes.has_more
 
+    -- source k has less to come, in the stages of all
     ap_less : still (get_or jobs goes.k no_job) f.m < still (get_or jobs goes.k no_job) (st goes.k)
         → still (get_or jobs goes.k no_job) (if nat_eq goes.k goes.k then f.m else st goes.k) < still
         (get_or jobs goes.k no_job) (st goes.k)

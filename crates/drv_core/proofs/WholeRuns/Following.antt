@@ -30,7 +30,9 @@ use Rattle.std.proofs.Common.{◌≡◌, ◌<◌, ◌∙◌, Bool, false, List, 
 -- and not ended. `E` is the events so far. `i` is the number of a removal. `events_of` lists the events of blocks. `no_job` is a job
 -- without commands. `open_of k job s` is the events so far of the block that is open at stage s. `story k job a` is all blocks of job k
 -- that these answers make. `left` says whether a source at this stage has more to do. `link_run` is the link's job, if every source
--- succeeded. `begin job` is a job's first stage.
+-- succeeded. `begin job` is a job's first stage. `end_files`: the files that are removed at the end of this run. `AllOwned`: the events of
+-- each of these blocks belong to its source. `Ending plan N i failed E`: the sources and the link are done, and of the files to be removed
+-- i are removed. `fate_at`: the stage of each source after its blocks.
 
 -- The run of the sources, followed by blocks of the link and by removals at the end. `sources` are the events of the sources, a whole run
 -- (`ran`). `own` are the link's blocks, and `last` the removals at the end. `own_owned` and `last_owned` say whose blocks these are.
@@ -58,6 +60,7 @@ none_goes_on plan N E filled z b = clash (b.left b.some) b.some_left (sym (fate_
         ∙ ap (λ l. events_of l) (source_after plan N z.sources z.ran z.own z.last b.some b.some_is
         ∙ ran_story plan N z.sources z.ran b.some b.some_is)
 
+    -- a source that would go on has ended
     ended : Ended ≡ (fate_at plan N E b b.some b.some_is).t
     ended = same_end b.some (get_or plan.jobs b.some no_job) (begin (get_or plan.jobs b.some no_job))
         (events_of (story b.some (get_or plan.jobs b.some no_job) (get_or z.ran.run.answers b.some no_answers))) Ended

@@ -33,13 +33,15 @@ use Rattle.std.specs.Prelude.{⊤}
 
 -- For the laws: each event shows its owner, the job of its place, or for the closing of a pipe the job of the event before. A removal at
 -- the end belongs to no job: its owner is a number that no job has. So the events of a run have one split by owners.
--- Names: `bs` is blocks of one source, in order. `job` is the job of the source (or of the link) at hand. `k` is the number of a job in the
--- plan. `g` is the number of a group of a job's commands. `s` is a source's stage before. `j` is the number of any source. `t` is the value
--- of a test, so that `by` can go by both cases. `n` is the number that no job has, the owner of the removals at the end. `last` is the
--- owner of the event before. `i` is the index of a claim, start, wait or removal. `of k bs` is the blocks of source k among `bs`.
--- `group_blocks` is the blocks of groups: of each its starts, then its waits. `group_at job g` is the commands of the group. `events_of`
--- lists the events of blocks. `own_removals` is the blocks in which a failed job removes its failure files. `wait_blocks` is the blocks of
--- a group's waits.
+-- Names: `bs` is blocks in order, of one source, or each with its source. `job` is the job of the source (or of the link) at hand. `k` is
+-- the number of a job in the plan. `g` is the number of a group of a job's commands. `s` is a source's stage before. `j` is the number of
+-- any source. `t` is the value of a test, so that `by` can go by both cases. `n` is the number of sources, which is the link's. `suc n`,
+-- which no job has, owns the removals at the end. `last` is the owner of the event before. `i` is the index of a claim, start, wait or
+-- removal. `of k bs` is the blocks of source k among `bs`. `group_blocks` is the blocks of groups: of each its starts, then its waits.
+-- `group_at job g` is the commands of the group. `events_of` lists the events of blocks. `own_removals` is the blocks in which a failed job
+-- removes its failure files. `wait_blocks` is the blocks of a group's waits. `Told A`: an answer, and whether its report was written, which
+-- counts only if there is a report. `OneBlock`: the block that begins at a stage; at a report or the end none does, so there it is absurd.
+-- `SourceBlock`: a block, with the number of its source.
 
 -- the owner of a removal; n is the number of sources, which is the link's number, and removals at the end get a greater one
 abbrev pub remover : ℕ → Place → ℕ

@@ -203,12 +203,14 @@ progress n N begun left flying waits some b k lt more = free (find n (λ j. begu
         clash true e = let no : (true && true) ≡ false = rw (e, more) at (none k lt) in absurd cc
         clash false e = let no : (not false && true) ≡ false = rw (e, more) at (all k lt) in absurd cc
 
+    -- a full window has a source that has begun
     some_begun : count n (λ j. begun j && left j) ≡ N → First n (λ j. begun j && left j) ⊎ ((j : ℕ) → j < n → (begun j && left j) ≡ false)
         → First n (λ j. begun j && left j)
     some_begun full (inl f) = f
     some_begun full (inr none) = absurd (let zero_all : count n (λ j. begun j && left j) ≡ 0 = count_none n (λ j. begun j && left j) none in
         omega arith)
 
+    -- by whether the window has room: the next source begins, or all that have begun wait
     room : ((j : ℕ) → j < n → (begun j && (left j && not (waits j))) ≡ false) → (f : First n (λ j. not (begun j) && left j)) → (t : Bool)
         → nat_lt (count n (λ j. begun j && left j)) N ≡ t → Goes n N begun left flying waits
     room none f true e = record {
@@ -223,11 +225,13 @@ progress n N begun left flying waits some b k lt more = free (find n (λ j. begu
         omega (arith, most, least)) in
         waiting none (inl full) (some_begun full (find n (λ j. begun j && left j)))
 
+    -- by whether a source has not begun yet
     new : ((j : ℕ) → j < n → (begun j && (left j && not (waits j))) ≡ false) → First n (λ j. not (begun j) && left j) ⊎ ((j : ℕ) → j < n
         → (not (begun j) && left j) ≡ false) → Goes n N begun left flying waits
     new none (inl f) = room none f (nat_lt (count n (λ j. begun j && left j)) N) refl
     new none (inr all) = waiting none (inr all) (here all (find n (λ j. begun j && left j)))
 
+    -- by whether one that has begun goes on without a wait
     free : First n (λ j. begun j && (left j && not (waits j))) ⊎ ((j : ℕ) → j < n → (begun j && (left j && not (waits j))) ≡ false)
         → Goes n N begun left flying waits
     free (inl f) = record {

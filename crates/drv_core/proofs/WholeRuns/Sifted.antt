@@ -31,7 +31,9 @@ use Rattle.std.specs.List.{flat_map}
 -- is a number of a job too. `A` is the type of what is said. `xs` and `ys` are two parts of what is said. `w` says that E is a whole run
 -- with these answers. `of k bs` is the blocks of source k among `bs`. `events_of` lists the events of blocks. `whole_job` says that a job's
 -- answers are complete. `link_run` is the link's job, if every source succeeded. `Windowed plan N o E` says that E is a whole run with
--- these answers. `and_first` and `and_second` give the parts of a true `&&`.
+-- these answers. `and_first` and `and_second` give the parts of a true `&&`. `Answers`: the answers of the sources, of the link, and of the
+-- removals at the end. `Told A`: an answer, and whether its report was written, which counts only if there is a report. `whole_jobs`: the
+-- answers of all jobs are complete.
 
 -- what f says of the events of these blocks
 abbrev pub sift : {X : Type 0} → (RunEvent → List X) → List Block → List X
@@ -192,6 +194,7 @@ halves pick plan window o events run k quiet =
     (events_of (after_sources plan o))
     ∙ ap (λ l. l ++ sift pick (after_sources plan o)) (blocks pick k (length plan.jobs) run.blocks (below plan window o events run) others)
   where
+    -- the blocks of other sources have nothing that is picked
     others : (j : ℕ) → j < length plan.jobs → nat_eq j k ≡ false → sift pick (of j run.blocks) ≡ []
     others j lt other =
         let at : j ≡ 0 + j = omega arith in

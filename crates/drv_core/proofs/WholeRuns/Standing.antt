@@ -29,7 +29,10 @@ use Rattle.std.specs.Prelude.{⊤}
 -- value of a test, so that `by` can go by both cases. `i` is the index of a wait. `of k bs` is the blocks of source k among `bs`. `no_job`
 -- is a job without commands. `has k bs` says whether source k has a block among `bs`. `left` says whether a source at this stage has more
 -- to do. `begin job` is a job's first stage. `events_of` lists the events of blocks. `in_flight` says whether a child was started in these
--- blocks and not waited for.
+-- blocks and not waited for. `MayCome n N begun left flying k wait` says that a block of source k may come now. `is_wait b` says whether
+-- the block is a wait. `SourceBlock`: a block, with the number of its source. `total`: a sum over events. `OneBlock`: b is the block that
+-- begins at this stage, by its kind, and leads to stage m. `ToldStory k job bs`: complete answers whose story these blocks are.
+-- `AllMayCome`: each block may come in its turn, after `before`.
 
 -- the blocks lead from s to m
 abbrev pub Path : ℕ → Job → Stage → List Block → Stage → Type 0
@@ -288,6 +291,7 @@ come_more n N now next before (c ∷ after) b same_left come may = (
       (sym (append_assoc before (c ∷ []) after)) may),
 )
   where
+    -- which sources have blocks or blocks to come is the same with the block moved
     pointwise_same : (j : ℕ) → (has j (c ∷ after) || now j) ≡ (has j (c ∷ (after ++ b ∷ [])) || next j)
     pointwise_same j = ap (λ (t : Bool). has j (c ∷ after) || t) (sym (same_left j))
         ∙ sym (or_assoc (has j (c ∷ after)) (has j (b ∷ [])) (next j)) ∙ ap (λ (t : Bool). t || next j)
@@ -322,6 +326,7 @@ stands_more jobs N st blocks k b m stand more o may = record {
     split : (j : ℕ) → of j (blocks ++ record { source = k; block = b } ∷ []) ≡ of j blocks ++ (if nat_eq k j then b ∷ [] else [])
     split j = of_append j blocks (record { source = k; block = b } ∷ [])
 
+    -- the blocks of each source lead to its stage: that of k is longer by the block
     path : (j : ℕ) → j < length jobs → (t : Bool) → nat_eq k j ≡ t → Path j (get_or jobs j no_job) (begin (get_or jobs j no_job))
         (of j (blocks ++ record { source = k; block = b } ∷ [])) (if nat_eq k j then m else st j)
     path j lt true e =

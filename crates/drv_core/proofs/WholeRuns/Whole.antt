@@ -30,6 +30,9 @@ use Rattle.std.specs.List.{list_any}
 -- removal failed. `ran` says that these events are a whole run of the sources. `events_of` lists the events of blocks. `end_removals` is
 -- the blocks of the removals at the end. `removed_at_end` is the files that are removed at the end. `link_run` is the link's job, if every
 -- source succeeded. `Filled` says that no group of a job is empty. `Windowed plan N o E` says that E is a whole run with these answers.
+-- `Told A`: an answer, and whether its report was written, which counts only if there is a report. `IsBeginning plan N E`: E is the
+-- beginning of a whole run. `removal_block`: the removal of a place, with its report. `JobAnswers`: the answers to a job's claims, of its
+-- groups, and to the removals of its failure files. `after_sources`: the events after the sources.
 
 -- the removals at the end
 

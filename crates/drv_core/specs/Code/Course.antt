@@ -14,6 +14,7 @@ use Rattle.drv_words.specs.declared.steps.Step.TheVariants as step
 use Rattle.std.specs.Prelude.{List, [], ◌∷◌, ◌++◌, None, Option, Some, drop, if◌then◌else◌, length, nat_eq, ℕ}
 
 -- A whole run, step by step, without the code's own types. Only private clauses cite it: the stories define what a run is.
+-- Names: `no_job`: a job that has nothing to do.
 
 -- the greatest code of events: of claims, starts and waits
 abbrev pub run_code : List RunEvent → ℕ

@@ -14,6 +14,7 @@ use Rattle.std.specs.List.{list_any}
 use Rattle.std.specs.Prelude.{◌&&◌, ◌+◌, ◌++◌, Bool, List, [], ◌∷◌, if◌then◌else◌, nat_eq, not, suc, take, ℕ}
 
 -- The files that are removed at the end, by the number of claimed temporaries of each job. Only private clauses cite it.
+-- Names: `is_claimed`: whether a claim succeeded.
 
 -- how many of these claims succeeded
 abbrev pub claimed_count : List (Told ClaimAnswer) → ℕ

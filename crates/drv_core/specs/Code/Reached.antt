@@ -11,6 +11,7 @@ use Rattle.drv_words.specs.declared.steps.Step.{Step}
 use Rattle.std.specs.Prelude.{◌≡◌, ◌<◌, ◌≤◌, Bool, Some, false, if◌then◌else◌, length, not, true, ℕ}
 
 -- The positions that the code can reach by answers and choices. Only private clauses cite it.
+-- Names: `N`: the window: at most so many sources have begun and not ended. `k`: the number of a job in the plan.
 
 -- between the sources' blocks another source may be chosen
 abbrev pub between_blocks : Phase → Fleet → Bool

@@ -17,6 +17,7 @@ use Rattle.drv_words.specs.declared.steps.Step.TheVariants as step
 use Rattle.std.specs.Prelude.{◌<◌, ⊤, List, [], ◌∷◌, ◌++◌, None, Option, Some, if◌then◌else◌, length, max, nat_eq, nat_lt, true, ℕ}
 
 -- A whole run, as the code goes through it. Only private clauses cite it: the stories define what a run is.
+-- Names: `f`: all sources as the code keeps them. `SourceState`: the stage of one source, and its room for children.
 
 -- room: how many events there is room for. `code` is the greatest code so far. `leftovers` are the files that may be left at the end.
 pub record RunState : Type 0 where

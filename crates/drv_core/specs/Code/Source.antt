@@ -23,6 +23,7 @@ use Rattle.std.specs.Prelude.{◌||◌, ◌+◌, Bool, List, [], ◌∷◌, ◌+
 use Rattle.std.specs.Prelude.{nat_lt, not, true, ℕ}
 
 -- One source, step by step. Only private clauses cite it: the stories define what a run is.
+-- Names: `group_at`: the commands of group g of a job.
 
 -- The stage of a source. ids: the children of the group; was: whether an earlier group started one; fault: whether this group has a fault
 -- so far.

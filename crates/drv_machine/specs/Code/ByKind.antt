@@ -27,6 +27,8 @@ use Rattle.std.specs.Prelude.{nat_lt, true, ⊤, ℕ}
 
 -- What an item means, by its kind and its label (this project's profile). For the clauses of asking.rt, braces.rt, emitting.rt, hits.rt and
 -- items.rt, which look at tokens; Atoms has the meaning by the tree. A change of a row there changes `kind_step` here.
+-- Names: `Stands`: these parts go from one place of a text's flat list up to another. `run`: runs a step after what has been cut, in its
+-- world. `first_true`: the first test that is true. `puts`: puts these atoms.
 
 -- the pattern that a label names
 abbrev pub labelled : Label → switches.Pattern
@@ -82,7 +84,7 @@ pub record TrueTest (F : Facts) (C : Context) (text : List ℕ) (s t : Machine) 
   pub label_is : label_at (tree_of text) at ≡ test_label negated asked
   pub gives : run F C s step ≡ Is (Ok (Some asked, t))
 
--- a test by a function, at a place, and the state before it
+-- a test by a function, at a place: s is the state before the first test, t before this one, and at `next` the tests after it begin
 pub record AskedTest (F : Facts) (C : Context) (text : List ℕ) (end : ℕ) (s t : Machine) (at : ℕ) (tests : Tests) (levels : Levels)
     (star : List ℕ) : Type 0 where
   pub negated : Bool

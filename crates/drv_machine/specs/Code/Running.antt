@@ -12,6 +12,8 @@ use Rattle.std.specs.Prelude.{Err, Ok, Result, ℕ}
 -- What a call of the code that walks a part of a text does to its machine: it cuts the part's atoms into words and commands as they come
 -- (this project's profile). An atom is a byte, the end of a word or command, or a mark (Working). The clauses of the whole walk
 -- (src/turns.rt and what it calls) say what a call does by `run`.
+-- Names: `X`: any type. `F`: what is known of the outside. `C`: what the text is run for (switches, texts). `all_taken`: atoms, one after
+-- another.
 
 -- what has been cut, and the world
 pub record Machine : Type 0 where

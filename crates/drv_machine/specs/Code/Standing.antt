@@ -8,6 +8,7 @@ use Rattle.std.specs.Prelude.{◌≡◌, ◌<◌, ◌+◌, Bool, List, Some, fal
 
 -- Where the parts of a tree are in its flat list (this project's profile). For the clauses of the walk (src/turns.rt and what it calls),
 -- which goes over that list by places.
+-- Names: `at`, `end`, `next`: places in the text's list of parts.
 
 -- at this place is a part of this kind with this label, and the next part that isn't inside it is at `next`
 pub record PartAt (tokens : List Token) (labels : List Label) (at : ℕ) (kind : TokenKind) (label : Label) (next : ℕ) : Type 0 where

@@ -32,6 +32,11 @@ use Rattle.std.specs.Prelude.{slice_get, true, ⊤, ℕ}
 -- What is left of a walk over a text (this project's profile). For the clauses of the walk: turns.rt, walk.rt, and the files that open and
 -- close parts (braces.rt, calling.rt, failing.rt, filing.rt, hits.rt, named.rt). `Left` joins the walk with Atoms. A new kind of open part
 -- (`Opened` of walk.rt) has a line in `OpenedFits`, `back_of`, `text_around`, `hits_left` and `closing`.
+-- Names: `C`: what the text is run for (switches, texts). `s`: the machine: what has been cut, and the world. `items`: the items of a part.
+-- `kept`: what follows arguments: their function, and the test that it answers. `at`, `end`, `start`, `next`: places in the text's list of
+-- parts. `F`: what is known of the outside. `run`: runs a step after what has been cut, in its world. `Stands`: these parts go from one
+-- place of a text's flat list up to another. `tree_of`: the tree of a text. `puts`: puts these atoms. `items_step`: items one after
+-- another, each counted before it is run.
 
 -- other alternatives of a brace, which are passed over
 abbrev pub Skips : List ℕ → ℕ → ℕ → Type 0

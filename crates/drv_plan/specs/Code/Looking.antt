@@ -7,6 +7,7 @@ use Rattle.drv_plan.specs.declared.languages.Wanted.{Wanted}
 use Rattle.std.specs.Prelude.{Bool, List, ℕ}
 
 -- What the code searches for among the keys of pairs, and the result. For the code alone.
+-- Names: `name` is a file's name, or that of a language. `key` is the key of a pair.
 
 -- whether a key is that of the language, or a suffix of the name
 abbrev pub fits : Wanted → List ℕ → Bool

@@ -12,6 +12,8 @@ use Rattle.drv_system.specs.Known.{Is, Known}
 use Rattle.std.specs.Prelude.{◌≡◌, Err, List, Ok, Result, ℕ, ⊤}
 
 -- What a line asks for, as arguments do (`Comes`). Only private clauses cite it.
+-- Names: `given` is the work of a line with its specs, or the refusal of its plan. `F` is what is known of the outside. `line` is the line,
+-- `args` the arguments, and `words` what they expand to. `seed` is that for the names of temporaries. `Comes` is in specs/Drives.
 
 -- with its specs: the work that is given for it, or the refusal of its plan; lack of memory may take the place of either
 abbrev pub ComesOfSpecs : Known (Result Work PlanFault) → Result Work Ending → Type 0

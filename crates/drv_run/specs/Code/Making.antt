@@ -8,6 +8,8 @@ use Rattle.drv_words.specs.declared.steps.Step.TheVariants as step
 use Rattle.std.specs.Prelude.{◌≡◌, List, true}
 
 -- The conditions of a step after a journal, as the system has them. Only private clauses cite it.
+-- Names: `plan` is the plan. `journal` is the events so far. `p` is the place of a job's command or file in the plan. `id` is the number of
+-- a child.
 abbrev pub CanMake : Plan → List Event → Step → Type 0
 CanMake plan journal (step.Claim p) = is_temp plan p ≡ true
 CanMake plan journal (step.Start p from_pipe to_pipe) = (is_command plan p ≡ true) × (from_pipe ≡ pipe_pending (run_of journal))

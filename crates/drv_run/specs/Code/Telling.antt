@@ -8,6 +8,8 @@ use Rattle.drv_words.specs.declared.plan.Plan.{Plan}
 use Rattle.std.specs.Prelude.{◌≡◌, List, ◌++◌, codes, ℕ}
 
 -- The same of two journals, the one after the other. Only private clauses cite it.
+-- Names: `journal` is the events of the system before, and `journal'` after. `said` is those that were added. `status` is the exit status.
+-- `Says`, `Shows`, `Announces` and `OnlySays` say which events these are. `DoesWork` is a work that was done (specs/Calls).
 
 -- between two journals a text was said, and nothing else
 abbrev pub SaysText : List Event → List Event → List ℕ → ℕ → Type 0

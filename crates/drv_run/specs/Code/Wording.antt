@@ -8,6 +8,8 @@ use Rattle.drv_system.specs.Facts.{Facts}
 use Rattle.std.specs.Prelude.{◌≡◌, Err, List, Ok, Result, ℕ, ⊤}
 
 -- What the words of a line ask for. Only private clauses cite it: `Refuses` says what a call's refusals are.
+-- Names: `F` is what is known of the outside. `args` is the arguments. `fault` is why they are refused. `after_c99` is these as the
+-- driver's, if the call is of c99.
 
 -- the words of a line, or its refusal
 abbrev pub GivesWords : Facts → List (List ℕ) → Result Expanded Ending → Type 0

@@ -2,6 +2,7 @@ use Rattle.std.specs.Global.{Vec}
 use Rattle.std.specs.Prelude.{List, [], ◌∷◌, None, Option, Some, ℕ}
 
 -- How the code keeps the named texts: a map whose keys are the names, for the code alone. The entry of a deleted name has no text.
+-- Names: `name` is the name of a text. `e` is an entry of the map: a key, and its text if it isn't deleted. `es` is the entries after it.
 
 -- the texts, with that of one more entry in front, if it has one
 abbrev pub with_left : List ℕ → Option (List ℕ) → List (List ℕ × List ℕ) → List (List ℕ × List ℕ)

@@ -16,6 +16,9 @@ use Rattle.std.specs.Prelude.{◌≡◌, ◌==◌, Bool, Err, List, [], ◌∷�
 use Rattle.std.specs.Prelude.{ℕ}
 
 -- How the code reads directives: they are slices of a settled text, of which it keeps what is left. For the code alone.
+-- Names: `text` is a text, or what is left of it. `b` is one byte. `lines` is the code's lines that are left. `line` is one line, without
+-- the blanks at its front. `F` is what is known of the outside. `prefixes` is where files are searched for. `missing` says what is done if
+-- the file isn't there. `settle` joins lines that a backslash continues, and drops carriage returns.
 
 -- what follows a line, where its newline is there: the lines, and the bytes
 abbrev pub lines_from : Option (List ℕ) → List (List ℕ)

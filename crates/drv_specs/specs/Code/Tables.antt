@@ -11,6 +11,8 @@ use Rattle.drv_syntax.specs.declared.written.WrittenTree.{WrittenTree}
 use Rattle.std.specs.Prelude.{◌≡◌, ◌&&◌, Bool, List, [], ◌∷◌, Ok, false, if◌then◌else◌, length, nat_le, true, ℕ}
 
 -- Rows of tables put into a set one after another, for the code alone.
+-- Names: `row` is a row of a table of the code. `tree` is a tree that is written there, with its text. `set` is a set, `entry` a name with
+-- its text, and `pair` a key with its text. A mark is here a label: where its word lies among the bytes of words.
 
 -- a row of the table of named texts: a name and a text
 abbrev pub named_shown : Named → List ℕ × List ℕ

@@ -40,9 +40,10 @@ use Rattle.std.specs.Prelude.{slice_set, suc, take, zero, ℕ}
 -- What the code writes of lists of items, and of what holds them: for the clauses of src/descent/lists.rt, src/descent/simple.rt and
 -- src/descent/parts.rt, and no law cites it. A change here needs the same change there.
 -- Names: NAME_given is what a function gives, with its value and what was read after it, or its fault. NAME_here writes a part from the
--- place of what is left. `outer` is the place of the outermost directive that is open, if one is, and `at` that of the innermost.
--- `n` is a place of the text, `z` the parts so far, and `v` those parts and the text that is left (`Reading`).
--- In a `Tail`, what a list ends with, the end byte is 0 at the end of a whole text, and as long as the list goes on.
+-- place of what is left. `outer` is the place of the outermost directive that is open, if one is, and `at` that of the innermost. `n` is a
+-- place of the text, `z` the parts so far, and `v` those parts and the text that is left (`Reading`). In a `Tail`, what a list ends with,
+-- the end byte is 0 at the end of a whole text, and as long as the list goes on. `after`: what is left so many bytes on. `given`: what the
+-- reading of a part gives. `item_written`: writes an item with all that is inside it.
 
 -- the text has a byte left: a function that takes one asks for this
 abbrev pub begins : List ℕ → Bool

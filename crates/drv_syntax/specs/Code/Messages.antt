@@ -15,6 +15,7 @@ use Rattle.std.specs.Prelude.{◌≡◌, ◌+◌, ◌++◌, Err, List, Ok, Resul
 
 -- A text that ends in a message, a text for the user, and goes on in it. For the clauses of src/descent/reading.rt, src/descent/tokens.rt,
 -- src/labels.rt and src/tree.rt.
+-- Names: `more`: more text behind. `X`: any type.
 
 -- the last of some, with this change
 abbrev pub with_last : {X : Type 0} → (X → X) → List X → List X

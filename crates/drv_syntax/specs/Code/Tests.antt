@@ -40,6 +40,7 @@ use Rattle.std.specs.Prelude.{length, ℕ}
 -- Names: NAME_given is what a function gives, with its value and what was read after it, or its fault. NAME_seen is a type of the code as
 -- Descent or Refusals has it. `emits`: the braces may still be patterns. `so_far`: the alternative that is open. `outer` is the place of
 -- the outermost directive that is open, `at` that of the innermost, `z` the parts so far, and `v` those parts and the text that is left.
+-- `at_rest rest v` is the reading v with this rest. `after n rest` is what is left n bytes on.
 
 -- writes the patterns of braces, one after another
 abbrev pub patterns_written : List (Span × Pattern) → Parts → Parts

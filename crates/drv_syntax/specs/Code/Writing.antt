@@ -29,6 +29,7 @@ use Rattle.std.specs.Prelude.{length, ℕ}
 
 -- What the code writes of what it reads: the tokens of a part and their labels, after those before. Clauses of all src/descent/ cite it, no
 -- law does. Names: `z` is the parts so far, and `v` (`Reading`) those parts and the text that is left.
+-- Names: `labels`: the labels of parts, in the order of their tokens.
 
 -- the parts so far: their tokens and labels, and whether the innermost X has a %* of its own
 pub record Parts : Type 0 where

@@ -3,6 +3,7 @@ use Rattle.drv_why.specs.Parts.{wants_next}
 use Rattle.std.specs.Prelude.{List, [], ◌∷◌, if◌then◌else◌, ℕ}
 
 -- How many words the first part of these has. Only private clauses of src/parting.rt cite it.
+-- Names: `word` is the first word, and `next` the one after it. `wants_next` says that a word takes the next one (specs/Parts).
 abbrev pub count_of : List (List ℕ) → ℕ
 count_of [] = 0
 count_of (word ∷ []) = 1

@@ -4,6 +4,7 @@ use Rattle.std.specs.Prelude.{Bool, false, true}
 
 -- The refusal of a line of one word: whether the word is an option that lacks its argument, and whether it is lack of memory. For private
 -- clauses of src/parting.rt.
+-- Names: `fault` is the refusal of the line, and `word` the option.
 
 -- whether a fault is that an option lacks its argument
 abbrev pub is_missing : ArgsFault → Bool

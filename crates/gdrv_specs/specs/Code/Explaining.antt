@@ -15,6 +15,8 @@ use Rattle.gdrv_specs.specs.Reasons.{reason_with, rest_of}
 use Rattle.std.specs.Prelude.{◌≡◌, Err, List, None, Ok, Option, Result, Some, option_map, ℕ}
 
 -- What is said of a part, by what the line without it asks for: nothing where memory lacked. For private clauses of src/explaining.rt.
+-- Names: `F` is what is known of the outside. `work` is what the line asks for, and `other` what it asks for without the part. `found` is
+-- that, or how it ends. `line` is the line, `part` one of its parts, and `set` its spec texts. `specs_of` is drv_run's.
 
 -- what the line without a part is, by what that line asks for; None where memory lacked
 abbrev pub rest_by : Work → Result Work Ending → Option Rest

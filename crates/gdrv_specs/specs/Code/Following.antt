@@ -12,6 +12,8 @@ use Rattle.std.specs.Prelude.{◌≡◌, ◌⊎◌, Err, List, Ok, Result, ℕ}
 
 -- What a line gives that was read: the text about its switches, or the refusal of a spec file. Only private clauses of src/switches.rt cite
 -- it.
+-- Names: `F` is what is known of the outside. `report` is the form of the text, and `line` the line. `set` is its spec texts. `fault` is
+-- why a spec file is refused, and `ending` how the call ends then. `specs_of` is drv_run's.
 abbrev pub GivesLine : Facts → Report → Line → Result (List ℕ) Ending → Type 0
 GivesLine F report line (Ok text) = (set : Set) × (specs_of F line.settings ≡ Is (Ok set)) × (fates_of F report line set ≡ Is text)
 GivesLine F report line (Err ending) =

@@ -10,6 +10,8 @@ use Rattle.std.specs.Prelude.{◌≡◌, ◌≢◌, Err, List, Result, ℕ}
 
 -- What a line with marks asks for, as the code finds it: a work, or an ending in its place. Only private clauses of src/word_origins.rt
 -- cite it.
+-- Names: `F` is what is known of the outside. `line` is the line, and `set` its spec texts. `text` is the dump with marks. `seed` is that
+-- for the names of temporaries. `found` is what the line asks for with it, or how it ends.
 
 -- unless memory lacked, it is the work of the definition, and none where that is refused
 abbrev pub IsMarked : Facts → Line → Set → List ℕ → ℕ → Result Work Ending → Type 0

@@ -10,6 +10,8 @@ use Rattle.std.proofs.Common.{◌≡◌, ◌∙◌, ◌++◌, [], ◌∷◌, ap,
 -- after (src/running.rt). The whole run of a plan, in which each step is answered by the first answer that is given for its place, or else
 -- that all is well.
 
+-- Names: `event`: a step and its answer. `answer_fits`: as `after` needs it. `answered_more`: the answers after all events.
+
 pub answer-requires-clause-fits : goal.answer-requires-clause-fits
 answer-requires-clause-fits c =
     subst (λ action. IfMake action (λ step. fits c.loop-run.run.events step c.answer_to.result ≡ true)) c.in-Make.ensures.action

@@ -6,6 +6,9 @@ use Rattle.std.specs.List.{list_any}
 
 -- expand_by (src/expansion.rt). Replaces each argument that names a file, if there is one.
 
+-- Names: `F`: what is known of the outside. `e`: that `F` extends the facts of this call. `none_expanded`: and the expansion is the words
+-- themselves. `file_named`: the file that a word @PATH names, whose path isn't empty.
+
 pub returns-clause-expands : goal.returns-clause-expands
 returns-clause-expands g c F e =
     none_expanded (limited c.args.most F) c.args.args (ap (list_any (λ word. is_some (file_named word))) (sym c.as_slice.ensures)

@@ -3,6 +3,8 @@ use Rattle.drv_args.proofs.items.note_items.Goals as goal
 
 -- note_items (src/items.rt). Adds items to a line.
 
+-- Names: `next_item`: the next item of a list.
+
 pub loop-item-preserved : goal.loop-item-preserved
 loop-item-preserved c =
     next_item c.loop-item.builder c.note.new.self c.args.items.now c.loop-item.item-index c.item-item.result c.as_bytes-option.result.now

@@ -8,6 +8,8 @@ use Rattle.std.specs.Slice.Iter.{iter_rest}
 
 -- file_count (src/judging.rt). How many inputs are files.
 
+-- Names: `is_file_input`: whether an input is a file.
+
 pub returns : goal.returns
 returns c =
     count_from_yields_List _ _ c.count.ensures.ran

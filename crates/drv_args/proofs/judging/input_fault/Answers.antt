@@ -5,6 +5,8 @@ use Rattle.drv_args.proofs.judging.input_fault.Goals as goal
 
 -- input_fault (src/judging.rt). The refusal of an output that is also an input.
 
+-- Names: `input_is_output`: an output that is an input is refused. `is_input`: whether an output is an input.
+
 pub returns-then-is_input : goal.returns-then-is_input
 returns-then-is_input c =
     inr (input_is_output c.args.output.now c.in_ok-clone.field-0 c.args.line.now

@@ -6,6 +6,9 @@ use Rattle.std.proofs.Common.{arith, refl}
 -- rows_after (src/option_table.rt). The rows whose option begins with `-` and this byte, in the order of the table (GCC manual, "Overall
 -- Options", "Directory Options", "Preprocessor Options", "Link Options"; the forms of an option are this project's profile).
 
+-- Names: `rows_at`: the rows that the code has for one letter are those of the table that may fit. `no_rows`: for other letters the table
+-- has no rows.
+
 -- the options that begin with `-#`: 35 is the byte `#`
 pub returns-in-35 : goal.returns-in-35
 unfolding option_table

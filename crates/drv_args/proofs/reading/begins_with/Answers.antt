@@ -4,6 +4,9 @@ use Rattle.std.proofs.Common.{arith}
 
 -- begins_with (src/reading.rt). Whether a word begins with an option.
 
+-- Names: `begins_apart`: so if a byte differs the word doesn't begin with the option. `begins_whole`: once all its bytes were compared, the
+-- word begins with the option.
+
 pub returns-then-word-i : goal.returns-then-word-i
 returns-then-word-i c = begins_apart c.args.option.now c.args.word.now c.loop-i.i c.loop-i-test.true c.if-word-option.false c.if-word-i.true
     c.loop-i.invariant

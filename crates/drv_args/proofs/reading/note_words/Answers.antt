@@ -5,6 +5,9 @@ use Rattle.std.proofs.Common.{[]}
 
 -- note_words (src/reading.rt). Adds words to a line.
 
+-- Names: `alone_next`: the next word is a front. `last_line`: once no word is left, the line is what was built. `wants_next`: the next word
+-- needs the word after it.
+
 pub loop-left-preserved-in-Alone : goal.loop-left-preserved-in-Alone
 loop-left-preserved-in-Alone c =
     alone_next c.loop-left.left.now c.word-item.result c.as_bytes-bytes.result.now c.loop-left.builder c.note_whole.new.self

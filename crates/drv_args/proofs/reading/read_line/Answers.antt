@@ -4,6 +4,8 @@ use Rattle.std.proofs.Common.{arith, refl}
 
 -- read_line (src/reading.rt). Reads the words of a line, and judges it.
 
+-- Names: `line_judged`: the line of the words is judged. `line_refused`: a line whose words are refused.
+
 pub returns-in_err-line : goal.returns-in_err-line
 returns-in_err-line c =
     line_refused c.args.expanded.now c.args.expanded.now.words c.in_err-line.field-0.0 _ refl (omega arith) c.in_err-line.ensures

@@ -7,6 +7,9 @@ use Rattle.std.proofs.Common.{◌≡◌, ◌∙◌, ap, rules, sym}
 
 -- read_words (src/reading.rt). Reads words into a line.
 
+-- Names: `items_of`: the items of the words. `line_with`: the line with the result of the rest of the words. `first_line`: before the first
+-- item the line of all items is still to be built.
+
 -- a refusal of the words is that of the line
 pub returns-in_err-note_words : goal.returns-in_err-note_words
 returns-in_err-note_words c =

@@ -4,6 +4,8 @@ use Rattle.std.proofs.Common.{◌++◌, ◌∙◌, ap}
 
 -- start_by_row (src/reading.rt). How a word begins a front, by the row that fits it.
 
+-- Names: `fits_whole`: in each form the word is the option and what follows.
+
 pub returns-in-Joined-clause-whole : goal.returns-in-Joined-clause-whole
 returns-in-Joined-clause-whole c =
     ap (λ argument. c.args.row.option.now ++ argument) c.rest_of-argument.ensures ∙ fits_whole c.args.row.form c.args.row.option.now

@@ -6,6 +6,9 @@ use Rattle.std.specs.Option.{option_map}
 
 -- start_of (src/reading.rt). How a word begins a front.
 
+-- Names: `shown`: a row of the code's table, without its references. `looked_up`: how a word begins a front, by the row that was found for
+-- it.
+
 pub returns-in-Some-clause-start : goal.returns-in-Some-clause-start
 returns-in-Some-clause-start c =
     c.start_by_row.ensures.start

@@ -4,6 +4,10 @@ use Rattle.std.proofs.Common.{Ok, ap, sym}
 
 -- add_words (src/translating.rt). Adds words to a front.
 
+-- Names: `memory_goes`: lack of memory may be given at any word. `ends_next`: after the end of the options the words after it give the
+-- result of the whole. `flag_next`: that, for a flag. `joined_gives`: a refused option with its argument in the same word gives the
+-- refusal.
+
 pub loop-left-preserved-in_ok-add_flag-in-Flag : goal.loop-left-preserved-in_ok-add_flag-in-Flag
 loop-left-preserved-in_ok-add_flag-in-Flag c =
     flag_next c.loop-left.left.now c.word-item.result c.as_bytes-bytes.result.now c.loop-left.side c.loop-left.front c.add_flag.new.self _

@@ -6,6 +6,8 @@ use Rattle.drv_c99.specs.Front.{items_of}
 -- front (src/translating.rt). The words of the driver for a line of `c99`: `-std=c99`, the macros of `-D`, those of `-U`, and the rest in
 -- order (POSIX, c99).
 
+-- Names: `items_of`: the items of the words. `front_given`: once no word is left, the words of the front are those of the line.
+
 pub returns : goal.returns
 returns c = front_given _ (items_of BeforeEnd c.args.args.now) _ _ c.new-front.ensures c.in_ok-add_words.ensures c.finish.ensures
 

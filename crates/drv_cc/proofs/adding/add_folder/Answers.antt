@@ -5,6 +5,9 @@ use Rattle.std.proofs.Common.{◌≡◌, ◌++◌, ◌∙◌, ap, sym}
 
 -- add_folder (src/adding.rt). Adds the words for a folder of a path.
 
+-- Names: `words_for`: the words for a folder of a path, by what is looked for there. `library_words`: the word for a folder of
+-- LIBRARY_PATH.
+
 pub returns-in_ok-add_joined-in-Libraries : goal.returns-in_ok-add_joined-in-Libraries
 returns-in_ok-add_joined-in-Libraries c =
     let same : words_for c.args.looked_for (named_folder c.args.folder.now) ≡ library_words (named_folder c.args.folder.now) =

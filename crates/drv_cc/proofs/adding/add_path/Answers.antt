@@ -22,6 +22,7 @@ loop-folder-preserved c =
     c.loop-folder.invariant c.in_ok-add_folder.ensures
     (map-append (λ folder. folder.now) c.loop-folder.yielded (c.in-Some-folder.folder ∷ []))
 
+-- The pieces that the loop took are all folders of the path, which is the one that was given.
 pub returns : goal.returns
 returns c =
     let made = c.split-folder-items.ensures in

@@ -5,6 +5,10 @@ use Rattle.std.proofs.Common.{◌≡◌, ap, arith, sym}
 
 -- begun_group (src/beginnings.rt). The options of this key that a word begins with.
 
+-- Names: `begun_at`: the rows of beginnings in a group, in the table's order. `sections`: the options in sections.
+
+-- In the arm of each key the options of the group are found by computation: `returns-in-7` is the arm of the key 7, and `c.in-7.is` says
+-- that the key is 7. The arm `in_default` has what keys are left.
 pub returns-in-0 : goal.returns-in-0
 unfolding sections
 returns-in-0 c = ap begun_at (sym c.in-0.is)

@@ -7,6 +7,8 @@ use Rattle.std.proofs.lemmas.Iterator.Splits.{YieldsList-from_slice_split}
 
 -- has_no_check (src/checks.rt). Whether an option may not have one of the names between its commas.
 
+-- Names: `is_check`: whether a name is a check's or a group's.
+
 pub returns : goal.returns
 returns c =
     let made = c.split.ensures in

@@ -7,6 +7,8 @@ use Rattle.std.proofs.lemmas.Iterator.Splits.{YieldsList-from_slice_split}
 
 -- is_undefined_checked (src/checks.rt). Whether one of the checks of undefined behaviour is on.
 
+-- Names: `is_checked`: whether a line turns a check on. `ubsan_checks`: all checks that need the library of undefined behaviour.
+
 pub returns : goal.returns
 returns c =
     let made = c.split.ensures in

@@ -7,6 +7,8 @@ use Rattle.std.proofs.lemmas.Iterator.Splits.{YieldsList-from_slice_split}
 
 -- speaks_of (src/checks.rt). Whether one of the names between commas includes a check.
 
+-- Names: `stands_for`: whether a name between commas is one of a check.
+
 pub returns : goal.returns
 returns c =
     let made = c.split.ensures in

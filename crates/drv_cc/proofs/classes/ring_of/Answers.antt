@@ -6,6 +6,8 @@ use Rattle.std.specs.Option.{option_map}
 
 -- ring_of (src/classes.rt). The ring that has a name.
 
+-- Names: `ringed_shown`: an option with its ring, as a pair.
+
 pub returns : goal.returns
 returns c =
     ring_found c.args.name.now c.list_key.result (map ringed_shown c.ringed_group.result.now)

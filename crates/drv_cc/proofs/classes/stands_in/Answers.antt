@@ -7,6 +7,8 @@ use Rattle.std.proofs.lemmas.Iterator.Splits.{YieldsList-from_slice_split}
 
 -- stands_in (src/classes.rt). Whether a text has a name between blanks.
 
+-- Names: `same`: whether two texts have the same bytes.
+
 pub returns : goal.returns
 returns c =
     let made = c.split.ensures in

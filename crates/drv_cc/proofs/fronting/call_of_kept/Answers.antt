@@ -6,6 +6,8 @@ use Rattle.std.proofs.Math.Path.{subst}
 
 -- call_of_kept (src/fronting.rt). The call of a line with those of these items that stay.
 
+-- Names: `run_of`: the answer for a line that is carried out.
+
 pub returns-then-branch : goal.returns-then-branch
 returns-then-branch c =
     all_called c.args.around.now c.args.items.now _ c.call_of.result c.in_ok-do_all_stay.ensures c.if-branch.true c.call_of.ensures

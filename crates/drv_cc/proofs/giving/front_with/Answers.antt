@@ -6,6 +6,10 @@ use Rattle.std.proofs.Common.{◌∙◌, ap, rules}
 -- front_with (src/giving.rt). The answer to a line of `gcc` whose spec files give it options (GCC, "gcc.cc", do_self_spec): refusals, or
 -- items of the driver's line.
 
+-- Names: `runs_with`, `refuses_with`: the answer where nothing is refused, and where something is. Behind what is given `runs_with` takes
+-- the items, the line that is left, what is given more, and the result (`_`: the prover finds these four). Then it takes that nothing is
+-- refused (`search rules`), and that the three lists are the definition's.
+
 pub returns-then-not-is_empty : goal.returns-then-not-is_empty
 returns-then-not-is_empty c =
     refuses_with c.args.names.now.known.now c.args.names.now.named.now c.args.args.now c.args.around.now c.args.given.now
@@ -14,6 +18,7 @@ returns-then-not-is_empty c =
     ∙ ap (given_items c.args.names.now.known.now) c.as_slice.ensures))
     (search rules)
 
+-- The refusals are those of what is given, and the call is made of the items that are left and of those given.
 pub returns : goal.returns
 returns c =
     runs_with c.args.names.now.known.now c.args.names.now.named.now c.args.args.now c.args.around.now c.args.given.now

@@ -5,6 +5,7 @@ use Rattle.std.proofs.Common.{◌-◌, length, take}
 
 -- kept_backwards (src/keeping.rt). The items that stay, the last one first.
 
+-- The last of the items that are left is judged by the classes seen, and noted among them.
 pub loop-left-preserved : goal.loop-left-preserved
 loop-left-preserved c =
     keeping_more c.args.items.now c.loop-left.left.now (take (length c.loop-left.left.now - 1) c.loop-left.left.now) c.loop-left.stay.items

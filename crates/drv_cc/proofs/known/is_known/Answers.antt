@@ -7,6 +7,8 @@ use Rattle.std.proofs.lemmas.Iterator.Splits.{YieldsList-from_slice_split}
 
 -- is_known (src/known.rt). Whether a name is known, by all lines.
 
+-- Names: `same`: whether two texts have the same bytes.
+
 pub returns : goal.returns
 returns c =
     let made = c.split.ensures in

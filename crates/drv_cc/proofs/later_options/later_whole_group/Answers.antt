@@ -5,6 +5,10 @@ use Rattle.std.proofs.Common.{◌≡◌, ◌+◌, ap, arith, sym}
 
 -- later_whole_group (src/later_options.rt). The options that a word is, of this key and 32.
 
+-- Names: `whole_at`: the rows of whole options in a group, in the table's order. `sections`: the options in sections.
+
+-- In the arm of each key the options of the group are found by computation: `returns-in-7` is the arm of the key 7, and `c.in-7.is` says
+-- that the key is 7. The arm `in_default` has what keys are left.
 pub returns-in-0 : goal.returns-in-0
 unfolding sections
 returns-in-0 c = ap (λ key. whole_at (key + 32)) (sym c.in-0.is)

@@ -5,6 +5,7 @@ use Rattle.std.proofs.lemmas.Result.{on_ok_weaker}
 
 -- add_all_prefixes (src/line_adding.rt). Adds all folders of programs, and of copied spec files, after those of the line.
 
+-- The three lists that were added are those of the definition, in its order.
 pub returns : goal.returns
 returns c =
     on_ok_weaker c.add_prefixes-3.result

@@ -5,6 +5,11 @@ use Rattle.std.proofs.Common.{◌≡◌, ap, arith, sym}
 
 -- ignored_group (src/name_groups.rt). The options of this key that are passed over.
 
+-- Names: `ignored_at`: the options in a group for which gcc does nothing. `ignored`: options that gcc 12 takes and does nothing for, in
+-- both signs.
+
+-- In the arm of each key the options of the group are found by computation: `returns-in-7` is the arm of the key 7, and `c.in-7.is` says
+-- that the key is 7. The arm `in_default` has what keys are left.
 pub returns-in-0 : goal.returns-in-0
 unfolding ignored
 returns-in-0 c = ap ignored_at (sym c.in-0.is)

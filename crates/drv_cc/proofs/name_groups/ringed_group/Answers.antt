@@ -4,6 +4,10 @@ use Rattle.std.proofs.Common.{◌≡◌, ap, arith, sym}
 
 -- ringed_group (src/name_groups.rt). The options of this key that are in a ring, each with its ring.
 
+-- Names: `ringed_at`: the options in a group that a ring has, each with its ring.
+
+-- In the arm of each key the options of the group are found by computation: `returns-in-7` is the arm of the key 7, and `c.in-7.is` says
+-- that the key is 7. The arm `in_default` has what keys are left.
 pub returns-in-0 : goal.returns-in-0
 returns-in-0 c = ap ringed_at (sym c.in-0.is)
 

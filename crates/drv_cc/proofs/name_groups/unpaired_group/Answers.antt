@@ -5,6 +5,10 @@ use Rattle.std.proofs.Common.{◌≡◌, ap, arith, sym}
 
 -- unpaired_group (src/name_groups.rt). The options of this key that have one sign alone.
 
+-- Names: `unpaired_at`: the options in a group that have no opposite. `unpaired`: options without an opposite.
+
+-- In the arm of each key the options of the group are found by computation: `returns-in-7` is the arm of the key 7, and `c.in-7.is` says
+-- that the key is 7. The arm `in_default` has what keys are left.
 pub returns-in-0 : goal.returns-in-0
 unfolding unpaired
 returns-in-0 c = ap unpaired_at (sym c.in-0.is)

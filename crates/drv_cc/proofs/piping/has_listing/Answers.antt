@@ -7,6 +7,8 @@ use Rattle.std.proofs.lemmas.Iterator.Splits.{YieldsList-from_slice_split}
 
 -- has_listing (src/piping.rt). Whether one of the pieces between commas asks the assembler for a listing.
 
+-- Names: `begins`: whether a word begins with a beginning.
+
 pub returns : goal.returns
 returns c =
     let made = c.split.ensures in

@@ -7,6 +7,8 @@ use Rattle.std.proofs.lemmas.Iterator.Splits.{YieldsList-from_slice_split}
 
 -- has_output (src/piping.rt). Whether one of the pieces between commas means standard output.
 
+-- Names: `is_output`: whether an argument names standard output.
+
 pub returns : goal.returns
 returns c =
     let made = c.split.ensures in

@@ -5,6 +5,8 @@ use Rattle.std.proofs.lemmas.Result.{on_ok_weaker}
 
 -- add_compiler (src/quoting.rt). Adds the variable of the compiler that is called again.
 
+-- Names: `variable`: a variable of the environment, by its name and value.
+
 pub returns : goal.returns
 returns c =
     on_ok_weaker c.add_variable.result

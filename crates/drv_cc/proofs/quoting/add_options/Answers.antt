@@ -5,6 +5,8 @@ use Rattle.std.proofs.lemmas.Result.{on_ok_weaker}
 
 -- add_options (src/quoting.rt). Adds the variable of the words that the compiler is called again with.
 
+-- Names: `variable`: a variable of the environment, by its name and value.
+
 pub returns : goal.returns
 returns c =
     on_ok_weaker c.add_variable.result

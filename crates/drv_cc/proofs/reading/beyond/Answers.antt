@@ -4,6 +4,7 @@ use Rattle.std.proofs.Common.{◌∙◌, sym}
 
 -- beyond (src/reading.rt). A word that no row fits, as an item of its own name.
 
+-- Without names, a word that turns no warning off is unknown.
 pub returns-then-not-is_off : goal.returns-then-not-is_off
 returns-then-not-is_off c =
     none_named c.args.known.now c.args.word.now c.args.name.now c.is_off.result c.plain.result

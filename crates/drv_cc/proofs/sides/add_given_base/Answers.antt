@@ -5,6 +5,7 @@ use Rattle.std.proofs.lemmas.Result.{on_ok_weaker}
 
 -- add_given_base (src/sides.rt). Adds the name that is given and its end.
 
+-- Two words were added one after the other: the base, and then its end.
 pub returns : goal.returns
 returns c =
     on_ok_weaker c.add_end.result

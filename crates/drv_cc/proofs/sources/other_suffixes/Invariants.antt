@@ -5,6 +5,7 @@ use Rattle.drv_cc.proofs.sources.other_suffixes.Given as goal
 
 -- The loops of other_suffixes (src/sources.rt). The suffixes of sources of these kinds that only their language makes sources.
 
+-- Counting on from what was counted with what is left is counting all.
 abbrev pub invariant-loop-item : goal.invariant-loop-item
 invariant-loop-item l =
     all_noted (count_shown l.count) (other_suffixes (sources_from (kinds_shown l.kinds) l.language (drop l.item-index l.items)))

@@ -8,6 +8,8 @@ use Rattle.std.proofs.lemmas.Iterator.{YieldsList-from_slice}
 
 -- row_among (src/table.rt). The first of these rows that fits a word.
 
+-- Names: `shown`: a row of the code, as the definitions have it. `fits`: whether a word fits a row of the table.
+
 pub returns : goal.returns
 returns c =
     found_shown (λ r. r.now) shown (fits c.args.word.now) c.args.rows.now c.find.result

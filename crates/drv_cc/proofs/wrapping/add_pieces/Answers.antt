@@ -21,6 +21,7 @@ loop-piece-preserved c =
     ∙ ap (λ all. c.args.words.now ++ flat_map (with_value (codes "--gdrv-wrapper=")) all)
     (sym (map-append (λ piece. piece.now) c.loop-piece.yielded (c.in-Some.piece ∷ [])))
 
+-- The pieces that the loop took are all pieces of the argument between its commas.
 pub returns : goal.returns
 returns c =
     let made = c.split-piece-items.ensures in

@@ -6,6 +6,9 @@ use Rattle.std.proofs.lemmas.List.{take_rest}
 
 -- cut_line (src/bytes.rt). A text's first line, and what follows its newline, if it has one.
 
+-- Names: `first_line`: the line up to the first newline is the first line of the text. `lines_of`: the lines of a text, without their
+-- newlines.
+
 pub returns-in-Some-clause-lines : goal.returns-in-Some-clause-lines
 returns-in-Some-clause-lines c =
     first_line c.args.text.now c.find_byte.result c.in-Some.at c.find_byte.ensures c.in-Some.is

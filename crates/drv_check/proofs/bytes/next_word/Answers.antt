@@ -5,6 +5,9 @@ use Rattle.std.proofs.Common.{◌∷◌, ◌∙◌, ap, sym, take}
 
 -- next_word (src/bytes.rt). A text's first word, cut at blanks, and what follows it.
 
+-- Names: `words_alone`: a line without a blank after its front has one word. `words_none`: the words of a line. `words_some`: a word ends
+-- at the first blank after it, and the others follow.
+
 pub returns-then-not-has_byte-clause-none : goal.returns-then-not-has_byte-clause-none
 returns-then-not-has_byte-clause-none c =
     words_none c.args.text.now c.without_blanks-text.result.now c.without_blanks-text.ensures

@@ -5,6 +5,8 @@ use Rattle.std.proofs.Common.{length, refl}
 
 -- without_blanks (src/bytes.rt). A text without the blanks at its front.
 
+-- Names: `front_by`: the code drops the bytes before the first that doesn't pass. `is_blank`: whether a byte is a space or a tab.
+
 pub returns : goal.returns
 returns c =
     front_by is_blank c.args.text.now c.following.result.now c.first_solid.result (length c.args.text.now) c.unwrap_or-stays.result

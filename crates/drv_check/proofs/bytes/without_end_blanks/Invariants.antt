@@ -5,6 +5,7 @@ use Rattle.std.proofs.Common.{◌≡◌, ◌≤◌, length, take}
 
 -- The loops of without_end_blanks (src/bytes.rt). A text without the blanks at its end.
 
+-- Up to the place reached the text has the same bytes before the blanks at its end as the whole.
 abbrev pub invariant-loop-end : goal.invariant-loop-end
 invariant-loop-end l = record {
   within : l.end ≤ length l.text;

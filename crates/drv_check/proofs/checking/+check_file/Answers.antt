@@ -19,6 +19,7 @@ pub returns-in_err-check_file-clause-asks : goal.returns-in_err-check_file-claus
 returns-in_err-check_file-clause-asks g t c = asked_further c.loop-piece.invariant.asks
     (asked_further c.step.ensures.asks c.check_file.ensures.asks)
 
+-- The piece opened a file: the rest of the pieces goes on from what the check of that file gives (`piece_gone`, `enters`).
 pub loop-piece-preserved : goal.loop-piece-preserved
 loop-piece-preserved g t c = record {
   asks = asked_further c.loop-piece.invariant.asks (asked_further c.step.ensures.asks c.check_file.ensures.asks);
@@ -32,6 +33,7 @@ loop-piece-preserved g t c = record {
       (c.loop-piece.invariant.rest F (extends_before c.step.ensures.asks (extends_before c.check_file.ensures.asks e)));
 }
 
+-- The piece opened no file: the rest of the pieces goes on from its step.
 pub loop-piece-preserved-in_default : goal.loop-piece-preserved-in_default
 loop-piece-preserved-in_default g t c = record {
   asks = asked_further c.loop-piece.invariant.asks c.step.ensures.asks;

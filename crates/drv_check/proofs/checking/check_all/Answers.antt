@@ -5,6 +5,7 @@ use Rattle.drv_system.proofs.AskedCalls.{asked_further, extends_before}
 
 -- check_all (src/checking.rt). Checks the files of the call.
 
+-- One file more of the call was checked (`name_done`).
 pub loop-name-preserved : goal.loop-name-preserved
 loop-name-preserved g c = record {
   asks = asked_further c.loop-name.invariant.asks c.check_called.ensures.asks;

@@ -8,6 +8,7 @@ use Rattle.std.proofs.Common.{◌∙◌, None, ap, false, sym}
 
 -- check_called (src/checking.rt). Checks a file of the call.
 
+-- The file was opened, so its check is that of its pieces (`called_in`).
 pub returns-in-Some-clause-checks : goal.returns-in-Some-clause-checks
 returns-in-Some-clause-checks g c F e =
     called_in F c.args.search.now.prefixes.now c.args.checking.now c.open.new.checking c.args.name.now c.in-Some.file

@@ -5,6 +5,10 @@ use Rattle.std.proofs.Common.{refl}
 
 -- find_text (src/opening.rt). The path of an included file, and its text.
 
+-- Names: `F`: what is known of the outside. `e`: that `F` extends the facts of this call. `asks_then`: one call that only asks after
+-- another. `found_is`: an included file is opened by its path and its text, once both are known. `asks_extends`: a call that only asked
+-- keeps every answer.
+
 pub returns-in_err-text-clause-asks : goal.returns-in_err-text-clause-asks
 returns-in_err-text-clause-asks g c = record {
   asks = asks_then c.find_file.ensures.asks c.read.ensures.asks;

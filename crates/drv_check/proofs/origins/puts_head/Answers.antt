@@ -6,6 +6,9 @@ use Rattle.std.proofs.Common.{◌∙◌, ap, drop, sym}
 
 -- puts_head (src/origins.rt). Whether a piece puts the text of this head, or adds to it.
 
+-- Names: `other_head`: a line begins with no head that has another size than its own. `front_length`: how many bytes at the front pass a
+-- test.
+
 pub returns-then-not-may_begin : goal.returns-then-not-may_begin
 returns-then-not-may_begin c =
     other_head c.args.head.now c.args.piece.now c.following.result.now

@@ -7,6 +7,7 @@ use Rattle.std.specs.Prelude.{get_or}
 
 -- add_pairs (src/reached.rt). Adds the names that the texts of pairs name, where those are among these texts.
 
+-- One pair more: its names were added if its text is among these (`pair_next`).
 pub loop-place-preserved : goal.loop-place-preserved
 loop-place-preserved c =
     pair_next c.args.texts.now c.args.set.now.pairs c.loop-place.place c.index-pairs-place.result c.as_bytes-text.result.now

@@ -15,6 +15,7 @@ loop-place-init c =
     ∙ ap (reached_from c.args.set.now most_texts 0)
     (c.in_ok-add_pairs.ensures ∙ ap (λ names. with_pairs c.args.texts.now names c.args.set.now.pairs) c.in_ok-names.ensures)
 
+-- One name more: those that its text names were added (`text_next`).
 pub loop-place-preserved : goal.loop-place-preserved
 loop-place-preserved c =
     text_next c.args.set.now c.loop-place.names c.loop-place.place c.as_bytes.result.now c.index-as_slice-place.result
@@ -24,6 +25,7 @@ loop-place-preserved c =
     ∙ ap (λ names. get_or names c.loop-place.place c.index-as_slice-place.result) c.as_slice.ensures)
     c.tree-tree.ensures c.in_ok-add_text.ensures c.loop-place.invariant
 
+-- The loop ended behind the last name (`all_reached`), or after the most texts (`most_reached`).
 pub returns : goal.returns
 returns c =
     elim c.loop-place-test.branch [

@@ -18,6 +18,7 @@ pub returns-in_err-seek_file-clause-asks : goal.returns-in_err-seek_file-clause-
 returns-in_err-seek_file-clause-asks g t c = asked_further c.loop-piece.invariant.asks
     (asked_further c.open_next.ensures.asks c.seek_file.ensures.asks)
 
+-- The piece opened a file: the pieces after it are sought from where the search in that file ended (`piece_sought`, `opens_inner`).
 pub loop-piece-preserved : goal.loop-piece-preserved
 loop-piece-preserved g t c = record {
   asks = asked_further c.loop-piece.invariant.asks (asked_further c.open_next.ensures.asks c.seek_file.ensures.asks);
@@ -32,6 +33,7 @@ loop-piece-preserved g t c = record {
       (c.loop-piece.invariant.rest F (extends_before c.open_next.ensures.asks (extends_before c.seek_file.ensures.asks e)) is_file);
 }
 
+-- The piece opened no file: the pieces after it are sought from its step (`opens_no_file`).
 pub loop-piece-preserved-in_default : goal.loop-piece-preserved-in_default
 loop-piece-preserved-in_default g t c = record {
   asks = asked_further c.loop-piece.invariant.asks c.open_next.ensures.asks;

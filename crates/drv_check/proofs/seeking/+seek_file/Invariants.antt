@@ -8,6 +8,7 @@ use Rattle.drv_system.specs.Facts.{Facts}
 
 -- The loops of seek_file (src/seeking.rt). Opens what an open file includes, and what is included there.
 
+-- The pieces that are left, from the check so far, open what the whole file opens.
 abbrev pub invariant-loop-piece : goal.invariant-loop-piece
 invariant-loop-piece g l = record {
   asks : Asked g.S.System.events l.fn.outside l.outside;

@@ -9,6 +9,7 @@ use Rattle.std.proofs.Common.{refl}
 pub loop-name-init : goal.loop-name-init
 loop-name-init g c = record { asks = asked_none c.args.outside.now; rest = λ F e set findings. (set, findings, refl) }
 
+-- One file more of the line was sought (`name_sought`).
 pub loop-name-preserved : goal.loop-name-preserved
 loop-name-preserved g c = record {
   asks = asked_further c.loop-name.invariant.asks c.seek_called.ensures.asks;

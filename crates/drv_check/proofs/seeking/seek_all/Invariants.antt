@@ -8,6 +8,7 @@ use Rattle.std.proofs.Common.{drop}
 
 -- The loops of seek_all (src/seeking.rt). Opens the files of the line, and what they include.
 
+-- The files that are left, from the check so far, open what all of them open.
 abbrev pub invariant-loop-name : goal.invariant-loop-name
 invariant-loop-name g l = record {
   asks : Asked g.S.System.events l.fn.outside l.outside;

@@ -8,6 +8,7 @@ use Rattle.std.proofs.Common.{◌∙◌, None, ap, false, sym}
 
 -- seek_called (src/seeking.rt). Opens a file of the line, and what it includes.
 
+-- The file was opened, so what is sought is what its pieces open (`called_within`).
 pub returns-in-Some-clause-seeks : goal.returns-in-Some-clause-seeks
 returns-in-Some-clause-seeks g c F e =
     called_within F c.args.search.now.prefixes.now c.args.checking.now c.open.new.checking c.seek_file.new.checking c.args.name.now

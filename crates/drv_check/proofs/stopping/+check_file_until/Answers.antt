@@ -27,6 +27,7 @@ pub returns-in_err-check_file_until-clause-asks : goal.returns-in_err-check_file
 returns-in_err-check_file_until-clause-asks g t c = asked_further c.loop-piece.invariant.asks
     (asked_further c.step.ensures.asks c.check_file_until.ensures.asks)
 
+-- No fault yet, and the piece opened a file: the rest goes on from what the check of that file gives (`piece_gone_until`, `enters_in`).
 pub loop-piece-preserved : goal.loop-piece-preserved
 loop-piece-preserved g t c = record {
   asks = asked_further c.loop-piece.invariant.asks (asked_further c.step.ensures.asks c.check_file_until.ensures.asks);
@@ -43,6 +44,7 @@ loop-piece-preserved g t c = record {
       (c.loop-piece.invariant.rest F (extends_before c.step.ensures.asks (extends_before c.check_file_until.ensures.asks e)));
 }
 
+-- No fault yet, and the piece opened no file: the rest of the pieces goes on from its step.
 pub loop-piece-preserved-in_default : goal.loop-piece-preserved-in_default
 loop-piece-preserved-in_default g t c = record {
   asks = asked_further c.loop-piece.invariant.asks c.step.ensures.asks;

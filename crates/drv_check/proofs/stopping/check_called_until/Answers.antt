@@ -8,6 +8,7 @@ use Rattle.std.proofs.Common.{◌∙◌, None, ap, false, sym}
 
 -- check_called_until (src/stopping.rt). Checks a file of the call up to its first fault.
 
+-- The file was opened, so its check is that of its pieces, up to the first fault (`called_in_until`).
 pub returns-in-Some-clause-checks : goal.returns-in-Some-clause-checks
 returns-in-Some-clause-checks g c F e =
     called_in_until F c.args.search.now.prefixes.now c.args.checking.now c.open.new.checking c.args.name.now c.in-Some.file

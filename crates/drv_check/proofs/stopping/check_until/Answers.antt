@@ -12,6 +12,7 @@ returns-then-is_refused-clause-checks g c F e =
     ∙ names_kept F c.args.search.now.prefixes.now c.loop-name.checking (drop c.loop-name.name-index c.args.names.now)
     (sym c.is_refused.ensures ∙ c.if-is_refused.true)
 
+-- No fault yet: one file more of the call was checked (`name_gone`).
 pub loop-name-preserved : goal.loop-name-preserved
 loop-name-preserved g c = record {
   asks = asked_further c.loop-name.invariant.asks c.check_called_until.ensures.asks;

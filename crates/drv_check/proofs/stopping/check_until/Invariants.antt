@@ -7,6 +7,7 @@ use Rattle.std.proofs.Common.{◌≡◌, drop}
 
 -- The loops of check_until (src/stopping.rt). Checks files of the call up to their first fault.
 
+-- The files that are left, from the check so far, lead to the same end as all of them, up to the first fault.
 abbrev pub invariant-loop-name : goal.invariant-loop-name
 invariant-loop-name g l = record {
   asks : Asked g.S.System.events l.fn.outside l.outside;

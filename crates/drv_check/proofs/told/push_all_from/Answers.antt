@@ -6,6 +6,8 @@ use Rattle.std.specs.List.{flat_map}
 
 -- push_all_from (src/told.rt). Adds where files are included.
 
+-- Names: `places_next`: the places where files are included. `from_text`: the line that says where the file was included.
+
 pub loop-place-preserved : goal.loop-place-preserved
 loop-place-preserved c =
     places_next c.loop-place.text c.push_from.new.text c.args.places.now c.loop-place.place-index c.place-item.result

@@ -8,6 +8,7 @@ use Rattle.std.proofs.Common.{◌∙◌, ◌++◌, ap, codes}
 
 -- put_members (src/told_json.rt). Writes what it is and where its file is included, and ends the object.
 
+-- Two members were put one after the other, and then the object's end (`two_members`).
 pub returns : goal.returns
 returns c =
     two_members c.token-3.result c.args.out.now c.token.new.self c.put_word.new.out c.token-2.new.self c.put_places.new.out

@@ -6,6 +6,8 @@ use Rattle.std.specs.Option.{option_map}
 
 -- first_value (src/compilers.rt). The first value of a key in a text, if there is one.
 
+-- Names: `lines`: the lines of a file's text. `value_none`: `first_value` has none where no line begins with the key.
+
 pub returns-in-None : goal.returns-in-None
 returns-in-None c =
     value_none c.args.key.now (lines c.args.text.now) _ (ap (option_map (λ line. line.now)) c.in-None.is) c.first_line.ensures

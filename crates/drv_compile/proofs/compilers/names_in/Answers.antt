@@ -7,6 +7,7 @@ use Rattle.std.specs.Slice.Iter.{split_callee, split_done, split_rest}
 
 -- names_in (src/compilers.rt). The names in a spec file's text (GCC, "gcc.cc", validate_switches), and what else there looks like one.
 
+-- The pieces that the loop took are all names of the text.
 pub returns : goal.returns
 returns c =
     let made = c.split-name-items.ensures in

@@ -5,6 +5,8 @@ use Rattle.std.proofs.Common.{ap, length}
 -- carry_out (src/compiling.rt). Does what is prepared, and says the hint where its run does not find a program of the compiler, or else the
 -- remark.
 
+-- Names: `longer_than`: `done` counts the events before a work. `work_noted`: `done` does its work whole where it says something after it.
+
 pub say_hint_or_remark-requires-clause-before : goal.say_hint_or_remark-requires-clause-before
 say_hint_or_remark-requires-clause-before g c =
     longer_than _ _ _ c.args.name.now c.args.prepared.now c.in-Ok.status c.journal-before.ensures

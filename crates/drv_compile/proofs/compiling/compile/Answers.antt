@@ -3,6 +3,8 @@ use Rattle.drv_compile.proofs.compiling.compile.Goals as goal
 
 -- compile (src/compiling.rt). A call of `gdrv-cc` with these arguments (GCC manual, "Invoking GCC"; as `c99`, POSIX c99).
 
+-- Names: `compiled_by_none`: `compile` ends without facts where memory lacked for the folder of temporaries.
+
 pub returns-in-Ok-clause-compiled : goal.returns-in-Ok-clause-compiled
 returns-in-Ok-clause-compiled g c = c.compile_settled.ensures.compiled _ _ c.in-Ok.ensures.settles
 

@@ -5,6 +5,10 @@ use Rattle.std.proofs.Common.{rules}
 
 -- compile_settled (src/compiling.rt). A call over a table that has the folder of temporaries.
 
+-- Names: `journal`: what was done outside so far. `notes`: the calls of the host so far. `before`: the clause's condition `Going`.
+-- `going_further`: `compile_settled` asks more, and still goes by that folder. `compiled_done`: `compile_settled` carries out what was
+-- prepared, in the name of the call.
+
 pub returns-in-Ok-clause-compiled : goal.returns-in-Ok-clause-compiled
 returns-in-Ok-clause-compiled g c journal notes before =
     let asks = c.prepare.ensures.asks.asks in

@@ -3,6 +3,9 @@ use Rattle.drv_compile.proofs.compiling.say_after.Goals as goal
 
 -- say_after (src/compiling.rt). Says a text after a work, if there is one.
 
+-- Names: `some_bytes`: `is_empty` says that a text has bytes. `no_bytes`: `is_empty` says that a text has no bytes. `no_pipe_after_text`: a
+-- text that is said starts nothing.
+
 pub returns-then-is_empty-clause-closes : goal.returns-then-is_empty-clause-closes
 returns-then-is_empty-clause-closes g c =
     nothing_closed (g.S.System.events c.args.sys.now) c.args.text.now c.args.status (no_bytes _ _ c.is_empty.ensures c.if-is_empty.true)

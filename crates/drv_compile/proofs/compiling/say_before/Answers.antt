@@ -3,6 +3,8 @@ use Rattle.drv_compile.proofs.compiling.say_before.Goals as goal
 
 -- say_before (src/compiling.rt). Says what is said before a work, if there is anything.
 
+-- Names: `no_bytes`: `is_empty` says that a text has no bytes. `no_pipe_after_text`: a text that is said starts nothing.
+
 pub returns-in_ok-say-clause-opens : goal.returns-in_ok-say-clause-opens
 returns-in_ok-say-clause-opens g c =
     text_opened (g.S.System.events c.args.sys.now) _ c.args.said.now _

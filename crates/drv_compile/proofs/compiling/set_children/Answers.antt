@@ -7,6 +7,7 @@ use Rattle.std.proofs.Common.{◌∙◌, ap, arith, length, rules}
 pub loop-variable-init : goal.loop-variable-init
 loop-variable-init g c = record { sets = none_set _ _ _; same = search rules }
 
+-- One variable more was set (`set_more`), and the system's journal is the same.
 pub loop-variable-preserved : goal.loop-variable-preserved
 loop-variable-preserved g c = record {
   sets =

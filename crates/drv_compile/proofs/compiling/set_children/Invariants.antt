@@ -4,6 +4,7 @@ use Rattle.std.proofs.Common.{◌≡◌, length}
 
 -- The loops of set_children (src/compiling.rt). Sets the variables of a line for children.
 
+-- The first variables were set, and the system's journal is the same.
 abbrev pub invariant-loop-variable : goal.invariant-loop-variable
 invariant-loop-variable g l = record {
   sets : Setting (length (g.S.System.events l.fn.sys)) l.children l.variable-index (g.H.Host.notes l.fn.host) (g.H.Host.notes l.host);

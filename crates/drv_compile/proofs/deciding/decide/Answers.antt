@@ -5,6 +5,9 @@ use Rattle.drv_system.proofs.AskedCalls.{extends_before}
 -- decide (src/deciding.rt). What the words of a line ask for, response files expanded and those of c99 turned into gcc's, where the spec
 -- file of this program lies at `own`, if that is known.
 
+-- Names: `decided_so`: `decide` takes its own place twice, since the look for the spec file uses the first copy up. `extends_before`: what
+-- extends the facts after a call extends those before it.
+
 pub returns-clause-decision : goal.returns-clause-decision
 returns-clause-decision g c F e =
     decided_so F c.args.own.now c.args.words.now c.in_ok-place.place c.in_ok-found.found c.in_ok-place-2.place c.decided_with.result

@@ -9,6 +9,7 @@ use Rattle.std.proofs.Common.{◌∙◌, ap, sym}
 pub returns-clause-asks : goal.returns-clause-asks
 returns-clause-asks g c = asked_further (asked_further c.variable.ensures.asks c.variable-2.ensures.asks) c.decided_around.ensures.asks
 
+-- What was asked for the two variables stays known while the later calls ask more.
 pub returns-clause-decision : goal.returns-clause-decision
 returns-clause-decision g c F e =
     let after = extends_before c.decided_around.ensures.asks e in

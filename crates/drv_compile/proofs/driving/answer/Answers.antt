@@ -4,6 +4,9 @@ use Rattle.drv_system.proofs.AskedCalls.{extends_before}
 
 -- answer (src/driving.rt). What the spec files of a line give it.
 
+-- Names: `F`: what is known of the outside. `e`: that `F` extends the facts of this call. `answer_told`: `answer` hands on how the driver
+-- ends where the line's self spec can't be carried out. `extends_before`: what extends the facts after a call extends those before it.
+
 pub returns-in-Err-clause-answers : goal.returns-in-Err-clause-answers
 returns-in-Err-clause-answers g c F e =
     answer_told F c.args.line.now _ c.args.first.now c.in-Err.ending c.stop_after.result c.as_bytes-name.ensures

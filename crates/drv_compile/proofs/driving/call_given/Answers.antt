@@ -4,6 +4,9 @@ use Rattle.std.proofs.Common.{◌∙◌, Some, ap}
 
 -- call_given (src/driving.rt). The call that the spec files of a line ask for in its place, if they ask for one.
 
+-- Names: `given_ask`: `call_given` gives no line where the spec files made a question of it. `given_none`: `call_given` gives no line where
+-- the spec files gave it nothing.
+
 pub returns-in-Some-Run : goal.returns-in-Some-Run
 returns-in-Some-Run c = given_run c.args.answer c.in-Some-Run.call (c.in-Some-Run.is ∙ ap Some c.in-Some-Run.field-0-is)
 

@@ -8,6 +8,9 @@ use Rattle.std.proofs.Common.{◌∙◌, ap}
 
 -- driver_of_call (src/driving.rt). Who carries out a line by itself, with the file that has its texts.
 
+-- Names: `asked_further`: calls that only asked, one after another. `none_noted`: nothing was noted. `memory_stops`: lack of memory says
+-- nothing. `called_damaged`: `driver_of_call` refuses a line whose texts are damaged, by the parts of its call.
+
 pub returns-in_err-rows-clause-calls : goal.returns-in_err-rows-clause-calls
 returns-in_err-rows-clause-calls g c = none_noted _ _ (λ F e. memory_stops c.from_residual.result _ _ c.from_residual.ensures.1)
 

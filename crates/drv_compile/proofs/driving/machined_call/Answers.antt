@@ -7,6 +7,9 @@ use Rattle.std.specs.Option.{option_copied}
 
 -- machined_call (src/driving.rt). Who carries out a line by itself, by these files.
 
+-- Names: `machined_as`: `machined_call` takes the rows only of a text that has some. `row_of`: the row of a line by the text of a file, if
+-- that is whole.
+
 pub returns : goal.returns
 returns g c =
     machined_as c.args.line.now.chain.specs c.args.files c.args.call c.args.line.now.given (option_copied c.for_machines-lines.result)

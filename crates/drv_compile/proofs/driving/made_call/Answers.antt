@@ -6,6 +6,8 @@ use Rattle.std.specs.Option.{option_copied}
 -- made_call (src/driving.rt). Who carries out a line with these items, with this file that has its texts, and with the suffix of programs
 -- that the rows name.
 
+-- Names: `made_driver`: `made_call` calls the driver with the items and the suffix.
+
 pub returns-in_ok-all-in-Made : goal.returns-in_ok-all-in-Made
 returns-in_ok-all-in-Made c =
     made_driver c.args.path (option_copied c.args.rows) c.args.given.now c.args.made c.in-Made.items _ _ c.in-Made.children _

@@ -6,6 +6,9 @@ use Rattle.drv_system.proofs.AskedCalls.{asked_further, extends_before}
 -- worker_after (src/driving.rt). Who carries out a line that the driver would be called with so, with the options that the spec files of
 -- the line give it.
 
+-- Names: `none_noted`: nothing was noted. `undriven_answer`: `worker_after` hands on why its spec files give no answer. `undriven_denied`:
+-- `worker_after` hands on why what they give is refused.
+
 pub returns-in_err-answer-clause-drives : goal.returns-in_err-answer-clause-drives
 returns-in_err-answer-clause-drives g c =
     none_noted _ _ (λ F e. undriven_answer F c.args.line.now c.args.first _ c.from_residual.result

@@ -7,6 +7,9 @@ use Rattle.std.specs.List.{each_same}
 
 -- expansion (src/expanding.rt). Arguments with their response files expanded.
 
+-- Names: `F`: what is known of the outside. `e`: that `F` extends the facts of this call. `args_told`: `expansion` tells the refusal of the
+-- driver's words, unless memory lacked. `stop_of`: how a call ends before its work that the driver would end so.
+
 pub returns-in-Ok-clause-gives : goal.returns-in-Ok-clause-gives
 returns-in-Ok-clause-gives g c F e =
     let same : c.in_ok-args.args ≡ c.args.args.now = each_same _ _ c.in_ok-args.ensures.cases in

@@ -8,6 +8,7 @@ use Rattle.std.proofs.Common.{◌∙◌, ap, arith, sym}
 
 -- first_unread (src/expanding.rt). The path of the first response file that words name and that can't be read.
 
+-- The word at hand names no file, or one that can be read: so the rest decides (`unread_more`).
 pub loop-word-preserved : goal.loop-word-preserved
 loop-word-preserved g c = record {
   asks = asked_further c.loop-word.invariant.asks c.unread_at.ensures.asks;

@@ -5,6 +5,8 @@ use Rattle.std.proofs.Common.{◌∙◌, ap}
 
 -- gcc_words (src/expanding.rt). The words of gcc for those of the call's front.
 
+-- Names: `stop_of`: how a call ends before its work that the driver would end so. `c99_told`: `gcc_words` that of c99's.
+
 pub returns-in_ok-stop-in-Err : goal.returns-in_ok-stop-in-Err
 returns-in_ok-stop-in-Err c =
     c99_told c.args.calling.now c.args.expanded c.in-Err.fault c.in_ok-stop-in-Err.stop

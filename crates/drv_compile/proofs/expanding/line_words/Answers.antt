@@ -5,6 +5,10 @@ use Rattle.std.proofs.Common.{rules}
 
 -- line_words (src/expanding.rt). The words of a call: response files expanded, and those of c99 turned into gcc's.
 
+-- Names: `F`: what is known of the outside. `e`: that `F` extends the facts of this call. `extends_before`: what extends the facts after a
+-- call extends those before it. `unexpanded`: `line_words` hands on why the words aren't expanded. `unreadable`: why a response file can't
+-- be read.
+
 pub returns-in_err-expanded-clause-gives : goal.returns-in_err-expanded-clause-gives
 returns-in_err-expanded-clause-gives g c F e =
     unexpanded F c.args.calling.now _ c.args.args.now _ c.from_residual.result (search rules) c.from_residual.ensures.1

@@ -5,6 +5,8 @@ use Rattle.std.proofs.Common.{◌∙◌, ap}
 
 -- refuse_unread (src/expanding.rt). Refuses words of which one names a response file that can't be read.
 
+-- Names: `F`: what is known of the outside. `e`: that `F` extends the facts of this call. `unread_text`: a response file that is there.
+
 pub returns-clause-gives : goal.returns-clause-gives
 returns-clause-gives g c F e = (
   c.in-Some.path,

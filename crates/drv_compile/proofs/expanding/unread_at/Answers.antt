@@ -5,6 +5,8 @@ use Rattle.std.specs.Option.{option_copied}
 
 -- unread_at (src/expanding.rt). The path of a response file that is there and can't be read, if there is a path.
 
+-- Names: `unread_asked`: a response file.
+
 pub returns-clause-path : goal.returns-clause-path
 returns-clause-path g c F e =
     unread_asked F (option_copied c.args.path) c.in-Some.path.now c.in_ok-path.path c.read_answer-answer.result.now c.if_unread.result

@@ -4,6 +4,8 @@ use Rattle.std.specs.Option.{option_copied}
 
 -- file_of_variable (src/finding.rt). The path of the spec file that a variable names, if it names one.
 
+-- Names: `named_by_variable`: `file_of_variable` asks for the variable by a word that it makes of its name.
+
 pub returns-clause-path : goal.returns-clause-path
 returns-clause-path g c F e =
     named_by_variable F c.in_ok-name.name (option_copied c.variable_answer.result) c.given_by.result c.in_ok-name.ensures

@@ -3,6 +3,8 @@ use Rattle.drv_compile.proofs.finding.plain_at.Goals as goal
 
 -- plain_at (src/finding.rt). The path, if it is a plain file.
 
+-- Names: `plain_asked`: `plain_at` asks what is at a path, if there is one.
+
 pub returns-clause-path : goal.returns-clause-path
 returns-clause-path g c F e =
     plain_asked F c.args.path c.in-Some.path c.in_ok-kind.kind c.if_plain.result c.in-Some.is

@@ -5,6 +5,9 @@ use Rattle.drv_system.proofs.AskedCalls.{extends_before}
 -- spec_file (src/finding.rt). The path of the spec file that a variable names, or else of the one at its own place, if that is a plain
 -- file.
 
+-- Names: `file_found_so`: `spec_file` asks the variable first, and then what is at the path. `extends_before`: what extends the facts after
+-- a call extends those before it.
+
 pub returns-clause-path : goal.returns-clause-path
 returns-clause-path g c F e =
     file_found_so F c.args.own c.in_ok-named.named c.or_own.result c.plain_at.result

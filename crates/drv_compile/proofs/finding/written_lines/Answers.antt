@@ -5,6 +5,9 @@ use Rattle.std.proofs.Common.{◌∙◌, sym}
 
 -- written_lines (src/finding.rt). The lines before the mark of a file that `gdrv-write-specs` wrote, where it is a plain file and whole.
 
+-- Names: `written_read`: `written_lines` reads a plain file, and takes its lines if it is whole. `asks_extends`: a call that only asked
+-- keeps every answer.
+
 pub returns-then-is_plain-clause-lines : goal.returns-then-is_plain-clause-lines
 returns-then-is_plain-clause-lines g c F e =
     written_read F c.args.path.now c.in_ok-kind.kind c.read_answer.result.now c.lines_in.result

@@ -7,6 +7,7 @@ use Rattle.std.proofs.Common.{◌++◌, ◌∙◌, ap, refl}
 
 -- absent_inputs_text (src/inputs.rt). The text about the inputs that are not there.
 
+-- One input more was asked for, and its line added if it isn't there (`absent_more`).
 pub loop-input-preserved : goal.loop-input-preserved
 loop-input-preserved g c = record {
   asks = asked_further c.loop-input.invariant.asks (record { asks = c.kind.ensures.asks; same_sys = refl; same_facts = refl });

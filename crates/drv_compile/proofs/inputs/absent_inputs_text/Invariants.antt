@@ -8,6 +8,7 @@ use Rattle.std.proofs.Common.{◌≡◌, drop}
 
 -- The loops of absent_inputs_text (src/inputs.rt). The text about the inputs that are not there.
 
+-- The text so far, with what the inputs left add, is the whole.
 abbrev pub invariant-loop-input : goal.invariant-loop-input
 invariant-loop-input g l = record {
   asks : Asked g.S.System.events l.fn.outside l.outside;

@@ -5,6 +5,9 @@ use Rattle.std.proofs.Common.{◌∙◌, sym}
 
 -- objection (src/inputs.rt). The text that refuses a line: about a variable that gcc's driver takes, or else about missing inputs.
 
+-- Names: `set_objects`: a variable that is set, and one that is not. `unset_objects`: `objection` goes on to the inputs where the variable
+-- is not set.
+
 pub returns-then-is_some-clause-text : goal.returns-then-is_some-clause-text
 returns-then-is_some-clause-text g c F e =
     set_objects F c.args.name.now c.args.inputs.now c.in_ok-value.value c.variable_text.result (c.in_ok-value.ensures.value F e)

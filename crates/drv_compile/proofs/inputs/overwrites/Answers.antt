@@ -6,6 +6,9 @@ use Rattle.std.proofs.Common.{◌∙◌, ap, sym}
 -- overwrites (src/inputs.rt). Whether an output is an input, by whatever path; `-` and `/dev/null` are none (GCC, "gcc.cc",
 -- process_command).
 
+-- Names: `is_no_file`: what is no file. `new_written`: `overwrites` asks one thing for an output that isn't there. `none_written`:
+-- `overwrites` asks the host nothing for a line without an output.
+
 pub returns-in_default : goal.returns-in_default
 returns-in_default g c = none_written c.args.inputs.now c.args.output.now _ c.in_default.is
 

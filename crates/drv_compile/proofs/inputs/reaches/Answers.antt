@@ -4,6 +4,9 @@ use Rattle.std.proofs.Common.{◌∙◌, arith, sym}
 
 -- reaches (src/inputs.rt). Whether an input leads to the file at a path.
 
+-- Names: `reaches_it`: `reaches` ends at an input that leads to the output. `reaches_more`: `reaches` goes on behind an input that leads
+-- elsewhere. `reaches_none`: `reaches` finds no input that leads to the output, after all were asked for.
+
 pub returns-then-is_at : goal.returns-then-is_at
 returns-then-is_at g c =
     reaches_it c.args.path.now c.args.inputs.now c.loop-input.input-index c.input-item.result c.in_ok-found.found _ _ _

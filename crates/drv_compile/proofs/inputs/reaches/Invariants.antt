@@ -5,6 +5,7 @@ use Rattle.std.proofs.Common.{Bool, List, ◌++◌, drop}
 
 -- The loops of reaches (src/inputs.rt). Whether an input leads to the file at a path.
 
+-- No input so far leads to the output, so those that are left decide, by the events so far and theirs.
 abbrev pub invariant-loop-input : goal.invariant-loop-input
 invariant-loop-input g l =
     Noted (g.H.Host.notes l.fn.host) (g.H.Host.notes l.host)

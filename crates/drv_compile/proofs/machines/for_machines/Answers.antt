@@ -7,6 +7,9 @@ use Rattle.std.specs.Option.{option_copied}
 
 -- for_machines (src/machines.rt). The text, if it has rows for machines or names a suffix of programs.
 
+-- Names: `row_of`: the row of a line by the text of a file, if that is whole. `suffixed_by`: where the file is not whole, the line stays as
+-- it is.
+
 pub returns-clause-rows : goal.returns-clause-rows
 returns-clause-rows c items =
     rows_left_out c.in-Some.text.now c.has_either.result items c.has_either.ensures c.if-has_either.false

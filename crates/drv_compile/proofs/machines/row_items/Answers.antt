@@ -9,6 +9,7 @@ use Rattle.std.specs.Slice.Iter.{split_callee, split_done, split_rest}
 
 -- row_items (src/machines.rt). The words of a row as items.
 
+-- The pieces that the loop took are all words of the row between its tabs.
 pub returns : goal.returns
 returns c =
     let made = c.split-word-items.ensures in

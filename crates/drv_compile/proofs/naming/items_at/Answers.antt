@@ -5,6 +5,9 @@ use Rattle.std.proofs.Common.{◌∙◌, sym}
 
 -- items_at (src/naming.rt). The items of a line by the names of options in the file at a path, if that is a plain file and whole.
 
+-- Names: `is`: the clause's equation. `items_read_at`: `items_at` takes that file if it is a plain one. `asks_extends`: a call that only
+-- asked keeps every answer.
+
 pub returns-then-is_plain-clause-items : goal.returns-then-is_plain-clause-items
 returns-then-is_plain-clause-items g c words is F e =
     items_read_at F c.args.path.now words c.in_ok-kind.kind c.read_answer.result.now c.items_in.result

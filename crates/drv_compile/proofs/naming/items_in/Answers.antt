@@ -5,6 +5,8 @@ use Rattle.std.specs.Option.{option_copied}
 
 -- items_in (src/naming.rt). The items of a line by the names of options in a file that was read, if that is whole.
 
+-- Names: `is`: the clause's equation. `whole_named`: `items_in` reads the words again by the names in a whole file.
+
 pub returns-in_ok-with_names-in-Some : goal.returns-in_ok-with_names-in-Some
 returns-in_ok-with_names-in-Some c words is =
     whole_named words c.args.answer.now _ _ _ _ _ c.in-Read.is c.as_bytes.ensures c.whole_lines.ensures (ap option_copied c.in-Some.is)

@@ -4,6 +4,8 @@ use Rattle.std.proofs.Common.{◌∙◌, sym}
 
 -- names_kept (src/naming.rt). The names of the compiler's options, which are known, if they are read again after this answer.
 
+-- Names: `F`: what is known of the outside. `e`: that `F` extends the facts of this call. `some`: the clause's equation.
+
 pub returns-clause-names : goal.returns-clause-names
 returns-clause-names g c F e known some =
     kept_so F c.args.specs.now c.args.answer.now known c.in_ok-names.names c.or_none.result

@@ -16,6 +16,7 @@ returns-then-not-is_empty-clause-performs g c =
     c.as_bytes-name.ensures c.as_slice.ensures
     (c.in_ok-text.ensures.text F e) c.is_empty.ensures c.if-not-is_empty.true)
 
+-- Nothing else speaks against the line (`free_as`), so its refusal is the one about its output.
 pub returns-in_err-refuse_overwriting-clause-performs : goal.returns-in_err-refuse_overwriting-clause-performs
 returns-in_err-refuse_overwriting-clause-performs g c =
     overwriting_fails c.args.line.now _ c.args.call _ _ _

@@ -15,6 +15,7 @@ pub returns-in_err-decision-clause-comes : goal.returns-in_err-decision-clause-c
 returns-in_err-decision-clause-comes g c = none_noted _ _
     (λ F e. memory_stops c.from_residual-in_err-decision.result _ _ c.from_residual-in_err-decision.ensures.1)
 
+-- The decision declined the line, and the host was asked nothing.
 pub returns-in_err-task-clause-comes : goal.returns-in_err-task-clause-comes
 returns-in_err-task-clause-comes g c =
     none_noted _ _ (λ F e.
@@ -32,6 +33,7 @@ returns-in_ok-prepared-in-Question-clause-comes g c =
     c.as_slice.ensures (c.in_ok-words.ensures.gives F (extends_before c.decide.ensures.asks e)) (c.in_ok-decision.ensures.decision F e)
     c.in_ok-task.ensures c.in-Question.is c.as_bytes.ensures c.in_ok-prepared-in-Question.ensures.asks)
 
+-- What the words and the decision were known by stays known while the compilation asks more.
 pub returns-in-Compilation-clause-comes : goal.returns-in-Compilation-clause-comes
 returns-in-Compilation-clause-comes g c =
     compilation_comes (record {

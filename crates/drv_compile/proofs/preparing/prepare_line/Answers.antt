@@ -5,6 +5,9 @@ use Rattle.drv_system.proofs.AskedCalls.{asked_further, extends_before}
 
 -- prepare_line (src/preparing.rt). What a call does for a line that nothing refuses.
 
+-- Names: `noted_as`: what was noted, said in other words. `prepared_by_compiler`: `prepare_line` lets the compiler carry the line out.
+-- `prepared_by_driver`: `prepare_line` lets the driver carry the line out.
+
 pub returns-in_err-driven-clause-plans : goal.returns-in_err-driven-clause-plans
 returns-in_err-driven-clause-plans g c =
     noted_as _ _ _ _ (λ events tells F e. undriven_plan F c.args.line.now c.args.call events _ c.from_residual.result

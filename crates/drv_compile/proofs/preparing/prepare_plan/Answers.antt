@@ -10,6 +10,7 @@ returns-in_err-work-clause-plans g c F e =
     failed_so F c.args.line.now c.args.driven _ _ c.from_residual-in_err-work.result
     c.as_bytes-name.ensures c.from_residual-in_err-work.ensures.1 (c.in_err-work.ensures.works F e)
 
+-- Each field of the record is that of the definition.
 pub returns-clause-plans : goal.returns-clause-plans
 returns-clause-plans g c F e =
     planned_so F c.args.line.now c.args.driven

@@ -5,6 +5,8 @@ use Rattle.std.proofs.Common.{refl}
 
 -- add_file_names (src/reading.rt). Adds the names in the spec file of this name, where it can be read.
 
+-- Names: `file_read`: the names of one file, which was found and read. `asks_extends`: a call that only asked keeps every answer.
+
 pub returns-clause-asks : goal.returns-clause-asks
 returns-clause-asks g c = record { asks = asks_then c.find_file.ensures.asks c.read.ensures.asks; same_sys = refl; same_facts = refl }
 

@@ -4,6 +4,7 @@ use Rattle.drv_system.proofs.AskedCalls.{asked_further, extends_before}
 
 -- files_names (src/reading.rt). The names in spec files.
 
+-- The names of one file more were added (`file_more`).
 pub loop-file-preserved : goal.loop-file-preserved
 loop-file-preserved g c = record {
   asks = asked_further c.loop-file.invariant.asks c.add_file_names.ensures.asks;

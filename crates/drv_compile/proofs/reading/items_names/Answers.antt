@@ -5,6 +5,8 @@ use Rattle.std.proofs.Common.{◌∙◌, refl}
 
 -- items_names (src/reading.rt). The names in the spec files of items of the driver's line.
 
+-- Names: `items_read`: those of items of the driver's line. `asked_further`: calls that only asked, one after another.
+
 pub returns-clause-asks : goal.returns-clause-asks
 returns-clause-asks g c = asked_further (record { asks = c.new.ensures.asks; same_sys = refl; same_facts = refl })
     c.files_names.ensures.asks

@@ -4,6 +4,7 @@ use Rattle.std.proofs.Common.{rules}
 
 -- known_answer (src/reading.rt). The answer to a line whose words were read by the names of the compiler's options.
 
+-- The first answer is no refusal, so nothing was asked.
 pub returns-in_default : goal.returns-in_default
 returns-in_default g c =
     record {

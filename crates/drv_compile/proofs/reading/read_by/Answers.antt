@@ -5,6 +5,9 @@ use Rattle.drv_system.proofs.AskedCalls.{asked_further, extends_before}
 -- read_by (src/reading.rt). The answer to a line of these items, which were read without names of options, by those of the compiler, if the
 -- file that has them is whole.
 
+-- Names: `is`: the clause's equation. `asked_further`: calls that only asked, one after another. `extends_before`: what extends the facts
+-- after a call extends those before it. `read_named`: `read_by` answers by the items that it read with the names.
+
 pub returns-in_default-clause-reading : goal.returns-in_default-clause-reading
 returns-in_default-clause-reading g c words is F e =
     read_unnamed F c.args.specs.now c.args.around.now words c.in_ok-named.named (c.in_ok-named.ensures.items words is F e) c.in_default.is

@@ -5,6 +5,8 @@ use Rattle.std.proofs.Common.{◌∙◌, sym}
 -- read_line (src/reading.rt). The answer to a line, over the files beside a spec file; none where that of the compiler's options is not
 -- whole.
 
+-- Names: `line_known`: a line without one. `line_unknown`: a line with an unknown word.
+
 pub returns-then-has_unknown-clause-reading : goal.returns-then-has_unknown-clause-reading
 returns-then-has_unknown-clause-reading g c F e =
     line_unknown F c.args.specs.now c.args.around.now c.args.words.now c.in_ok-items.items c.read_by.result c.in_ok-items.ensures

@@ -4,6 +4,8 @@ use Rattle.std.proofs.Common.{◌∙◌}
 
 -- refused_answer (src/reading.rt). The answer to a line that is refused where its spec files name nothing.
 
+-- Names: `is`: the clause's equation.
+
 pub returns-clause-answer : goal.returns-clause-answer
 returns-clause-answer g c known words is F e =
     refused_again F known c.args.around.now words c.args.refusals.now c.args.items.now c.as_slice.result.now c.in_ok-taken.taken

@@ -4,6 +4,9 @@ use Rattle.std.proofs.Common.{refl}
 
 -- note_over (src/refusing.rt). Where these spec files are refused, as a note.
 
+-- Names: `F`: what is known of the outside. `e`: that `F` extends the facts of this call. `note_of_suffixes`: `note_over` loads the files
+-- over a copy of the suffixes.
+
 pub returns-clause-asks : goal.returns-clause-asks
 returns-clause-asks g c = record { asks = c.fault_note.ensures.asks; same_sys = refl; same_facts = refl }
 

@@ -6,6 +6,9 @@ use Rattle.std.specs.Option.{option_copied}
 
 -- row_asked (src/row_asking.rt). The row of a line by the text of the file beside the spec file, if that is whole.
 
+-- Names: `found_unasked`: nothing is asked where the text has the row. `missing_asked`: the host is asked once for a row that is missing,
+-- and its answer read.
+
 pub returns-in-Unneeded : goal.returns-in-Unneeded
 returns-in-Unneeded g c =
     unneeded_unasked c.args.specs.now (option_copied c.args.text) c.args.items.now _ _ c.in_ok-row_of.ensures c.in-Unneeded.is

@@ -6,6 +6,8 @@ use Rattle.std.proofs.Common.{subst}
 
 -- line_given (src/running.rt). The line that items give.
 
+-- Names: `line_judged`: the line of items, or its refusal.
+
 pub returns : goal.returns
 returns c = record {
   line = subst (λ items. Gives args_fault.Memory (λ line. line) c.line_of.result

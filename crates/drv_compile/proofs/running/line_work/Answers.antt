@@ -5,6 +5,9 @@ use Rattle.std.proofs.Common.{refl}
 -- line_work (src/running.rt). What a line with these specs asks for, along the prefixes of its `-B`, if it doesn't name one output for
 -- several sources.
 
+-- Names: `F`: what is known of the outside. `e`: that `F` extends the facts of this call. `known`: the clause's equation. `many_end`: the
+-- ending is what `refuse_several` answers. `planning_ends`: the ending is what `work_of` answers.
+
 pub returns-in_err-refuse_several-clause-works : goal.returns-in_err-refuse_several-clause-works
 returns-in_err-refuse_several-clause-works g c F e known =
     many_end F c.args.given.now.line.now c.args.given.now.set.now c.args.given.now.seed c.in_err-refuse_several.field-0.0

@@ -4,6 +4,8 @@ use Rattle.std.proofs.Common.{refl}
 
 -- specs_of (src/running.rt). The specs of a line, along the prefixes of its `-B`: what the files of `-specs=` make of the suffixes.
 
+-- Names: `F`: what is known of the outside. `e`: that `F` extends the facts of this call. `known`: the clause's equation.
+
 pub returns-clause-loads : goal.returns-clause-loads
 returns-clause-loads g c F e known = suffixes_given F c.args.settings.now c.in_ok-set.set c.load_along.result c.in_ok-set.ensures
     (c.load_along.ensures.loads F e known)

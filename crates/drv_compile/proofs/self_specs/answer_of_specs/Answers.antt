@@ -4,6 +4,9 @@ use Rattle.drv_system.proofs.AskedCalls.{extends_before}
 
 -- answer_of_specs (src/self_specs.rt). The answer to a line that names spec files.
 
+-- Names: `F`: what is known of the outside. `e`: that `F` extends the facts of this call. `seen_by`: the items that `answer_of_specs` sees,
+-- by the words that it lends. `work_answers`: `answer_of_specs` answers by what the work gave.
+
 pub returns-in_err-worked-clause-answer : goal.returns-in_err-worked-clause-answer
 returns-in_err-worked-clause-answer g c F e =
     work_ends F c.args.line.now c.args.first.now c.in_ok-items.items c.in_err-worked.field-0.0 c.from_residual-in_err-worked.result

@@ -6,6 +6,9 @@ use Rattle.std.proofs.Common.{Ok, ap, refl}
 
 -- worked_for (src/self_specs.rt). What the text gives a line whose switches these are.
 
+-- Names: `F`: what is known of the outside. `e`: that `F` extends the facts of this call. `known`: the clause's equation. `line_given`: the
+-- line that items of the driver denote, or why they are refused. `alike`: what answers one definition answers another that is the same.
+
 pub returns-in_err-line-clause-works : goal.returns-in_err-line-clause-works
 returns-in_err-line-clause-works g c F e known =
     line_refused c.in_err-line.field-0.0 (line_given c.args.seen.now)

@@ -6,6 +6,9 @@ use Rattle.drv_syntax.specs.Parsed.{tree_of}
 
 -- worked_in (src/self_specs.rt). What the text gives in a context.
 
+-- Names: `F`: what is known of the outside. `e`: that `F` extends the facts of this call. `outcome`: what running a text gives. `of_text`:
+-- the result of a text, where its refusal is that of the line.
+
 pub returns-in_err-done-clause-works : goal.returns-in_err-done-clause-works
 returns-in_err-done-clause-works g c F e =
     text_refused (of_text (outcome F c.args.context.now (tree_of c.args.text.now))) c.in_err-done.field-0.0 c.from_residual.result

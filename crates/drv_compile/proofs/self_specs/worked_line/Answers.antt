@@ -8,6 +8,7 @@ use Rattle.std.proofs.Common.{◌∙◌, Ok}
 
 -- worked_line (src/self_specs.rt). What the text gives a line.
 
+-- The context is that of the line and its prefixes (`context_made`), and the text gives its job in it.
 pub returns-clause-works : goal.returns-clause-works
 returns-clause-works g c F e known =
     alike _ c.worked_in.result (of_outcome (of_text (outcome F c.in_ok-context.context (tree_of c.args.text.now))))

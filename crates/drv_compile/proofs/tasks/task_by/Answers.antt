@@ -3,6 +3,8 @@ use Rattle.drv_compile.proofs.tasks.task_by.Goals as goal
 
 -- task_by (src/tasks.rt). What a call does by what its line was read as.
 
+-- Names: `answer_refused`: `task_by` tells the refusals of a line that is refused. `answer_runs`: a line that is carried out of another.
+
 pub returns-in-Ask : goal.returns-in-Ask
 returns-in-Ask c = answer_asks c.args.specs c.args.around c.args.reading c.in-Ask.is
 

@@ -3,6 +3,9 @@ use Rattle.drv_compile.proofs.tasks.task_of.Goals as goal
 
 -- task_of (src/tasks.rt). What a call does by what its words ask for.
 
+-- Names: `compiler_declined`: `task_of` lends the parts of the call to the text about the compiler. `damaged_declined`: `task_of` lends the
+-- parts of the call to the text about a file that isn't whole.
+
 pub returns-in_ok-text-in-NoCompiler : goal.returns-in_ok-text-in-NoCompiler
 returns-in_ok-text-in-NoCompiler c =
     compiler_declined c.args.calling.now c.args.decision c.in-NoCompiler.specs c.as_bytes.result.now c.in_ok-text-in-NoCompiler.text

@@ -4,6 +4,9 @@ use Rattle.std.proofs.Common.{rules}
 
 -- without_specs (src/tasks.rt). The text where there is no spec file.
 
+-- Names: `place_declined`: `without_specs` says that the place of the spec file isn't known. `specs_declined`: `without_specs` names the
+-- file that should be there.
+
 pub returns-in-Some : goal.returns-in-Some
 returns-in-Some c =
     specs_declined c.args.calling.now c.args.path.now _ _ c.no_specs_text.result c.in-Some.is (search rules) c.no_specs_text.ensures

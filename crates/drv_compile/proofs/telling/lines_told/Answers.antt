@@ -4,6 +4,8 @@ use Rattle.std.proofs.Common.{arith}
 
 -- lines_told (src/telling.rt). The text of refusals by these names of options: a line for each of them.
 
+-- Names: `told_all`: `lines_told` has the lines of all refusals at the end. `told_more`: `lines_told` adds the line of one refusal more.
+
 pub loop-refusal-preserved : goal.loop-refusal-preserved
 loop-refusal-preserved c =
     told_more c.args.name.now c.args.known.now c.args.refusals.now c.loop-refusal.refusal-index c.refusal-item.result c.loop-refusal.text

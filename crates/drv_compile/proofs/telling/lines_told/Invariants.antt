@@ -4,6 +4,7 @@ use Rattle.std.proofs.Common.{List, ◌++◌, drop, ℕ}
 
 -- The loops of lines_told (src/telling.rt). The text of refusals by these names of options: a line for each of them.
 
+-- The text so far, with the lines of the refusals left, has the lines of all.
 abbrev pub invariant-loop-refusal : goal.invariant-loop-refusal
 invariant-loop-refusal l =
     (rest : List ℕ) → AreTold l.name l.known (drop l.refusal-index l.refusals) rest → AreTold l.name l.known l.refusals (l.text ++ rest)

@@ -21,6 +21,7 @@ returns-then-branch-clause-tries g c =
     tries_it c.args.names.now c.loop-name.name-index c.name-item.result c.in_ok-is_usable.field-0 _ _ _ c.loop-name-test.true c.name-item.is
     c.in_ok-is_usable.ensures.event c.loop-name.invariant.tries
 
+-- One folder more isn't usable: the choice is later, and it was tried in vain.
 pub loop-name-preserved : goal.loop-name-preserved
 loop-name-preserved g c = record {
   chooses =

@@ -4,6 +4,7 @@ use Rattle.drv_compile.proofs.temp_folder.first_usable.Given as goal
 -- The loops of first_usable (src/temp_folder.rt). The first of names that is that of a folder in which files can be made, or else the
 -- folder of the call.
 
+-- No folder so far is usable: the choice is among the names left, and those before were tried.
 abbrev pub invariant-loop-name : goal.invariant-loop-name
 invariant-loop-name g l = record {
   chooses : Choosing l.names l.name-index (g.H.Host.notes l.fn.host) (g.H.Host.notes l.host);

@@ -3,6 +3,8 @@ use Rattle.drv_compile.proofs.temp_folder.push_named.Goals as goal
 
 -- push_named (src/temp_folder.rt). Adds the value of a variable, if it is set.
 
+-- Names: `name_pushed`: `push_named` adds the value of a variable, if it is set.
+
 pub returns-clause-names : goal.returns-clause-names
 returns-clause-names g c F e =
     name_pushed F c.args.variable_name.now c.in_ok-value.value c.args.names.now c.push_if_set.new.names c.push_if_set.result

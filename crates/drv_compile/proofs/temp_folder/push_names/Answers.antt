@@ -4,6 +4,9 @@ use Rattle.drv_system.proofs.AskedCalls.{extends_before}
 
 -- push_names (src/temp_folder.rt). Adds the names that may be that of the folder.
 
+-- Names: `extends_before`: what extends the facts after a call extends those before it. `names_pushed`: `push_names` adds those of three,
+-- and then the usual folders.
+
 pub returns-clause-names : goal.returns-clause-names
 returns-clause-names g c F e =
     names_pushed F c.args.names.now c.push_named.new.names c.push_named-2.new.names c.push_named-3.new.names c.push_folders_of_all.new.names

@@ -4,6 +4,9 @@ use Rattle.std.proofs.Common.{rules}
 
 -- settle (src/temp_folder.rt). Asks for the folder of temporaries, and puts it into a table that has no answer yet, as the value of TMPDIR.
 
+-- Names: `begun`: `settle` ends before it has a folder. `nothing_begun`: `settle` ends before its first question. `table_settled`: `settle`
+-- puts the folder into the table by its own word for TMPDIR.
+
 pub returns-in_err-name-clause-asks : goal.returns-in_err-name-clause-asks
 returns-in_err-name-clause-asks g c = nothing_begun _ _
 

@@ -6,6 +6,7 @@ use Rattle.std.proofs.lemmas.Result.{on_ok_weaker}
 
 -- add_adding (src/wording.rt). Adds the command that asks the compiler for the words of options.
 
+-- Three texts were added one after another; `joined` adds them together, as the definition has it.
 pub returns : goal.returns
 returns c =
     on_ok_weaker c.extend_from_slice-2.result

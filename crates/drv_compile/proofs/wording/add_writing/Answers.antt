@@ -6,6 +6,7 @@ use Rattle.std.proofs.lemmas.Result.{on_ok_weaker}
 
 -- add_writing (src/wording.rt). Adds the command that writes the spec file of a machine.
 
+-- Three texts were added one after another; `joined` adds them together, as the definition has it.
 pub returns : goal.returns
 returns c =
     let before = quoted (codes "'gdrv-write-specs -o ") c.args.specs.now (codes " ") in

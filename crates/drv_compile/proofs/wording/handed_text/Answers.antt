@@ -7,6 +7,7 @@ use Rattle.std.proofs.Common.{◌≡◌, ◌∙◌, ◌++◌, List, ap, append_a
 lined : (name text more : List ℕ) → (((name ++ codes ": note: ") ++ text) ++ more) ++ codes "\n" ≡ note_line name (text ++ more)
 lined name text more = ap (λ line. line ++ codes "\n") (append_assoc (name ++ codes ": note: ") text more)
 
+-- The texts were added one after another; `lined` adds them together as one line.
 pub returns : goal.returns
 returns c =
     let text = quoted (codes "the words for '") c.args.options.now (codes "' are not known, and the compiler gets the line as it is; ") in

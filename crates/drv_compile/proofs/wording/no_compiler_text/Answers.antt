@@ -4,6 +4,8 @@ use Rattle.std.proofs.Common.{◌≡◌, ◌∙◌, IfOk, codes, subst}
 
 -- no_compiler_text (src/wording.rt). The text about a spec file beside which no compiler is named.
 
+-- Names: `unwritten_text`: a file that this command writes, and that is not there or is not what it writes.
+
 pub returns : goal.returns
 returns c =
     subst

@@ -7,6 +7,9 @@ use Rattle.std.specs.Slice.Iter.{iter_rest}
 
 -- count_busy (src/fleet.rt). How many jobs have something to do.
 
+-- Names: `busy`: whether a job has something to do.
+
+-- the jobs that pass the test are counted
 pub returns : goal.returns
 returns c =
     count_from_yields_List _ _ c.count.ensures.ran

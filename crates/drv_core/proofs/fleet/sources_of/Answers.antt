@@ -6,6 +6,10 @@ use Rattle.std.proofs.Common.{◌≡◌, ◌∙◌, ◌<◌, ◌≤◌, ◌+◌,
 use Rattle.std.proofs.Common.{subst, sym, ℕ}
 use Rattle.std.proofs.lemmas.List.{drop_all, drop_more, get_or_default, map-append}
 
+-- sources_of (src/fleet.rt). A source for each job.
+
+-- Names: `no_job`: a job that has nothing to do.
+
 -- one more source is made, and its job is no longer left
 one_more : {A B C : Type 0} (of_made : A → C) (of_from : B → C) (made new : List A) (last : A) (from : List B) (i : ℕ) (item : B)
     → new ≡ made ++ last ∷ [] → of_made last ≡ of_from item → item ≡ get_or from i item → i < length from
@@ -40,10 +44,12 @@ loop-job-preserved c = record {
       c.in_ok-source.ensures.filled);
 }
 
+-- no job is left: all sources are made
 pub returns-clause-fresh : goal.returns-clause-fresh
 returns-clause-fresh c = all_made _ _ c.loop-job.sources.items c.args.jobs.now c.loop-job.job-index c.loop-job-test.false
     c.loop-job.invariant.made
 
+-- none of them has an empty group
 pub returns-clause-filled : goal.returns-clause-filled
 returns-clause-filled c j lt = c.loop-job.invariant.filled j (up_to (length c.args.jobs.now) c.loop-job.job-index
     c.loop-job-test.false j lt)

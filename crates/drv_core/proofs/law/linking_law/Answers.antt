@@ -4,8 +4,12 @@ use Rattle.drv_core.proofs.law.linking_law.Goals as goal
 
 -- linking_law (src/law.rt). A law: in the events of a whole run, the link claims or starts something exactly if every source succeeded.
 
+-- Names: `links_where`: in a whole run the link claims or starts something exactly if every source succeeded.
+
+-- when the link runs
 pub returns-clause-link : goal.returns-clause-link
 returns-clause-link c = links_where
 
+-- when a source fails
 pub returns-clause-sources : goal.returns-clause-sources
 returns-clause-sources c = fails_where

@@ -3,5 +3,6 @@ use Rattle.std.proofs.Common.{[]}
 
 -- files_of (src/numbering.rt). The files of all jobs of a plan.
 
+-- to add all files to none notes them all
 pub returns : goal.returns
 returns c = (c.in_ok-add_all.ensures [] c.new-numbering.ensures).files_are

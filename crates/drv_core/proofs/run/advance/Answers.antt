@@ -4,22 +4,31 @@ use Rattle.std.proofs.Common.{◌∙◌, sym}
 
 -- advance (src/run.rt). Takes the answer to the next step.
 
+-- Names: `is_ready`: what the code relies on. `advanced`: after an answer that fits, what is known of the run still holds. `few_at`: no
+-- count of claims is greater than the number of events.
+
+-- what is known of the run is what the code relies on
 pub asks-requires : goal.asks-requires
 asks-requires c = is_ready c.args.plan.now c.args.work.now c.requires.stands
 
+-- the same for the answer
 pub take-requires-clause-ready : goal.take-requires-clause-ready
 take-requires-clause-ready c = is_ready c.args.plan.now c.args.work.now c.requires.stands
 
+-- a step that is asked for has room for its event
 pub take-requires-clause-room : goal.take-requires-clause-room
 take-requires-clause-room c = room_at c.args.plan.now c.args.work.now c.in-Some.step c.requires.stands (sym c.asks.ensures ∙ c.in-Some.is)
 
+-- no source counts more than fits
 pub take-requires-clause-few : goal.take-requires-clause-few
 take-requires-clause-few c = few_at c.args.plan.now c.args.work.now c.requires.stands
 
+-- after the answer what is known of the run still holds
 pub returns-in-Some-clause-stands : goal.returns-in-Some-clause-stands
 returns-in-Some-clause-stands c = advanced c.args.plan.now c.args.work.now c.take.new.self c.in-Some.step c.args.answer c.requires.stands
     (sym c.asks.ensures ∙ c.in-Some.is) (c.requires.kind c.in-Some.step (sym c.asks.ensures ∙ c.in-Some.is)) c.take.ensures
 
+-- the window stays
 pub returns-in-Some-clause-window : goal.returns-in-Some-clause-window
 returns-in-Some-clause-window c = window_kept c.args.plan.now c.args.work.now c.take.new.self c.in-Some.step c.args.answer c.requires.stands
     (sym c.asks.ensures ∙ c.in-Some.is) (c.requires.kind c.in-Some.step (sym c.asks.ensures ∙ c.in-Some.is)) c.take.ensures

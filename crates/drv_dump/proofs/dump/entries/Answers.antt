@@ -4,6 +4,8 @@ use Rattle.std.proofs.Common.{refl}
 
 -- entries (src/dump.rt). The texts of a dump, unread.
 
+-- Names: `dump_refused`: a byte of a dump is refused, and so is the dump. `dump_taken`: a byte of a dump is taken.
+
 pub loop-at-preserved : goal.loop-at-preserved
 loop-at-preserved c =
     dump_taken c.args.dump.now c.loop-at.at _ 0 c.loop-at.reader c.take.new.self _

@@ -6,6 +6,8 @@ use Rattle.std.proofs.Common.{◌∙◌, ◌++◌, Ok, ap, codes, sym}
 
 -- push_copy (src/passed.rt). Adds the copy of an entry.
 
+-- Names: `written_entry`: how texts are written. `ok_same`: two values that a call gives are one.
+
 pub returns : goal.returns
 returns c =
     let name = ap (λ l. codes "pass_" ++ l) (sym c.as_bytes.ensures) ∙ sym c.in_ok-name.ensures ∙ sym c.as_bytes-3.ensures in

@@ -3,6 +3,8 @@ use Rattle.drv_dump.proofs.Passing.{option_put}
 
 -- push_with_option (src/passed.rt). Adds the option, and a word.
 
+-- Names: `option_put`: a word after the option.
+
 pub returns : goal.returns
 returns c =
     option_put c.args.copy.now c.extend_from_slice.new.self c.extend_from_slice-2.new.self c.args.word.now

@@ -4,6 +4,8 @@ use Rattle.std.proofs.Common.{refl}
 
 -- read_text (src/reading.rt). The pieces of a spec text: their bytes, one after another, are the text.
 
+-- Names: `byte_refused`: a byte of a text is refused, and so is the text. `byte_taken`: a byte of a text is taken.
+
 pub loop-at-preserved : goal.loop-at-preserved
 loop-at-preserved c =
     byte_taken c.args.text.now c.loop-at.at _ 0 c.loop-at.reader c.take.new.self _

@@ -4,6 +4,8 @@ use Rattle.std.proofs.lemmas.Result.{on_ok_weaker}
 
 -- push_macro (src/vendors.rt). Adds the switch of the front that is in place of a macro.
 
+-- Names: `macro_put`: a switch for a macro after a word.
+
 pub returns : goal.returns
 returns c =
     on_ok_weaker c.extend_from_slice-2.result

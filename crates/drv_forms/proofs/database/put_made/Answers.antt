@@ -8,6 +8,9 @@ use Rattle.std.specs.Prelude.{codes}
 
 -- put_made (src/database.rt). Writes the members of a command and of its output, and ends the object.
 
+-- Names: `named_then`: a member's name, its value, and the rest of the object make the object. `output_member`: the member for an entry's
+-- output, if it has a name.
+
 pub returns : goal.returns
 returns c =
     named_then (key (codes "arguments")) (json_tokens (command_json c.args.command.now))

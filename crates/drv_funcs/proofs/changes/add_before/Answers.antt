@@ -3,6 +3,9 @@ use Rattle.drv_funcs.proofs.changes.add_before.Goals as goal
 
 -- add_before (src/changes.rt). A change comes before those that the ends are known of.
 
+-- Names: `are`: the clause's condition `EndsBy`. `ends_before`: a change before those in the map.
+
+-- the ends of all changes follow from those of the later ones and this one
 pub returns : goal.returns
 returns c changes are =
     ends_before c.args.ends.now c.insert.new.self c.args.change.now c.in_ok-clone.field-0 c.in_ok-end.end changes are

@@ -6,6 +6,9 @@ use Rattle.std.proofs.Common.{◌≡◌, Some, rules}
 
 -- value_of (src/comparing.rt). The rest of the last switch that the starred prefix hits.
 
+-- Names: `starred`: the pattern of the names that begin with these bytes. `last_within`: so the last place of a hit is a place of the line.
+
+-- the switch that is hit begins with the prefix, so it has a rest
 pub rest-rest-requires : goal.rest-rest-requires
 rest-rest-requires c =
     let at : last (hits c.args.switches.now c.args.hidden.now (starred c.args.prefix.now)) ≡ Some c.in-Some.place.now = search rules in

@@ -8,6 +8,9 @@ use Rattle.std.specs.Str.{byte}
 
 -- version_of (src/version.rt). The numbers of a version, or `None` for another text.
 
+-- Names: `digit_small`: the value of a digit is at most 9. `digit_step`: one turn of the code's loop at a digit. `dot_step`: one turn of
+-- the code's loop at a dot after a part. `one_more`: so a number of one more digit stays below the next power.
+
 -- one more byte is a digit of the open part, or the dot after it
 pub loop-byte-preserved : goal.loop-byte-preserved
 loop-byte-preserved c =

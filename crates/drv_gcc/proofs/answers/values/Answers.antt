@@ -9,6 +9,7 @@ use Rattle.std.specs.Slice.Iter.{split_callee, split_done, split_rest}
 
 -- values (src/answers.rt). The values of a key in a text, in its order: what follows the key in each line that begins with it.
 
+-- The pieces that the loop took are all lines of the text.
 pub returns : goal.returns
 returns c =
     let made = c.split-line-items.ensures in

@@ -5,6 +5,7 @@ use Rattle.std.proofs.Common.{◌++◌, codes}
 
 -- push_clash (src/choices.rt). Adds the refusal of one option beside others.
 
+-- `joined` adds the five parts of the body, from the last one to the first.
 pub returns : goal.returns
 unfolding clash
 returns c =

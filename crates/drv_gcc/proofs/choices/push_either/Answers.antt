@@ -5,6 +5,7 @@ use Rattle.std.proofs.Common.{◌++◌, codes}
 
 -- push_either (src/choices.rt). Adds both.
 
+-- `joined` adds the five parts of the body, from the last one to the first.
 pub returns : goal.returns
 unfolding either_words
 returns c =

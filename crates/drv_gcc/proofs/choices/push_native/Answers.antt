@@ -5,6 +5,7 @@ use Rattle.std.proofs.Common.{◌++◌, codes}
 
 -- push_native (src/choices.rt). Adds the words where the line asks for the machine of the call.
 
+-- `joined` adds the five parts of the body, from the last one to the first.
 pub returns : goal.returns
 unfolding native_words
 returns c =

@@ -5,6 +5,7 @@ use Rattle.std.proofs.Common.{◌++◌, codes}
 
 -- push_found (src/composing.rt). Adds what finds a file that gcc has at a path.
 
+-- `joined` adds the five parts of the body, from the last one to the first.
 pub returns : goal.returns
 unfolding found_body
 returns c =

@@ -6,6 +6,7 @@ use Rattle.std.specs.List.{flat_map}
 
 -- push_library_words (src/composing.rt). Adds words for folders of libraries.
 
+-- `joined` adds the five parts of the words, from the last one to the first.
 pub returns : goal.returns
 unfolding library_words
 returns c =

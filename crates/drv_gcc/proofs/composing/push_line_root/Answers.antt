@@ -5,6 +5,8 @@ use Rattle.std.proofs.Common.{◌++◌, codes}
 
 -- push_line_root (src/composing.rt). Adds the root of the line, or else that of the gcc.
 
+-- Names: `joined`: what is added in two steps. `spec_word`: a word as a spec text gives it on, byte by byte.
+
 pub returns : goal.returns
 unfolding line_root
 returns c =

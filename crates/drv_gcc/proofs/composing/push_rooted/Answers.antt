@@ -5,6 +5,7 @@ use Rattle.std.proofs.Common.{◌++◌, codes}
 
 -- push_rooted (src/composing.rt). Adds texts for lines with another root and without one.
 
+-- `joined` adds the five parts of the words, from the last one to the first.
 pub returns : goal.returns
 unfolding rooted_words
 returns c =

@@ -6,6 +6,7 @@ use Rattle.std.proofs.Common.{◌++◌, codes}
 
 -- push_hiding_body (src/hiding.rt). Adds what such a line is refused for.
 
+-- `joined` adds the four parts of the body, from the last one to the first.
 pub returns : goal.returns
 unfolding hiding_body
 returns c =

@@ -9,6 +9,7 @@ use Rattle.std.specs.Slice.Iter.{split_callee, split_done, split_rest}
 
 -- options (src/listed.rt). The options that `--completion=` lists.
 
+-- The pieces that the loop took are all lines of the text.
 pub returns : goal.returns
 returns c =
     let made = c.split-line-items.ensures in

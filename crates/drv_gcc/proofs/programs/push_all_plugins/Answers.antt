@@ -5,6 +5,7 @@ use Rattle.std.proofs.Common.{◌++◌, codes}
 
 -- push_all_plugins (src/programs.rt). Adds the texts of plugins.
 
+-- `joined` adds the three parts of the text, from the last one to the first.
 pub returns : goal.returns
 unfolding plugin_texts
 returns c =

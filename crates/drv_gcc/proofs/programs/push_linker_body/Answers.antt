@@ -6,6 +6,7 @@ use Rattle.std.proofs.Common.{◌++◌, codes}
 
 -- push_linker_body (src/programs.rt). Adds what chooses a linker.
 
+-- `joined` adds the five parts of the body, from the last one to the first.
 pub returns : goal.returns
 unfolding linker_body
 returns c =

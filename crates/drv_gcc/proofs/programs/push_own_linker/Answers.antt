@@ -5,6 +5,7 @@ use Rattle.std.proofs.Common.{◌∙◌, ◌++◌, ap, codes}
 
 -- push_own_linker (src/programs.rt). Adds a linker of `-fuse-ld=`.
 
+-- `joined` adds the seven parts of the text, from the last one to the first; the name and the path are the linker's.
 pub returns : goal.returns
 unfolding own_linker
 returns c =

@@ -5,6 +5,7 @@ use Rattle.std.proofs.Common.{◌++◌, codes}
 
 -- push_program_body (src/programs.rt). Adds what finds a program.
 
+-- `joined` adds the three parts of the body, from the last one to the first.
 pub returns : goal.returns
 unfolding program_body
 returns c =

@@ -7,6 +7,12 @@ use Rattle.std.proofs.Common.{ap, arith, refl, sym, ◌∙◌}
 
 -- first_true (src/asking.rt). What is found first among the tests from one place up to another.
 
+-- Names: `n`: how many items were reached. `F`: what is known of the outside. `levels`: what items mean after each part that may still be
+-- opened. `star`: the value of `%*`. `s`: the clause's condition `Stands`. `rest`, `stands`, `same`: the fields of `PartsLeft`
+-- (proofs/Standing). `reached n s`: the machine s where n items were reached. `front_in`: a place before the end of whole parts is one of
+-- the list. `here`: at a place before the end of whole parts the token is in the list. `nearer`: the parts after a token are nearer to the
+-- end than the token, so the loop ends. `found_asks`: here is a test by a function.
+
 -- before the first test all are left
 pub loop-at-init : goal.loop-at-init
 loop-at-init c = record {

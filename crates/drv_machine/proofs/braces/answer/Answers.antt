@@ -15,6 +15,13 @@ use Rattle.std.proofs.Common.{Ok, arith, false, length, subst, true}
 -- answer (src/braces.rt). A test by a function was answered: its X is reached or opened, or the tests after it are judged, and then the
 -- alternatives after them.
 
+-- Names: `n`: how many items were reached. `F`: what is known of the outside. `kept`: what follows arguments: their function, and the test
+-- that it answers. `given`: what the walk gives in the end. `fits`, `b`: the clause's conditions `AskFits` and `Following`. `fits`: of the
+-- type `AskFits` (specs/Code/Walking). `nodes`, `stands`: the fields of `Spans` (specs/Code/Standing). `reached n s`: the machine s where n
+-- items were reached. `stand_grows`: parts end at or after the place where they begin. `ok_as`: what follows from a property of a step that
+-- went well. `negated_kept`: whether a test is true, its ! considered, as the code computes it. `answer_false`: what follows a test that is
+-- false.
+
 -- the test is a token of the text
 pub is_negated-requires : goal.is_negated-requires
 is_negated-requires c = c.requires.2.in_list
@@ -95,7 +102,8 @@ pub returns-in-True-clause-lighter : goal.returns-in-True-clause-lighter
 returns-in-True-clause-lighter c = ok_as c.enter_alternative-in-True.result
     (λ l. omega (arith, l)) c.enter_alternative-in-True.ensures.lighter
 
--- to open a later test's arguments adds less than the test before it had
+-- to open a later test's arguments adds less than the test before it had: the places test, from, start, next, end of `Asking`
+-- (src/walk.rt) never fall
 pub returns-in-Asks-clause-lighter : goal.returns-in-Asks-clause-lighter
 returns-in-Asks-clause-lighter c =
     let fits = c.requires.2 in

@@ -16,6 +16,12 @@ use Rattle.std.proofs.Common.{◌+◌, ◌∙◌, Ok, ap, arith, length, subst}
 -- choose (src/braces.rt). The first alternative with a true test, among those from one place up to another, is reached or opened; or the
 -- default is; or the place after them is reached.
 
+-- Names: `n`: how many items were reached. `F`: what is known of the outside. `given`: what the walk gives in the end. `s`, `b`: the
+-- clause's conditions `Stands` and `Following`. `h`: of the type `Here` (proofs/Standing). `nodes`, `stands`: the fields of `Spans`
+-- (specs/Code/Standing). `reached n s`: the machine s where n items were reached. `here`: at a place before the end of whole parts the
+-- token is in the list. `weight`: how often the ends of all open parts may still open one, in a text of this size. `tree_of`: the tree of a
+-- text. `tokens_of`: the tokens of a tree.
+
 -- the alternative is a token of the text
 pub token_at-next-requires : goal.token_at-next-requires
 token_at-next-requires c = front_in c.args.walk.now.text.now c.loop-at.at c.args.end c.loop-at-test.true c.loop-at.invariant.spans

@@ -6,6 +6,11 @@ use Rattle.drv_machine.specs.Code.Walking.{Went}
 -- enter_alternative (src/braces.rt). An X by the test at a place, which is true: it is opened for each hit where X has a `%*` of its own,
 -- as is said, else reached.
 
+-- Names: `n`: how many items were reached. `F`: what is known of the outside. `negated`: whether the test has a `!`. `others`: what the
+-- other alternatives do. `given`: what the walk gives in the end. `stands`, `b`: the clause's conditions `Stands` and `Following`. `owns`,
+-- `label`: the clause's equations. `reached n s`: the machine s where n items were reached. `each_entered`: an X that is processed for each
+-- hit.
+
 -- the X is opened for the first hit
 pub returns-then-is_for_each-clause-does : goal.returns-then-is_for_each-clause-does
 returns-then-is_for_each-clause-does c n F negated asked items others given owns label stands b =

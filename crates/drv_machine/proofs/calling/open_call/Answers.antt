@@ -11,6 +11,11 @@ use Rattle.std.proofs.Common.{ap, refl, rules, subst, sym, ◌+◌, ◌∙◌}
 
 -- open_call (src/calling.rt). The arguments of the function item at a place are opened, which end where the next item begins.
 
+-- Names: `n`: how many items were reached. `F`: what is known of the outside. `given`: what the walk gives in the end. `stands`, `b`: the
+-- clause's conditions `Stands` and `Following`. `in_list`, `name_is`: the fields of `CallFits` (specs/Code/Walking). `reached n s`: the
+-- machine s where n items were reached. `call_opened`: the walk enters the arguments, with nothing cut. `too_deep`: where the stack refuses
+-- a frame, for 64 open parts or lack of memory, so is the text.
+
 -- too many parts are open
 pub returns-in_err-push-clause-does : goal.returns-in_err-push-clause-does
 returns-in_err-push-clause-does c n F C name items given within named stands b =

@@ -11,6 +11,12 @@ use Rattle.std.proofs.Common.{ap, arith, refl, rules, subst, sym, ◌+◌, ◌-�
 
 -- open_test (src/calling.rt). The arguments of the function that a test asks are opened.
 
+-- Names: `n`: how many items were reached. `F`: what is known of the outside. `kept`: what follows arguments: their function, and the test
+-- that it answers. `given`: what the walk gives in the end. `fits`, `stands`, `b`: the clause's conditions `AskFits`, `Stands` and
+-- `Following`. `reached n s`: the machine s where n items were reached. `ask_opened`: the walk enters the arguments of a test, with nothing
+-- cut. `too_deep`: where the stack refuses a frame, for 64 open parts or lack of memory, so is the text. `weight_one`: the weight of the
+-- stack grows by that of the frame that is pushed (what makes `settle` end).
+
 -- too many parts are open
 pub returns-in_err-push-clause-does : goal.returns-in_err-push-clause-does
 returns-in_err-push-clause-does c n F C items arguments kept given fits stands b =
@@ -43,6 +49,7 @@ returns-clause-lighter c n =
       arith,
       e,
       tests,
+      -- the frame that is pushed
       weight_one n c.args.walk.now.frames
           (record { opened = Asks c.in_ok-places.places c.in_ok-outer.outer; end = c.args.walk.now.end; star = c.args.walk.now.star }),
     )

@@ -8,6 +8,10 @@ use Rattle.std.proofs.Common.{ap, subst, ◌∙◌}
 
 -- emit (src/emitting.rt). Puts each switch that one of the patterns from one place up to another hits.
 
+-- Names: `n`: how many items were reached. `F`: what is known of the outside. `e`: that `F` extends the facts of this call. `s`: the
+-- clause's condition `Stands`. `reached n s`: the machine s where n items were reached. `all_in_line`: the places that the look-up found
+-- are places of the line.
+
 -- the switches that are hit are on the line
 pub put_all-requires : goal.put_all-requires
 put_all-requires g c = all_in_line c.args.context.now c.switches.result.now c.in_ok-places.places c.as_slice-2.result.now

@@ -5,6 +5,10 @@ use Rattle.std.proofs.Common.{arith}
 
 -- patterns_in (src/emitting.rt). The patterns from one place up to another.
 
+-- Names: `s`: the clause's condition `Stands`. `front_in`: a place before the end of whole parts is one of the list. `patterns_step`: the
+-- loop's invariant after one more pattern is taken, by its token's label. `here`: at a place before the end of whole parts the token is in
+-- the list.
+
 -- the pattern is a token of the text
 pub pattern_at-requires : goal.pattern_at-requires
 pattern_at-requires c = front_in c.args.text.now c.loop-at.at c.args.end c.loop-at-test.true c.loop-at.invariant.spans

@@ -10,6 +10,10 @@ use Rattle.std.proofs.lemmas.List.Elements.{All-get_or}
 
 -- put_switches (src/emitting.rt). Puts the switches at these places.
 
+-- Names: `n`: how many items were reached. `F`: what is known of the outside. `e`: that `F` extends the facts of this call. `reached n s`:
+-- the machine s where n items were reached. `asked_further`: calls that only asked, one after another. `extends_before`: what extends the
+-- facts after a call extends those before it.
+
 -- the switch is on the line
 pub put_switch-requires : goal.put_switch-requires
 put_switch-requires g c = All-get_or (λ place. place < length c.args.context.now.switches) c.args.places.now c.loop-place.place-index 0

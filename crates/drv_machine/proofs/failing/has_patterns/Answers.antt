@@ -5,6 +5,9 @@ use Rattle.std.proofs.Common.{arith}
 
 -- has_patterns (src/failing.rt). Whether there are patterns from one place up to another, and no alternatives.
 
+-- Names: `t`, `s`: the clause's conditions `IsFalse` and `Stands`. `are_choices`: braces whose first part is no pattern have alternatives.
+-- `are_patterns`: braces whose first part is a pattern put switches.
+
 -- braces without a part mean what no alternatives mean
 pub returns-then-start-end-clause-choices : goal.returns-then-start-end-clause-choices
 returns-then-start-end-clause-choices c t brace s = no_parts c.args.text.now c.args.start c.args.end c.if-start-end.true brace s

@@ -7,6 +7,10 @@ use Rattle.std.proofs.Common.{refl, rules}
 
 -- open_failure (src/failing.rt). A `%W` whose inside ends at a place is opened.
 
+-- Names: `n`: how many items were reached. `F`: what is known of the outside. `given`: what the walk gives in the end. `b`: the clause's
+-- condition `Following`. `reached n s`: the machine s where n items were reached. `from_begun`: the %W is opened, or its beginning is
+-- refused for lack of memory.
+
 -- too many parts are open
 pub returns-in_err-push-clause-does : goal.returns-in_err-push-clause-does
 returns-in_err-push-clause-does c n F C brace given b =

@@ -11,6 +11,11 @@ use Rattle.std.proofs.Common.{ap, subst, sym}
 
 -- work_brace (src/failing.rt). The part in braces from one place up to another is run, or reached.
 
+-- Names: `n`: how many items were reached. `F`: what is known of the outside. `given`: what the walk gives in the end. `e`: that `F`
+-- extends the facts of this call. `s`, `b`: the clause's conditions `Stands` and `Following`. `ch`: of the type `Chooses`
+-- (specs/Code/Walking). `reached n s`: the machine s where n items were reached. `brace_step`: what braces mean. `levels_in`: what may be
+-- opened in the parts around.
+
 -- the braces put the switches that their patterns hit
 pub returns-then-has_patterns-clause-does : goal.returns-then-has_patterns-clause-does
 returns-then-has_patterns-clause-does g c n F e brace given s b =

@@ -3,6 +3,9 @@ use Rattle.std.proofs.Common.{rules}
 
 -- work_failure (src/failing.rt). A `%W` is opened, and its part from one place up to another is run, or reached.
 
+-- Names: `n`: how many items were reached. `F`: what is known of the outside. `given`: what the walk gives in the end. `e`: that `F`
+-- extends the facts of this call. `s`, `b`: the clause's conditions `Stands` and `Following`.
+
 -- the %W can't be opened
 pub returns-in_err-open_failure-clause-does : goal.returns-in_err-open_failure-clause-does
 returns-in_err-open_failure-clause-does g c n F e brace given s b =

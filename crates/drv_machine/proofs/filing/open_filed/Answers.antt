@@ -9,6 +9,10 @@ use Rattle.std.proofs.Common.{List, ap, refl, rules, subst, sym, ℕ}
 
 -- open_filed (src/filing.rt). A `%@` whose inside ends at a place is opened; a file begins, if it makes one.
 
+-- Names: `n`: how many items were reached. `F`: what is known of the outside. `given`: what the walk gives in the end. `e`: that `F`
+-- extends the facts of this call. `b`: the clause's condition `Following`. `reached n s`: the machine s where n items were reached.
+-- `brace_step`: what braces mean. `file_reached`: braces that make a file are opened, or the beginning is refused.
+
 -- the %@ makes no file: its braces are run as they are
 pub returns-then-not-starts_file-clause-does : goal.returns-then-not-starts_file-clause-does
 returns-then-not-starts_file-clause-does g c n F e brace given b =

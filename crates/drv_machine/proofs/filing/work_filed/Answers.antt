@@ -4,6 +4,10 @@ use Rattle.std.proofs.Common.{rules}
 
 -- work_filed (src/filing.rt). A `%@` is opened, and its part from one place up to another is run, or reached.
 
+-- Names: `n`: how many items were reached. `F`: what is known of the outside. `given`: what the walk gives in the end. `e`: that `F`
+-- extends the facts of this call. `s`, `b`: the clause's conditions `Stands` and `Following`. `asked_further`: calls that only asked, one
+-- after another. `extends_before`: what extends the facts after a call extends those before it.
+
 -- the %@ can't be opened
 pub returns-in_err-open_filed-clause-does : goal.returns-in_err-open_filed-clause-does
 returns-in_err-open_filed-clause-does g c n F e brace given s b =

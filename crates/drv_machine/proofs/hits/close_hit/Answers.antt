@@ -9,6 +9,10 @@ use Rattle.std.proofs.Common.{Err, rules, ◌+◌, ◌∷◌}
 
 -- close_hit (src/hits.rt). A working of an X for a hit ends: the switch's argument is put, and X is opened for the next one.
 
+-- Names: `n`: how many items were reached. `F`: what is known of the outside. `given`: what the walk gives in the end. `e`: that `F`
+-- extends the facts of this call. `fits`, `b`: the clause's conditions `HitFits` and `Following`. `reached n s`: the machine s where n
+-- items were reached. `each_from`: X for the switches from a place on. `argument`: the argument of the switch at a place, if it has one.
+
 -- the switch's argument can't be put
 pub returns-in_err-put_argument-clause-does : goal.returns-in_err-put_argument-clause-does
 returns-in_err-put_argument-clause-does g c n F e p items given fits b =

@@ -7,6 +7,11 @@ use Rattle.std.proofs.Common.{ap, arith, refl, rules}
 
 -- open_hit (src/hits.rt). An X is opened for the hit at a place of the line.
 
+-- Names: `F`: what is known of the outside. `s`: the machine: what has been cut, and the world. `given`: what the walk gives in the end.
+-- `n`: how many items were reached. `fits`, `b`: the clause's conditions `HitFits` and `Following`. `long`: the clause's equation.
+-- `opened_left`: the walk enters the items of X. `too_deep`: where the stack refuses a frame, for 64 open parts or lack of memory, so is
+-- the text. `weight_one`: the weight of the stack grows by that of the frame that is pushed (what makes `settle` end).
+
 -- too many parts are open
 pub returns-in_err-push-clause-does : goal.returns-in_err-push-clause-does
 returns-in_err-push-clause-does c F C p items s given fits long b =

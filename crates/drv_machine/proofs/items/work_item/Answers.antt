@@ -12,6 +12,11 @@ use Rattle.std.proofs.Common.{[], ◌∷◌, ◌++◌, ap, arith, sym, ◌+◌, 
 
 -- work_item (src/items.rt). Runs an item of the text that is walked that opens no part and has no alternatives.
 
+-- Names: `n`: how many items were reached. `F`: what is known of the outside. `levels`: what items mean after each part that may still be
+-- opened. `e`: that `F` extends the facts of this call. `means`: the clause's condition `Means`. `reached n s`: the machine s where n items
+-- were reached. `by_kind`: the step of a kind, with another name for the same kind. `star_of`: the value of %* in the innermost part.
+-- `gives_as`: a result that gives one answer gives another that is equal to it.
+
 -- the place after the item's token is a number of the machine
 pub overflow_add-parts : goal.overflow_add-parts
 overflow_add-parts g c = let later = stand_grows _ _ (c.args.item.at + 1) c.requires.spans.nodes c.args.item.token.next

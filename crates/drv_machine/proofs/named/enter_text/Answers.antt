@@ -6,6 +6,10 @@ use Rattle.std.proofs.Common.{ap, length, refl, rules}
 
 -- enter_text (src/named.rt). A text is opened.
 
+-- Names: `F`: what is known of the outside. `s`: the machine: what has been cut, and the world. `given`: what the walk gives in the end.
+-- `b`: the clause's condition `Following`. `text_opened`: the walk enters the whole text, and goes on after the item at its end.
+-- `too_deep`: where the stack refuses a frame, for 64 open parts or lack of memory, so is the text.
+
 -- too many parts are open
 pub returns-in_err-push : goal.returns-in_err-push
 returns-in_err-push c F C s given b =

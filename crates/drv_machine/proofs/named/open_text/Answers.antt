@@ -12,6 +12,10 @@ use Rattle.std.specs.Prelude.{Some, option_map}
 
 -- open_text (src/named.rt). The text of a name is opened; one that isn't there gives nothing.
 
+-- Names: `F`: what is known of the outside. `given`: what the walk gives in the end. `b`: the clause's condition `Following`. `state`: the
+-- state of a machine and its count. `named`: a named text is run in one more open part. `tree_of`: the tree of a text. `tree_named`: the
+-- tree of the text of a name, if the set has one.
+
 -- the name has no text, and gives nothing
 pub returns-in_default-clause-does : goal.returns-in_default-clause-does
 returns-in_default-clause-does c F given b =

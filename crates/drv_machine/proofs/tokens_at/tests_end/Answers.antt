@@ -6,6 +6,10 @@ use Rattle.std.proofs.Common.{ap, arith}
 
 -- tests_end (src/tokens_at.rt). The end of the tests that are first among parts.
 
+-- Names: `s`: the clause's condition `Stands`. `passed_end`: where the loop has reached the end of the parts, the tests end there.
+-- `front_in`: a place before the end of whole parts is one of the list. `here`: at a place before the end of whole parts the token is in
+-- the list. `nearer`: the parts after a token are nearer to the end than the token, so the loop ends.
+
 -- the part is a token of the text
 pub token_at-token-requires : goal.token_at-token-requires
 token_at-token-requires c = front_in c.args.tree.now c.loop-at.at c.args.end c.loop-at-test.true c.loop-at.invariant.spans

@@ -14,6 +14,12 @@ use Rattle.std.proofs.Common.{◌≡◌, ◌∙◌, List, [], ◌∷◌, Ok, ap,
 
 -- close (src/turns.rt). The innermost open part ends: what it was opened for is done, or done once more, in the part around it.
 
+-- Names: `n`: how many items were reached. `F`: what is known of the outside. `kept`: what follows arguments: their function, and the test
+-- that it answers. `given`: what the walk gives in the end. `e`: that `F` extends the facts of this call. `fits`, `a`: the clause's
+-- conditions `OpenedFits` and `After`. `reached n s`: the machine s where n items were reached. `hits_left`: how often the end of an open
+-- part may still open one. `back_of`: where the part around an open part goes on. `closing`: what the end of an open part gives.
+-- `text_around`: the text of the part around an open part, which lies in this text.
+
 -- the test of the X is a token of the text
 pub close_hit-requires-clause-in_list : goal.close_hit-requires-clause-in_list
 close_hit-requires-clause-in_list g c =

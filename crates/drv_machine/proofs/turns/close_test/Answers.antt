@@ -9,6 +9,11 @@ use Rattle.std.proofs.Common.{◌≡◌, ◌⊎◌, ◌∙◌, Err, List, Ok, ru
 
 -- close_test (src/turns.rt). The arguments of the function that a test asks end: the test is judged by what the function says.
 
+-- Names: `n`: how many items were reached. `F`: what is known of the outside. `kept`: what follows arguments: their function, and the test
+-- that it answers. `given`: what the walk gives in the end. `e`: that `F` extends the facts of this call. `fits`, `a`: the clause's
+-- conditions `AskFits` and `After`. `reached n s`: the machine s where n items were reached. `has_value`: whether the function of this name
+-- gives a value for these words. `after_arguments`: the end of arguments, and what is done with their words after it.
+
 -- the test is a token of the text
 pub word-name-requires : goal.word-name-requires
 word-name-requires g c = c.requires.2.in_list

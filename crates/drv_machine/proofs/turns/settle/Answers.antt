@@ -15,6 +15,12 @@ use Rattle.std.specs.Prelude.{option_to_list}
 
 -- settle (src/turns.rt). Closes the open parts that have ended, and says whether an item is left to be processed.
 
+-- Names: `n`: how many items were reached. `F`: what is known of the outside. `given`: what the walk gives in the end. `e`: that `F`
+-- extends the facts of this call. `left`: the clause's condition `Left`. `arounds`, `framed`: the fields of `HasFrames`
+-- (specs/Code/Walking). `rest`, `lies`: the fields of `Lain` (specs/Code/Walking). `reached n s`: the machine s where n items were reached.
+-- `no_facts`: nothing is known yet. `left_in`: `Left` with another name for the same text. `as_left`: items and frames that lie in the text
+-- are what is left of a walk that gives `given_of`. `closed`: what follows the end of the part, in the part around it.
+
 -- items lie from the place of the walk on
 pub skip-requires : goal.skip-requires
 skip-requires g c = c.requires.lain

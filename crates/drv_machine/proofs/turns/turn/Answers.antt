@@ -9,6 +9,12 @@ use Rattle.std.proofs.Common.{Ok, ap, arith, rules}
 
 -- turn (src/turns.rt). Works the item that is reached, and where that is a plain byte, those after it.
 
+-- Names: `F`: what is known of the outside. `given`: what the walk gives in the end. `e`: that `F` extends the facts of this call. `left`:
+-- the clause's condition `Left`. `before_end`, `token`, `there`, `plain`: the fields of `AtByte` (specs/Code/PlainRuns). `state`: the state
+-- of a machine and its count. `at_place`: the item that is reached is a token of the list. `inner_there`: the parts inside the item that is
+-- reached are whole parts. `inner_later`: the end of the item that is reached is after its beginning. `reached n s`: the machine s where n
+-- items were reached.
+
 -- the item is a token of the text
 pub token_at-token-requires : goal.token_at-token-requires
 token_at-token-requires g c = at_place c.args.walk.now.text.now c.args.walk.now c.requires.lain c.requires.at_item

@@ -12,6 +12,9 @@ use Rattle.std.proofs.Common.{[], ap, length}
 
 -- work_text (src/turns.rt). Works a whole text.
 
+-- Names: `F`: what is known of the outside. `e`: that `F` extends the facts of this call. `no_facts`: nothing is known yet. `state`: the
+-- state of a machine and its count. `tree_of`: the tree of a text. `left_in`: `Left` with another name for the same text.
+
 -- the items of the text lie from its first place to its last
 pub work_items-requires-clause-lain : goal.work_items-requires-clause-lain
 work_items-requires-clause-lain g c =

@@ -13,6 +13,9 @@ use Rattle.std.proofs.Common.{ap, rules, subst, sym}
 
 -- finish (src/whole.rt). Works the whole text, and judges what was cut.
 
+-- Names: `F`: what is known of the outside. `e`: that `F` extends the facts of this call. `finished`: the outcome after the whole text.
+-- `fails_as`: a refusal of one answer is that of another that it stops. `whole_text`: a whole text, whose end ends its last command.
+
 -- the text has a refusal
 pub returns-in_err-work_whole-clause-does : goal.returns-in_err-work_whole-clause-does
 returns-in_err-work_whole-clause-does g c F e =

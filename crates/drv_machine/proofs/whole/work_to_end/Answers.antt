@@ -11,6 +11,9 @@ use Rattle.std.proofs.Common.{ap, subst, sym, ◌∙◌}
 
 -- work_to_end (src/whole.rt). A spec text worked to its end.
 
+-- Names: `F`: what is known of the outside. `e`: that `F` extends the facts of this call. `tree_of`: the tree of a text. `outcome_runs`:
+-- the definition's outcome of a whole text is what the code's streaming gives.
+
 -- a new machine is the state before the first item, so what `finish` gives is the outcome of the text
 pub returns-clause-does : goal.returns-clause-does
 returns-clause-does g c F e =

@@ -12,6 +12,10 @@ use Rattle.std.proofs.Common.{[], rules, subst, sym, ◌∷◌}
 
 -- work_whole (src/whole.rt). Works the whole text, whose end ends its last command.
 
+-- Names: `F`: what is known of the outside. `e`: that `F` extends the facts of this call. `state`: the state of a machine and its count.
+-- `items_step`: items one after another, each counted before it is run. `levels_left`: what items mean where so many parts may still be
+-- opened, the next one first.
+
 -- the items have a refusal
 pub returns-in_err-work_text-clause-does : goal.returns-in_err-work_text-clause-does
 returns-in_err-work_text-clause-does g c F e =
@@ -22,7 +26,7 @@ returns-in_err-work_text-clause-does g c F e =
     let f = c.from_residual.ensures in
     search rules
 
--- the items are run, and the last command ends
+-- the items are run, and the last command ends: by `went` the whole gives what is left after the items
 pub returns-clause-does : goal.returns-clause-does
 returns-clause-does g c F e =
     let went =

@@ -6,6 +6,9 @@ use Rattle.std.proofs.Common.{◌≡◌, None, Some, false, rules, true}
 
 -- last_cancelling (src/liveness.rt). The place of the last switch that cancels this name, or 0 if there is none.
 
+-- Names: `positive`: the name without `no-`, if it is a negative form. `has_negative`: a name that has a negative form. `is_level`: an
+-- optimization level, whose name begins with `O`.
+
 -- a name that is no negative form: only its negative form cancels it
 pub returns-then-not-branch : goal.returns-then-not-branch
 returns-then-not-branch c =

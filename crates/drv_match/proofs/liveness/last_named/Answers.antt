@@ -6,6 +6,10 @@ use Rattle.std.specs.Cmp.Lexicographic.{pointwise}
 
 -- last_named (src/liveness.rt). The place of the last switch of this name, or 0 if there is none.
 
+-- Names: `is_upto`: whether the name at a place is this one or comes before it. `upto_parts`: in the order of names the places up to a name
+-- come first. `named_last`: the entry before the end is the last place of the name, or no switch has the name.
+
+-- every name comes after this one, so no switch has it
 pub returns-then-end-eq0 : goal.returns-then-end-eq0
 returns-then-end-eq0 c = named_none c.args.names.now c.args.order.now c.args.name.now c.partition_point-end.result c.requires
     (IsPartitionPoint-from_clause (is_upto c.args.names.now c.args.name.now) c.args.order.now _ c.partition_point-end.ensures.partitioned

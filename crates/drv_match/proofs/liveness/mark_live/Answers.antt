@@ -10,6 +10,10 @@ use Rattle.std.proofs.lemmas.Grind.{common_steps}
 
 -- mark_live (src/liveness.rt). Sets the flags of the live switches.
 
+-- Names: `in_range`: each item of the order is a place of the line. `name_at`: the name at a place. `flags_all`: at its end all flags are
+-- right. `flags_next`: one step of the loop over the order.
+
+-- each entry of the order is a place of the line
 pub index_mut-requires : goal.index_mut-requires
 index_mut-requires c =
     let within : get_or c.args.order.now c.loop-k.k 0 < length c.args.names.now =
@@ -38,6 +42,7 @@ loop-k-preserved c =
       known = λ some. let back : c.loop-k.k + 1 - 1 ≡ c.loop-k.k = omega arith in rw back known;
     }
 
+-- after the last place all live switches are marked
 pub returns : goal.returns
 returns c = flags_all c.args.names.now c.args.order.now c.loop-k.flags.items c.loop-k.k c.requires.in_order c.loop-k.invariant.as_many
     (omega arith) c.loop-k.invariant.told

@@ -5,6 +5,9 @@ use Rattle.std.proofs.lemmas.List.Sorted.{IsPartitionPoint-from_clause}
 
 -- block_of (src/sorting.rt). The block that the pattern names in the places by name: its start, and the end after it.
 
+-- Names: `asks_start`: what the first search asks of a place. `start_parts`: in the order of names the places that come before the
+-- pattern's name are first. `asks_end`: what the second asks.
+
 -- both searches find where the block begins and ends
 pub returns : goal.returns
 returns c =

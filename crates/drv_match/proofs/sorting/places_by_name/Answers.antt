@@ -9,6 +9,9 @@ use Rattle.std.specs.Ordering.{is_lt}
 
 -- places_by_name (src/sorting.rt). All places of these names, by name, then by place.
 
+-- Names: `is_before`: the name at one place comes before the name at another. `names_rank`: the comparison of places by name alone is an
+-- order to sort by.
+
 -- a stable sort of all places by name is their order
 pub returns : goal.returns
 returns c =

@@ -4,6 +4,9 @@ use Rattle.std.proofs.Common.{◌-◌, get_or, length, refl}
 
 -- end_alike (src/languages.rt). Whether two texts have the same last byte, or one is empty.
 
+-- Names: `differ`: the clause's equation. `not_alike`: a text whose last byte is another does not end with this one. `some_there`: a length
+-- that is not 0.
+
 pub returns : goal.returns
 returns c differ =
     not_alike c.args.text.now c.args.end.now (get_or c.args.text.now (length c.args.text.now - 1) 0)

@@ -7,6 +7,9 @@ use Rattle.std.proofs.Common.{◌∙◌, None, Some, ap, if◌then◌else◌, op
 
 -- last_pair (src/languages.rt). The meaning of the last pair whose key fits.
 
+-- Names: `pair_at`: the pair at an index, by another name for the same list. `text_found`: the text of the last pair that fits, as the
+-- meaning of that pair. `pair_meaning`: what the text of a pair means.
+
 -- the tree at the place of the pair is that of its text
 pub pair_meaning-requires : goal.pair_meaning-requires
 pair_meaning-requires c =

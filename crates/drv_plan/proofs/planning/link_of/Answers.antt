@@ -5,6 +5,9 @@ use Rattle.std.proofs.Common.{Some, refl}
 
 -- link_of (src/planning.rt). The link, if there is something to link and a text for it.
 
+-- Names: `F`: what is known of the outside. `e`: that `F` extends the facts of this call. `given_alike`: an answer to one definition is an
+-- answer to an equal one. `lent_is`: a borrowed item that is there shows a value.
+
 -- there are outputs and a text for the link, which is processed
 pub returns-in-Some-clause-works : goal.returns-in-Some-clause-works
 returns-in-Some-clause-works g c F e =

@@ -6,6 +6,9 @@ use Rattle.std.proofs.Common.{◌∙◌, ap, sym}
 -- plan (src/planning.rt). The plan of a line with its specs: each source, with the text of its language, in the order of the line, and the
 -- link, if there is one (GCC manual, "Overall Options" and "Spec Files").
 
+-- Names: `F`: what is known of the outside. `e`: that `F` extends the facts of this call. `prefixes_of`: the prefixes of a line with these
+-- -B. `asks_extends`: a call that only asked keeps every answer.
+
 -- the prefixes are those of the line
 pub returns-clause-plans : goal.returns-clause-plans
 returns-clause-plans g c F e =

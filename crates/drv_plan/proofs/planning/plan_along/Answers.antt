@@ -8,6 +8,10 @@ use Rattle.std.proofs.Common.{refl, rules}
 
 -- plan_along (src/planning.rt). The plan of a line with its specs, as `plan` gives it, along the prefixes of its `-B`.
 
+-- Names: `F`: what is known of the outside. `e`: that `F` extends the facts of this call. `known`: the clause's equation. `plan_apart`: the
+-- plan in a context is not refused by the machine's lack of memory. `given_alike`: an answer to one definition is an answer to an equal
+-- one. `prefixes_first`: a plan is made in the context with the prefixes of the line.
+
 -- the prefixes are known, so the plan is that of the inputs in this context
 pub returns-clause-plans : goal.returns-clause-plans
 returns-clause-plans g c F e known =

@@ -5,6 +5,9 @@ use Rattle.drv_system.proofs.AskedCalls.{extends_before}
 
 -- plan_inputs (src/planning.rt). The plan of the inputs after those that are done.
 
+-- Names: `F`: what is known of the outside. `e`: that `F` extends the facts of this call. `finished`: the plan, once all inputs are done.
+-- `then_by`: a step, and what follows it unless it is refused. `given_alike`: an answer to one definition is an answer to an equal one.
+
 -- the refusal of an input is that of the plan
 pub returns-in_err-add_inputs-clause-works : goal.returns-in_err-add_inputs-clause-works
 returns-in_err-add_inputs-clause-works g c F e =

@@ -6,6 +6,9 @@ use Rattle.std.proofs.Common.{Ok, ap, ◌∙◌}
 
 -- add_file (src/sources.rt). Adds a file: runs its text, or leaves it to the linker.
 
+-- Names: `F`: what is known of the outside. `e`: that `F` extends the facts of this call. `with_file`: the progress after a file, by its
+-- language. `given_alike`: an answer to one definition is an answer to an equal one.
+
 -- a file with a text is a source, which is processed
 pub returns-clause-works : goal.returns-clause-works
 returns-clause-works g c F e =

@@ -5,6 +5,10 @@ use Rattle.std.proofs.Common.{Ok}
 
 -- add_input (src/sources.rt). Adds an input: a file in its language, or a word for the link, which has none.
 
+-- Names: `F`: what is known of the outside. `e`: that `F` extends the facts of this call. `with_input`: the progress after one more input.
+-- `file_chosen`: a file is processed by the language that was found for it. `given_alike`: an answer to one definition is an answer to an
+-- equal one.
+
 pub returns-in_err-chosen-in-File-clause-works : goal.returns-in_err-chosen-in-File-clause-works
 returns-in_err-chosen-in-File-clause-works g c F e =
     refusal_given c.in_err-chosen-in-File.field-0.0 c.from_residual.result _ (with_input F c.args.set.now c.args.input.place

@@ -5,6 +5,10 @@ use Rattle.drv_system.proofs.AskedCalls.{asked_further, extends_before}
 
 -- add_inputs (src/sources.rt). Adds the inputs of a line in order.
 
+-- Names: `F`: what is known of the outside. `e`: that `F` extends the facts of this call. `extends_before`: what extends the facts after a
+-- call extends those before it. `input_refused`: where the next input is refused, so is the whole. `input_taken`: the next input was
+-- processed.
+
 -- the refusal of an input is that of all
 pub returns-in_err-add_input-clause-works : goal.returns-in_err-add_input-clause-works
 returns-in_err-add_input-clause-works g c F e =

@@ -6,6 +6,9 @@ use Rattle.std.proofs.Common.{refl, rules}
 -- load_along (src/deciding.rt). The specs of a line over a set, along the prefixes of its `-B`: what the files of `-specs=` make of it, in
 -- the line's order.
 
+-- Names: `F`: what is known of the outside. `e`: that `F` extends the facts of this call. `known`: the clause's equation. `specs_loaded`:
+-- the specs of a line are what its files make of a set.
+
 pub returns-clause-loads : goal.returns-clause-loads
 returns-clause-loads g c F e known =
     let extends : Extends c.load_files.new.outside.facts.now F = search rules in

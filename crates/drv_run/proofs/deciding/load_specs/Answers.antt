@@ -5,6 +5,9 @@ use Rattle.std.proofs.Common.{◌∙◌, ap, sym}
 
 -- load_specs (src/deciding.rt). The specs of a line over a set, as `load_along` gives them.
 
+-- Names: `F`: what is known of the outside. `e`: that `F` extends the facts of this call. `prefixes_of`: the prefixes of a line with these
+-- -B. `asks_extends`: a call that only asked keeps every answer.
+
 pub returns-clause-loads : goal.returns-clause-loads
 returns-clause-loads g c F e =
     c.load_along.ensures.loads F e (ap (prefixes_of F) (sym c.as_slice.ensures)

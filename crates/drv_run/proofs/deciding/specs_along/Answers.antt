@@ -5,6 +5,9 @@ use Rattle.std.proofs.Common.{refl}
 -- specs_along (src/deciding.rt). The specs of a line, along the prefixes of its `-B`: the built-in ones, and what the files of `-specs=`
 -- make of them.
 
+-- Names: `F`: what is known of the outside. `e`: that `F` extends the facts of this call. `known`: the clause's equation. `builtin_given`:
+-- the specs of a line are those over the built-in set.
+
 pub returns-clause-loads : goal.returns-clause-loads
 returns-clause-loads g c F e known =
     builtin_given F c.args.settings.now c.in_ok-set.set c.load_along.result c.in_ok-set.ensures (c.load_along.ensures.loads F e known)

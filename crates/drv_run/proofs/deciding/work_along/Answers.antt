@@ -8,6 +8,10 @@ use Rattle.std.proofs.Common.{refl}
 -- work_along (src/deciding.rt). What a line with these specs asks for, along the prefixes of its `-B`: their dump, or its plan with what is
 -- done with it (GCC manual, "Overall Options", `-dumpspecs` and `-###`).
 
+-- Names: `F`: what is known of the outside. `e`: that `F` extends the facts of this call. `known`: the clause's equation. `refusal_given`:
+-- a refusal of a step is that of the call. `work_planned`: without -dumpspecs the work is that of the plan. `work_refused`: without
+-- -dumpspecs the plan's refusal is the work's.
+
 pub returns-then-given-clause-works : goal.returns-then-given-clause-works
 returns-then-given-clause-works g c F e known =
     work_dumped F c.args.given.now.line.now c.args.given.now.set.now c.args.given.now.seed c.in_ok-dump.field-0 c.if-given.true

@@ -5,6 +5,9 @@ use Rattle.std.proofs.Common.{◌∙◌, ap, sym}
 
 -- work_of (src/deciding.rt). What a line with these specs asks for, as `work_along` gives it.
 
+-- Names: `F`: what is known of the outside. `e`: that `F` extends the facts of this call. `prefixes_of`: the prefixes of a line with these
+-- -B. `asks_extends`: a call that only asked keeps every answer.
+
 pub returns-clause-works : goal.returns-clause-works
 returns-clause-works g c F e =
     c.work_along.ensures.works F e (ap (prefixes_of F) (sym c.as_slice.ensures)

@@ -6,6 +6,9 @@ use Rattle.drv_system.proofs.Asking.{asks_extends}
 -- work_of_args (src/deciding.rt). What arguments ask for: the words of the line read, spec files loaded, and then the dump of the specs, or
 -- the plan of the line with what is done with it.
 
+-- Names: `F`: what is known of the outside. `e`: that `F` extends the facts of this call. `line_asks`: what a line asks for its arguments
+-- ask for. `ended_as`: a call that ends without work.
+
 pub returns-in_err-line-clause-comes : goal.returns-in_err-line-clause-comes
 returns-in_err-line-clause-comes g c F e =
     ended_as F c.args.args c.args.seed c.in_err-line.field-0.0 c.from_residual.result c.from_residual.ensures.1

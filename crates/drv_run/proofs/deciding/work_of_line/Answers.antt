@@ -13,6 +13,7 @@ returns-in_err-set-clause-comes g c F e args words gives reads =
     c.from_residual-in_err-set.ensures.1 gives reads
     (c.in_err-set.ensures.loads F e (c.in_ok-prefixes.ensures.prefixes F (extends_before c.specs_along.ensures.asks e)))
 
+-- The prefixes and the set stay known while the plan is made, so its refusal is the line's.
 pub returns-in_err-work-clause-comes : goal.returns-in_err-work-clause-comes
 returns-in_err-work-clause-comes g c F e args words gives reads =
     let worked = extends_then (asks_extends c.work_along.ensures.asks) e in

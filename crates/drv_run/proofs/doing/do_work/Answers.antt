@@ -3,6 +3,9 @@ use Rattle.drv_run.proofs.doing.do_work.Goals as goal
 
 -- do_work (src/doing.rt). Does a work, by a program of this name, and answers the exit status.
 
+-- Names: `no_pipe_after_dump`: where no pipe was pending, none is after a dump. `no_pipe_after_shown`: where no pipe was pending, none is
+-- after a plan that is shown.
+
 pub returns-in-Dump-clause-pipe : goal.returns-in-Dump-clause-pipe
 returns-in-Dump-clause-pipe g c =
     no_pipe_after_dump c.args.name.now (g.S.System.events c.args.sys.now)

@@ -7,6 +7,10 @@ use Rattle.std.proofs.Common.{Err, Ok, rules}
 -- drive_over (src/driving.rt). A call of the driver with these arguments (GCC manual, "Overall Options"; after a first argument `--c99`,
 -- POSIX c99), over a table that has no answers yet.
 
+-- Names: `asks_extends`: a call that only asked keeps every answer. `line_asks`: what a line asks for its arguments ask for.
+-- `drove_before`: a call that ended before its work was done has an ending of the contract. `keeps_before`: a call that ended before its
+-- work ended by the answers in its table.
+
 -- a call without a line
 pub returns-in-Err-clause-drove : goal.returns-in-Err-clause-drove
 returns-in-Err-clause-drove g c =

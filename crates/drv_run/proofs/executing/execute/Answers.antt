@@ -9,6 +9,9 @@ use Rattle.std.proofs.Common.{◌≡◌, subst, sym, true}
 -- execute (src/executing.rt). Carries out a plan, with at most `window` of its sources under way at once, and gives the exit status: 0, or
 -- that of a failure where a command failed or something was not made or started.
 
+-- Names: `fits`: whether an answer fits the step after these events. `can_after`: a step that can be made in the run alone can be made
+-- after the journal. `closed_after`: a run that leaves no pipe pending leaves none after both.
+
 pub returns-in-Done-clause-executed : goal.returns-in-Done-clause-executed
 returns-in-Done-clause-executed g c =
     executed c.args.plan.now c.loop-status.run.plan c.args.pass_codes c.loop-status.run.pass_codes c.args.window c.loop-status.run.window

@@ -4,6 +4,10 @@ use Rattle.drv_run.specs.Code.Fronting.{is_of_c99}
 
 -- words_of (src/fronting.rt). The words that arguments give.
 
+-- Names: `F`: what is known of the outside. `e`: that `F` extends the facts of this call. `is_of_c99`: whether a call is of c99.
+-- `expansion_stops`: where a response file can't be expanded, there are no words. `front_stops`: where the front of c99 refuses, there are
+-- none.
+
 pub returns-in_err-expanded-clause-gives : goal.returns-in_err-expanded-clause-gives
 returns-in_err-expanded-clause-gives g c F e =
     expansion_stops F c.args.args c.cut_front-selected.result.1 c.in_err-expanded.field-0.0 c.from_residual.result

@@ -3,6 +3,8 @@ use Rattle.drv_run.proofs.laws.one_ending.Goals as goal
 
 -- one_ending (src/laws.rt). A law: arguments ask for one work, or they are refused for one reason, and never both.
 
+-- Names: `driven_alone`: arguments that ask for a work are not refused. `driven_once`: arguments ask for one work, and no other.
+
 pub returns-clause-driven : goal.returns-clause-driven
 returns-clause-driven c = driven_once
 

@@ -7,6 +7,9 @@ use Rattle.std.proofs.Common.{Err, refl}
 
 -- line_of_args (src/reading.rt). The line of arguments.
 
+-- Names: `F`: what is known of the outside. `e`: that `F` extends the facts of this call. `stopped_by_args`: how a step's fault ends the
+-- call. `ends_unread`: a call that ends so without a line. `line_stops`: a call that ends without a line ends so whatever its seed.
+
 pub returns-in_err-words-clause-comes : goal.returns-in_err-words-clause-comes
 returns-in_err-words-clause-comes g c F e =
     line_stops F c.args.args c.in_err-words.field-0.0 c.from_residual.result c.from_residual.ensures.1

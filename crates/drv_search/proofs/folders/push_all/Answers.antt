@@ -6,6 +6,8 @@ use Rattle.std.proofs.Common.{flat_map}
 
 -- push_all (src/folders.rt). Adds the options for the folders under prefixes.
 
+-- Names: `after_options`: the options so far, followed by others. `prefix_done`: one more prefix, by its bytes, and the end of the list.
+
 -- one more prefix adds its options
 pub loop-prefix-preserved : goal.loop-prefix-preserved
 loop-prefix-preserved g c = record {

@@ -5,6 +5,10 @@ use Rattle.std.proofs.Common.{◌∙◌, ap, sym}
 
 -- prefix_of (src/prefixes.rt). The prefix for an argument of `-B`.
 
+-- Names: `prefix_given`: the prefix of -B, by the kind that the code asked. `is_prefix`: an argument that is empty or ends with a slash is
+-- a prefix already.
+
+-- the prefix ends with a slash where the argument is a folder
 pub returns-clause-prefix : goal.returns-clause-prefix
 returns-clause-prefix g c F e = prefix_given F c.args.dir.now c.in_ok-kind.kind c.as_prefix.result (ap is_prefix (sym c.as_bytes.ensures)
     ∙ sym c.is_prefix.ensures ∙ c.if-is_prefix.false) (e.kinds c.args.dir.now c.in_ok-kind.kind c.in_ok-kind.ensures.known)

@@ -5,6 +5,10 @@ use Rattle.std.proofs.Common.{◌∙◌, sym}
 
 -- search (src/searching.rt). The first file under these prefixes.
 
+-- Names: `extends_before`: what extends the facts after a call extends those before it. `prefix_hit`: a file under this prefix.
+-- `prefix_missed`: nothing under this prefix.
+
+-- the first prefix with a file ends the search
 pub returns-in-Some-clause-hit : goal.returns-in-Some-clause-hit
 returns-in-Some-clause-hit g c F e =
     sym (c.loop-prefix.invariant.rest F (extends_before c.found_under.ensures.asks e))

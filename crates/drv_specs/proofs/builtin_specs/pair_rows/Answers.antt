@@ -4,6 +4,7 @@ use Rattle.std.proofs.Common.{refl}
 
 -- pair_rows (src/builtin_specs.rt). The suffixes and the languages.
 
+-- The texts of the rows are the built-in ones. A text that is run has a tree beside it, which is computed to be its own.
 pub returns : goal.returns
 unfolding builtin_pairs
 returns c = record {

@@ -5,6 +5,8 @@ use Rattle.std.proofs.Common.{length, refl}
 
 -- without_blanks (src/bytes.rt). A text without the blanks at its front.
 
+-- Names: `is_blank`: whether a byte is a space or a tab. `front_by`: the code drops the bytes before the first that doesn't pass.
+
 pub returns-clause-bytes : goal.returns-clause-bytes
 returns-clause-bytes c = front_by is_blank c.args.text.now c.following.result.now c.first_solid.result
     (length c.args.text.now) c.unwrap_or-stays.result c.first_solid.ensures refl c.unwrap_or-stays.ensures c.following.ensures

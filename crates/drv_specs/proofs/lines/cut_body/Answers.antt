@@ -10,6 +10,9 @@ use Rattle.std.proofs.lemmas.List.{append-nil}
 
 -- cut_body (src/lines.rt). The lines up to the next one that is empty.
 
+-- Names: `bytes_from`: what is left, with the newline before it. `text_left`: the text that is left, if a line is left. `lines_left`: the
+-- lines that are left. `body_lines`: the lines of a body go up to an empty line.
+
 -- one more full line belongs to the body
 pub loop-line-preserved : goal.loop-line-preserved
 loop-line-preserved c =

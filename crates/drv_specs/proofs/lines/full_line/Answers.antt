@@ -7,6 +7,9 @@ use Rattle.std.specs.Option.{option_map}
 
 -- full_line (src/lines.rt). The next line and those after it, unless it is empty or has blanks alone, or there is none.
 
+-- Names: `lines_from`: what follows a line, where its newline is there. `lines_are`: a text that begins with this line has it as its first
+-- line. `read_lines`: the directives of lines, the first of which has this number and is in a body or not.
+
 -- an empty line ends a body
 pub returns-then-is_empty_line-clause-none : goal.returns-then-is_empty_line-clause-none
 returns-then-is_empty_line-clause-none c =

@@ -5,6 +5,8 @@ use Rattle.std.proofs.Common.{◌∷◌, ◌∙◌, ap, sym, take}
 
 -- next_word (src/lines.rt). A text's first word, cut at blanks, and what follows it.
 
+-- Names: `words_alone`: a line without a blank after its front has one word. `words_none`: the words of a line.
+
 pub returns-then-not-has_byte-clause-none : goal.returns-then-not-has_byte-clause-none
 returns-then-not-has_byte-clause-none c = words_none c.args.text.now c.without_blanks-text.result.now c.without_blanks-text.ensures.bytes
     (sym c.has_byte.ensures ∙ c.if-not-has_byte.true)

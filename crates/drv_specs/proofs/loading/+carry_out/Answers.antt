@@ -9,6 +9,10 @@ use Rattle.std.proofs.Common.{◌-◌, ap, arith, inr, refl}
 
 -- carry_out (src/loading.rt). Carries out the directives of a settled text, within which `levels` more files may be nested.
 
+-- Names: `set`, `files`: the fields of `Carried` (specs/Loading). `read_settled`: the directives of a settled text, and of any.
+-- `all_carried`: directives in order, up to the first refusal. `including`: a file that is included where so many more may be within one
+-- another. `shown`: a directive of the code as one of the definitions. `taken`: the next directive was taken.
+
 pub returns-then-levels-eq0-clause-asks : goal.returns-then-levels-eq0-clause-asks
 returns-then-levels-eq0-clause-asks g n c = c.loop-directive.invariant.asks
 

@@ -6,6 +6,10 @@ use Rattle.std.proofs.Common.{◌∙◌, ap, refl, sym}
 
 -- file_text (src/loading.rt). What is left of the text that a spec file gives.
 
+-- Names: `F`: what is known of the outside. `e`: that `F` extends the facts of this call. `asks_then`: one call that only asks after
+-- another. `text_given`: the text of a file that was found and asked for, settled, or the refusal to read it. `file_found`: a file is
+-- searched for under those of libraries.
+
 pub returns-in_err-path-clause-asks : goal.returns-in_err-path-clause-asks
 returns-in_err-path-clause-asks g c = record { asks = c.find_file.ensures.asks; same_sys = refl; same_facts = refl }
 

@@ -6,6 +6,9 @@ use Rattle.std.proofs.Common.{refl}
 
 -- worked_entries (src/loading.rt). Entries after the directives of a settled text, which may read `files` more files.
 
+-- Names: `F`: what is known of the outside. `e`: that `F` extends the facts of this call. `set`, `files`: the fields of `Carried`
+-- (specs/Loading). `read_settled`: the directives of a settled text, and of any. `refusal_given`: a refusal of a step is that of the call.
+
 pub returns-in_err-carry_out-clause-works : goal.returns-in_err-carry_out-clause-works
 returns-in_err-carry_out-clause-works g c F e =
     refusal_given c.in_err-carry_out.field-0.0 c.from_residual.result _

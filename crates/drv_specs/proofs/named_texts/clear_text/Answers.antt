@@ -6,6 +6,9 @@ use Rattle.std.specs.Option.{option_copied_mut}
 
 -- clear_text (src/named_texts.rt). Leaves the entry of a name without its text.
 
+-- Names: `texts_left`: the named texts of a map, without the deleted ones. `left_unlisted`: the removal of a name without an entry changes
+-- nothing.
+
 pub returns-in-Some : goal.returns-in-Some
 returns-in-Some c = ap texts_left (c.get_mut.follows.holds None).0
     ∙ left_without c.args.name.now c.args.kept.now.entries c.get_mut.ensures.unique

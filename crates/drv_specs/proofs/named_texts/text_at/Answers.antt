@@ -6,6 +6,9 @@ use Rattle.std.specs.Option.{option_flatten, option_map}
 
 -- text_at (src/named_texts.rt). The text of a name, by a look-up of its hash.
 
+-- Names: `text_found`: the text that the code finds at the place of a name is that of the name. `held_left`: a name whose first entry has a
+-- text has this text.
+
 pub returns-in_default : goal.returns-in_default
 returns-in_default c = sym (held_left c.args.name.now None c.args.kept.now.entries
     (none_of _ (sym c.get_index_of.ensures.found ∙ ap is_some c.in_default.is)) tt)

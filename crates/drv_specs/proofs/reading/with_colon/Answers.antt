@@ -8,6 +8,9 @@ use Rattle.std.specs.List.{join_with_byte}
 
 -- with_colon (src/reading.rt). What a line begins that may have a colon: `start` is the line without the blanks at its front.
 
+-- Names: `lines_left`: the lines that are left. `colon_place`: the code's search finds the first colon. `by_colon`: the directive of a line
+-- by its first colon.
+
 pub returns-in_default-clause-directive : goal.returns-in_default-clause-directive
 returns-in_default-clause-directive c =
     ap (λ d. d ∷ []) (sym (ap (by_colon (c.args.lines.number - 1) c.args.start.now (lines_left c.args.lines))

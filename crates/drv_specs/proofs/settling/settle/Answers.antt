@@ -6,6 +6,8 @@ use Rattle.std.specs.Prelude.{slice_index}
 
 -- settle (src/settling.rt). What is left of a spec file's text.
 
+-- Names: `settle`: what is left of a file's text. `line_settled`: a line up to the byte that was found, and that byte, are settled.
+
 pub loop-at-preserved : goal.loop-at-preserved
 loop-at-preserved c =
     ap (λ t. fold joined_onto c.settle_onto.new.text.items (filter is_kept t)) c.following-rest.ensures

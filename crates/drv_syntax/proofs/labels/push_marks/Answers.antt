@@ -4,6 +4,8 @@ use Rattle.std.proofs.Common.{arith, ◌∙◌}
 
 -- push_marks (src/labels.rt). The marks of bytes that follow one another from this place on.
 
+-- Names: `marks_step`: a step of the loop of `push_marks` keeps the list of marks that the loop leads to.
+
 -- one mark more is put, in reserved room
 pub loop-byte-preserved : goal.loop-byte-preserved
 loop-byte-preserved c =

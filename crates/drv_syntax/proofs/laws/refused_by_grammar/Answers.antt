@@ -4,6 +4,9 @@ use Rattle.drv_syntax.proofs.laws.refused_by_grammar.Goals as goal
 
 -- refused_by_grammar (src/laws.rt). A text is refused for a fault exactly where the grammar refuses it for that one.
 
+-- Names: `parsed_refused`: a text that is parsed to a fault is refused for it by the grammar. `refused_parsed`: a text that the grammar
+-- refuses for a fault is parsed to this fault.
+
 -- a fault of a text is one by the grammar
 pub returns-clause-refused : goal.returns-clause-refused
 returns-clause-refused c = parsed_refused

@@ -5,6 +5,9 @@ use Rattle.std.proofs.Common.{arith, subst, sym}
 
 -- parse (src/tree.rt). The tree of a text, or its first fault.
 
+-- Names: `first_refused`: where `parse` fails, memory ran out or the grammar refuses the text for this fault. `whole_kept`: the tokens and
+-- labels that the code gives are those of the text.
+
 -- a text that can't be read is refused by the grammar
 pub returns-in_err-read-clause-refused : goal.returns-in_err-read-clause-refused
 returns-in_err-read-clause-refused c =

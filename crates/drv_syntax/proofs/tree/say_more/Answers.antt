@@ -4,6 +4,8 @@ use Rattle.std.proofs.Common.{◌∙◌}
 
 -- say_more (src/tree.rt). The tree of a text with more after it, where the text ends in a text for the user that goes on with these bytes.
 
+-- Names: `read_spelled`: a text that was read has its tree by the grammar. `said_kept`: what is kept of a text that goes on in a message.
+
 -- the kept parts with the longer message are the whole text's, which goes on in it
 pub invariant_of-result : goal.invariant_of-result
 invariant_of-result c =

@@ -11,6 +11,7 @@ use Rattle.std.specs.Prelude.{is_none}
 -- put_fate_members (src/fates_json.rt). Writes what cancels a switch of this name and the parts that have to do with it, and ends the
 -- object.
 
+-- Two members were put one after the other: who cancels the switch, and the parts that have to do with it.
 pub returns : goal.returns
 returns c =
     named_then (key (codes "cancelled_by")) (json_tokens (cancelled_json (option_map (λ word. word.now) c.args.by)))

@@ -9,6 +9,8 @@ use Rattle.std.proofs.Common.{codes}
 
 -- put_told (src/origins_json.rt). Writes the parts of a word and what it is for as members, and ends the object.
 
+-- Names: `named_then`: a member's name, its value, and the rest of the object make the object. `list_json`: a list as an array.
+
 pub returns : goal.returns
 returns c =
     named_then (key (codes "parts"))

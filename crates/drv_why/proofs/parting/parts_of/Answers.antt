@@ -10,6 +10,7 @@ loop-first-smaller c =
     (some_left c.loop-first.first _ c.loop-first.left.now c.loop-first-test.true c.loop-first.invariant.places) c.in_ok-count.ensures
     c.words_behind-left.ensures
 
+-- One part more was added (`next_part`), and the words that are left begin behind it (`next_place`).
 pub loop-first-preserved : goal.loop-first-preserved
 loop-first-preserved c = record {
   parts =

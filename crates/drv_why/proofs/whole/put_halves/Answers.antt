@@ -8,6 +8,9 @@ use Rattle.std.proofs.Common.{codes}
 
 -- put_halves (src/whole.rt). Writes both halves as members, and ends the object.
 
+-- Names: `named_then`: a member's name, its value, and the rest of the object make the object. `origins_value`: an array for each command,
+-- in an array.
+
 pub returns : goal.returns
 returns c =
     named_then (key (codes "commands")) (json_tokens (origins_value c.args.marking.now))

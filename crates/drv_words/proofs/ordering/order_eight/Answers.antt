@@ -4,6 +4,9 @@ use Rattle.std.proofs.Common.{◌∙◌, rules}
 
 -- order_eight (src/ordering.rt). How eight bytes are ordered beside eight others: as the numbers that they spell are.
 
+-- Names: `eight_ordered`: eight bytes and the numbers that they spell.
+
+-- eight bytes are ordered as the numbers that they spell
 pub returns : goal.returns
 returns c =
     c.cmp.ensures ∙ eight_ordered c.args.one.now c.args.other.now _ _ c.told-one c.told-other (search rules)

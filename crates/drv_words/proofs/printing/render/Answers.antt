@@ -6,6 +6,7 @@ use Rattle.drv_words.proofs.printing.render.Goals as goal
 
 -- render (src/printing.rt). The text of lines.
 
+-- the text shows the lines, since it is their printed form
 pub returns-clause-shows : goal.returns-clause-shows
 returns-clause-shows c =
     let is : c.from_vec.result ≡ lines_text c.args.lines.now = grind (arith, common_steps) in shown_text _ _ is

@@ -7,6 +7,7 @@ use Rattle.drv_words.proofs.response.respond_text.Goals as goal
 -- respond_text (src/response.rt). The response text of these words: a line for each, with a backslash before white space, quotes and
 -- backslashes.
 
+-- to split the text gives the words again
 pub returns-clause-again : goal.returns-clause-again
 returns-clause-again c =
     let is : c.loop-word.text ≡ response_text c.args.words.now = grind (arith, common_steps) in shown_response _ _ is

@@ -5,6 +5,10 @@ use Rattle.drv_words.proofs.response.split_onto.Goals as goal
 
 -- split_onto (src/response.rt). Appends the words of a response file's text, as [`split`] returns them, to others.
 
+-- Names: `split_is_onto`: the splitter's words are those of the grammar. `following`: at the start of a text, whose words are appended to
+-- others.
+
+-- the words of the text come after the others
 pub returns : goal.returns
 returns c =
     split_is_onto c.args.text.now c.args.words.now c.in_ok-words.field-0

@@ -6,6 +6,10 @@ use Rattle.drv_words.proofs.response.split_within.Goals as goal
 -- split_within (src/response.rt). Appends the words of a response file's text, as [`split`] returns them, to others, if the text has at
 -- most `most` words.
 
+-- Names: `fitting`: if the words that were made fit, they are all words of the text. `within`: words that were made of the text, no further
+-- than to one more than are permitted.
+
+-- the words fit where the text has at most so many
 pub returns-clause-counts : goal.returns-clause-counts
 returns-clause-counts c =
     let made : c.saturating_sub.result ≡ length c.in_ok-words.field-0 - length c.replace-others.result =

@@ -3,6 +3,9 @@ use Rattle.gdrv.proofs.noting.place_noted.Goals as goal
 
 -- place_noted (src/noting.rt). Where the spec files of a line are refused, as a note.
 
+-- Names: `F`: what is known of the outside. `e`: that `F` extends the facts of this call. `note_builtin`: the note over the built-in set is
+-- that over the set at hand.
+
 pub returns-clause-note : goal.returns-clause-note
 returns-clause-note g c F e =
     note_builtin F c.args.settings.now c.in_ok-set.set c.as_slice-folders.result.now c.as_slice-names.result.now c.fault_note.result

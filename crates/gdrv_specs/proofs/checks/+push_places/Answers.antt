@@ -10,6 +10,7 @@ returns-in_default-source_at t c =
     places_lost c.args.sources.now c.args.places.now c.args.more c.args.from c.in-Some.spot c.in-Some.is some
     (lost_at c.args.sources.now c.in-Some.spot.source c.source_at.result c.source_at.ensures c.in_default-source_at.is)
 
+-- The source is found, so its place is added and those of what includes it follow (`places_more`).
 pub returns : goal.returns
 returns t c =
     let some : 0 < c.args.more = omega (arith, c.if-more-eq0.false) in

@@ -7,6 +7,9 @@ use Rattle.std.specs.Prelude.{map}
 
 -- names_read (src/databases.rt). The names of the inputs of a line.
 
+-- Names: `F`: what is known of the outside. `e`: that `F` extends the facts of this call. `named`: the names are those of the inputs of the
+-- line that was read. `stopped`: words that have an ending in place of a line have no names.
+
 pub returns-in_err-line-clause-names : goal.returns-in_err-line-clause-names
 returns-in_err-line-clause-names g c F e =
     stopped F c.args.args.now c.in_err-line.field-0.0 c.from_residual-in_err-line.result c.from_residual-in_err-line.ensures.1

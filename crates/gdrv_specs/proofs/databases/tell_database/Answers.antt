@@ -4,6 +4,8 @@ use Rattle.gdrv_specs.proofs.databases.tell_database.Goals as goal
 -- tell_database (src/databases.rt). Writes the plan of a line of the driver to standard output as a compilation database, for sources in
 -- this directory (Clang, "JSON Compilation Database Format Specification").
 
+-- Names: `tells_named`: the plan was printed with the names. `tells_stopped`: the call ended without names, and no plan was printed.
+
 pub returns-in-Ok : goal.returns-in-Ok
 returns-in-Ok g c =
     tells_named c.args.directory c.args.line c.in-Ok.names c.args.seed c.tell_plan.result c.new.ensures c.names_read.ensures.asks

@@ -5,6 +5,9 @@ use Rattle.std.proofs.Common.{rules}
 -- tell_difference (src/differing.rt). Writes to standard output what differs between the plan of a line with one spec file and that with
 -- another, or between the two sets of texts for a line with `-dumpspecs`.
 
+-- Names: `compares_after`: the difference of the two works was printed, over the answers to the call's questions alone. `compares_before`:
+-- the call ended without two works.
+
 pub returns-in-Ok : goal.returns-in-Ok
 returns-in-Ok g c =
     let asks = c.works_of.ensures.asks.asks in

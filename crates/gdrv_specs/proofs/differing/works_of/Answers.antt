@@ -4,6 +4,9 @@ use Rattle.gdrv_specs.proofs.differing.works_of.Goals as goal
 
 -- works_of (src/differing.rt). What a line asks for with each of the two files.
 
+-- Names: `F`: what is known of the outside. `e`: that `F` extends the facts of this call. `asked_further`: calls that only asked, one after
+-- another. `extends_before`: what extends the facts after a call extends those before it. `comes_both`: both lines have a work.
+
 pub returns-in-Ok-work_with-clause-asks : goal.returns-in-Ok-work_with-clause-asks
 returns-in-Ok-work_with-clause-asks g c = asked_further c.work_with.ensures.asks c.work_with-in-Ok.ensures.asks
 

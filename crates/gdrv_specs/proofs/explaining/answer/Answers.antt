@@ -5,6 +5,9 @@ use Rattle.std.proofs.Common.{ap, ◌∙◌}
 
 -- answer (src/explaining.rt). What is said of a part.
 
+-- Names: `F`: what is known of the outside. `e`: that `F` extends the facts of this call. `has`: the clause's condition `HasSpecs`.
+-- `answered`: `answer` says of a part what the line without it asks for.
+
 pub returns-clause-answers : goal.returns-clause-answers
 returns-clause-answers g c F e has =
     answered F c.args.explained.now.args.now c.args.work.now c.args.explained.now.seed c.args.part.now c.in_ok-rest.rest

@@ -4,6 +4,7 @@ use Rattle.gdrv_specs.proofs.explaining.answers.Goals as goal
 
 -- answers (src/explaining.rt). What is said of parts, one after another.
 
+-- One part more has its reason (`more_answers`).
 pub loop-part-preserved : goal.loop-part-preserved
 loop-part-preserved g c = record {
   asks = asked_further c.loop-part.invariant.asks c.answer.ensures.asks;

@@ -9,6 +9,7 @@ use Rattle.std.proofs.Common.{◌++◌, List, drop}
 
 -- The loops of answers (src/explaining.rt). What is said of parts, one after another.
 
+-- The reasons so far, with those of the parts left, are the reasons of all.
 abbrev pub invariant-loop-part : goal.invariant-loop-part
 invariant-loop-part g l = record {
   asks : Asked g.S.System.events l.fn.outside l.outside;

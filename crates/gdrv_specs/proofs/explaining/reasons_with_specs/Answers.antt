@@ -4,6 +4,10 @@ use Rattle.gdrv_specs.proofs.explaining.reasons_with_specs.Goals as goal
 
 -- reasons_with_specs (src/explaining.rt). The reasons of a line whose specs are known, or its ending in their place.
 
+-- Names: `F`: what is known of the outside. `e`: that `F` extends the facts of this call. `has`, `reads`: the clause's conditions
+-- `HasSpecs` and `ReadsLine`. `asked_further`: calls that only asked, one after another. `extends_before`: what extends the facts after a
+-- call extends those before it. `reasons_with_work`: the text about all parts is the answer to the line.
+
 pub returns-in-Err-clause-gives : goal.returns-in-Err-clause-gives
 returns-in-Err-clause-gives g c F e has reads =
     reasons_without_work F c.args.explained.now.report c.args.explained.now.args.now c.args.explained.now.line.now

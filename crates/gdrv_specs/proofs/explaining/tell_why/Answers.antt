@@ -5,6 +5,9 @@ use Rattle.std.proofs.Common.{rules}
 -- tell_why (src/explaining.rt). Writes to standard output what each part of a line changes, in a form: what differs between the commands of
 -- the line and those of the line without that part, or why that one is refused.
 
+-- Names: `explains_after`: the reasons were printed, over the answers to the call's questions alone. `explains_before`: the call ended
+-- without reasons.
+
 pub returns-in-Ok : goal.returns-in-Ok
 returns-in-Ok g c =
     let asks = c.reasons.ensures.asks.asks in

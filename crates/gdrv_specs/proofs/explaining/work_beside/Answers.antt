@@ -4,6 +4,10 @@ use Rattle.gdrv_specs.proofs.explaining.work_beside.Goals as goal
 
 -- work_beside (src/explaining.rt). What a line asks for beside one whose specs are known.
 
+-- Names: `F`: what is known of the outside. `e`: that `F` extends the facts of this call. `has`: the clause's condition `HasSpecs`.
+-- `comes_with_specs`: a line whose specs are known asks for what its plan gives. `asked_further`: calls that only asked, one after another.
+-- `extends_before`: what extends the facts after a call extends those before it.
+
 pub returns-then-have_same_specs-clause-comes : goal.returns-then-have_same_specs-clause-comes
 returns-then-have_same_specs-clause-comes g c F e has =
     comes_with_specs F c.args.line.now c.args.explained.now.set.now c.args.explained.now.seed c.work_with.result

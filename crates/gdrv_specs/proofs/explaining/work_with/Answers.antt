@@ -5,6 +5,9 @@ use Rattle.std.proofs.Common.{refl}
 
 -- work_with (src/explaining.rt). What a line with these specs asks for.
 
+-- Names: `F`: what is known of the outside. `e`: that `F` extends the facts of this call. `work_of`: what is done for a line with these
+-- specs. `plan_refused`: a plan that is refused, or lacks memory, ends its line so.
+
 pub returns-in-Err-clause-comes : goal.returns-in-Err-clause-comes
 returns-in-Err-clause-comes g c F e =
     plan_refused (work_of F c.args.line.now c.args.set.now c.args.seed) c.in-Err.fault c.from.result c.from.ensures

@@ -3,6 +3,9 @@ use Rattle.gdrv_specs.proofs.explaining.work_without.Goals as goal
 
 -- work_without (src/explaining.rt). What words ask for beside a line whose specs are known.
 
+-- Names: `F`: what is known of the outside. `e`: that `F` extends the facts of this call. `has`: the clause's condition `HasSpecs`.
+-- `asked_further`: calls that only asked, one after another. `extends_before`: what extends the facts after a call extends those before it.
+
 pub returns-in-Ok-clause-asks : goal.returns-in-Ok-clause-asks
 returns-in-Ok-clause-asks g c = asked_further c.read_line.ensures.asks c.work_beside.ensures.asks
 

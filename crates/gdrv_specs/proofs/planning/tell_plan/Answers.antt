@@ -5,6 +5,8 @@ use Rattle.gdrv_specs.specs.Plans.{TellsOf}
 -- tell_plan (src/planning.rt). Writes the plan of a line of the driver in a form to standard output (GCC manual, "Overall Options",
 -- `-###`).
 
+-- Names: `tells_after`: a work whose text was written. `tells_before`: what is printed before a work.
+
 pub returns-in-Ok : goal.returns-in-Ok
 returns-in-Ok g c =
     tells_after (TellsOf c.args.form.now) c.args.line c.args.seed c.in-Ok.work c.tell_work.result c.new.ensures c.work_of_call.ensures.asks

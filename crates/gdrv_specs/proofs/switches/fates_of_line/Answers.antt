@@ -4,6 +4,9 @@ use Rattle.gdrv_specs.proofs.switches.fates_of_line.Goals as goal
 
 -- fates_of_line (src/switches.rt). The text about the switches of a line, or its ending in its place.
 
+-- Names: `F`: what is known of the outside. `e`: that `F` extends the facts of this call. `asked_further`: calls that only asked, one after
+-- another. `extends_before`: what extends the facts after a call extends those before it.
+
 pub returns-in-Ok-fates_of-clause-asks : goal.returns-in-Ok-fates_of-clause-asks
 returns-in-Ok-fates_of-clause-asks g c = asked_further c.set_of.ensures.asks c.fates_of.ensures.asks
 

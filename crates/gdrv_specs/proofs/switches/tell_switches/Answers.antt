@@ -4,6 +4,9 @@ use Rattle.std.proofs.Common.{rules}
 
 -- tell_switches (src/switches.rt). Writes to standard output what becomes of each switch of a line, in a form.
 
+-- Names: `switches_after`: the text was written, over the answers to the call's questions alone. `switches_before`: the call ended without
+-- the text.
+
 pub returns-in-Ok : goal.returns-in-Ok
 returns-in-Ok g c =
     let asks = c.fates_of_call.ensures.asks.asks in

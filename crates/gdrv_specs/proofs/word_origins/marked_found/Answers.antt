@@ -4,6 +4,9 @@ use Rattle.gdrv_specs.proofs.word_origins.marked_found.Goals as goal
 
 -- marked_found (src/word_origins.rt). What a line asks for with the text of a dump with marks loaded over its set.
 
+-- Names: `F`: what is known of the outside. `e`: that `F` extends the facts of this call. `asked_further`: calls that only asked, one after
+-- another. `extends_before`: what extends the facts after a call extends those before it.
+
 pub returns-in-Ok-clause-asks : goal.returns-in-Ok-clause-asks
 returns-in-Ok-clause-asks g c = asked_further c.load_marks.ensures.asks c.work_with.ensures.asks
 

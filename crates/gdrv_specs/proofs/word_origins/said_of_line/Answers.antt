@@ -4,6 +4,10 @@ use Rattle.gdrv_specs.proofs.word_origins.said_of_line.Goals as goal
 
 -- said_of_line (src/word_origins.rt). The text about a line that was read, or its ending in its place.
 
+-- Names: `F`: what is known of the outside. `e`: that `F` extends the facts of this call. `reads`: the clause's condition `ReadsLine`.
+-- `extends_before`: what extends the facts after a call extends those before it. `comes_without_specs`: a line whose specs aren't loaded
+-- asks for that ending.
+
 pub returns-in-Err-clause-gives : goal.returns-in-Err-clause-gives
 returns-in-Err-clause-gives g c F args e reads =
     comes_without_specs F c.args.traced.now.line.now c.args.traced.now.seed c.in-Err.fault c.from.result c.from.ensures

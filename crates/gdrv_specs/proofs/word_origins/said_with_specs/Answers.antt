@@ -10,6 +10,7 @@ returns-in-Err-clause-gives g c F args e has reads =
     comes_with_specs F c.args.traced.now.line.now c.args.set.now c.args.traced.now.seed (Err c.in-Err.ending) has
     (c.in-Err.ensures.comes F e) args reads.0 reads.1 reads.2
 
+-- The line, its set and its work are at hand, and what they were known by stays known while the text is made.
 pub returns-in-Ok-said_of-clause-gives : goal.returns-in-Ok-said_of-clause-gives
 returns-in-Ok-said_of-clause-gives g c F args e has reads = (
   c.args.traced.now.line.now,

@@ -4,6 +4,9 @@ use Rattle.std.proofs.Common.{sym, ◌∙◌}
 
 -- code_of (src/call.rt). The status of these digits, if all bytes are digits and the number is at most 255.
 
+-- Names: `accepted`: so the code's loop ends with the status of all digits. `refused`: the digits that are left decide that there is no
+-- code.
+
 pub returns-in_err-code : goal.returns-in_err-code
 returns-in_err-code c =
     c.from_residual.ensures ∙ sym (refused c.args.digits.now c.loop-digit.code c.loop-digit.digit-index (sym c.if-is_empty.ensures)

@@ -5,6 +5,7 @@ use Rattle.std.specs.List.{filter}
 
 -- end (src/fleet.rt). The source in progress has ended.
 
+-- the source is no longer among those that have begun, and the count is one less
 pub returns : goal.returns
 returns c =
     let kept : c.retain.new.self.items ≡ filter (λ k. not (nat_eq k c.args.self.now.current)) c.args.self.now.begun.items =

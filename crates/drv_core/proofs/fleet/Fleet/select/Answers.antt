@@ -5,6 +5,7 @@ use Rattle.std.proofs.Common.{◌∙◌, ap}
 
 -- select (src/fleet.rt). Goes on with the source of this number among those that may.
 
+-- the source of this number goes on, and nothing else changes
 pub returns : goal.returns
 returns c = ap (λ n. record (fleet_of c.args.self.now) { current = n })
     (c.nth_going-self.ensures ∙ able_at c.args.jobs.now (fleet_of c.args.self.now) c.args.choice)

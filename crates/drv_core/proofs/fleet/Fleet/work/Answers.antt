@@ -9,6 +9,8 @@ use Rattle.std.proofs.lemmas.List.{get_or_read}
 
 -- work (src/fleet.rt). The source in progress takes the answer.
 
+-- Names: `no_job`: a job that has nothing to do. `worked_is`: the code's source takes the answer as the definition's does.
+
 -- only the source in progress changes, as `after` says
 pub returns-clause-fleet : goal.returns-clause-fleet
 returns-clause-fleet c = ap (λ w. record (fleet_of c.args.self.now) { sources = w })

@@ -7,6 +7,9 @@ use Rattle.std.specs.Prelude.{unwrap_or}
 
 -- due_index (src/leftovers.rt). The number of the next file to be removed, from this one on.
 
+-- Names: `due_index`: the index of the first file that is due. `all_left`: the slice from i on with all that is left is the rest of the
+-- list.
+
 -- the code searches a slice from the index on, and adds the index to what it finds
 pub returns : goal.returns
 returns c =

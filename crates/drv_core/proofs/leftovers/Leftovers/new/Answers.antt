@@ -4,6 +4,9 @@ use Rattle.std.proofs.Common.{◌∙◌, length}
 
 -- new (src/leftovers.rt). The files before the run: nothing was claimed or removed.
 
+-- Names: `fresh_made`: the record that the code makes is the one before the first event.
+
+-- the record of the code shows the files before the first event
 pub returns : goal.returns
 returns c = fresh_made c.in_ok-files.files.items _ c.in_ok-gone.gone.items c.in_ok-claimed.claimed.items c.push.new.self.items c.len.result
     c.len-2.result c.len-3.result (length c.args.plan.now.jobs)

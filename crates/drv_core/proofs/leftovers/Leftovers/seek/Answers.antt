@@ -6,6 +6,9 @@ use Rattle.std.proofs.Common.{◌∙◌, ap}
 
 -- seek (src/leftovers.rt). Goes to the next file to be removed, from this number on, or past the last file.
 
+-- Names: `drop_lefts`: the rest of the code's list. `due_index`: the index of the first file that is due.
+
+-- the place that the search found is the definition's
 pub returns : goal.returns
 returns c = ap (λ n. record (leftovers_of c.args.self.now) { at = n })
     (c.due_index-self.ensures ∙ ap (λ l. due_index (leftovers_of c.args.self.now) c.args.from l)

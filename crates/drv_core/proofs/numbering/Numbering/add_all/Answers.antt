@@ -6,6 +6,9 @@ use Rattle.std.proofs.Common.{◌≡◌, ◌++◌, ◌∙◌, OnOk, ap, append_a
 
 -- add_all (src/numbering.rt). Adds the files of all jobs.
 
+-- Names: `files_from`: the files of the jobs from number k on. `job_files`: the files of a job that makes calls. `all_none`: without a link
+-- all leftover files are those of the sources.
+
 -- the files of the sources, then those of the link, are all files of the plan
 pub returns-in-Some : goal.returns-in-Some
 returns-in-Some c before h =
@@ -18,6 +21,7 @@ returns-in-Some c before h =
     subst (λ files. OnOk c.add_job.result (IsNoted files c.add_job.new.self)) all
     (c.add_job.ensures (before ++ files_from 0 c.as_slice.result.now) (c.in_ok-add_sources.ensures before h))
 
+-- without a link the files of the sources are all
 pub returns-in-None : goal.returns-in-None
 returns-in-None c before h =
     subst (λ files. IsNoted (before ++ files) c.add_sources.new.self)

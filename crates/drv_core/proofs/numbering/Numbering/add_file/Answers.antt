@@ -5,6 +5,10 @@ use Rattle.std.proofs.Common.{◌∙◌}
 
 -- add_file (src/numbering.rt). Adds a file with the number of the first file of its path.
 
+-- Names: `number_in`: the number of a path, looked up among keys that show a path. `noted_file`: one more file is noted, in the code's own
+-- list.
+
+-- one more file is noted, with the number of its path
 pub returns : goal.returns
 returns c before h = noted_file before c.args.self.now.files.items c.push.new.self.items (number_in c.args.self.now.known.entries
     (λ k. k.now)) (number_in c.note_path.new.known.entries (λ k. k.now)) c.args.place c.args.path.now

@@ -7,6 +7,7 @@ use Rattle.std.specs.Map.{lookup}
 
 -- new (src/numbering.rt). No file.
 
+-- no file is noted, and no path has a number
 pub returns : goal.returns
 returns c = noted_none c.new.result.items (number_in c.new-2.result.entries (λ k. k.now)) c.new.ensures.items
     (λ p. ap (λ es. lookup (λ k. pointwise nat_eq p k.now) es) c.new-2.ensures.empty)

@@ -7,6 +7,7 @@ use Rattle.std.proofs.Common.{◌∙◌, ap}
 
 -- take_source (src/work.rt). The source in progress takes an answer.
 
+-- the fleet takes the answer, and the run leaves the sources if they have ended
 pub returns : goal.returns
 returns c = c.leave_sources.ensures ∙ ap (λ f. flown (record (run_state_of c.args.self.now) { fleet = f }))
     (c.take.ensures ∙ ap (λ jobs. taken jobs (fleet_of c.args.self.now.fleet) c.args.answer) c.as_slice.ensures)

@@ -10,6 +10,9 @@ use Rattle.std.proofs.Common.{◌∙◌, ◌++◌, List, [], ◌∷◌, Ok, ap, 
 
 -- add_switch (src/machine/whole_words.rt). The switch at a place and its argument are put, each as a whole word.
 
+-- Names: `n`: how many items were reached. `F`: what is known of the outside. `reached n s`: the machine s where n items were reached.
+-- `word_added`: the state after a word was put whole into the command, between words. `name_at`: the name at a place.
+
 -- the switch has no argument
 pub returns-in_default : goal.returns-in_default
 returns-in_default c n F =

@@ -11,6 +11,10 @@ use Rattle.std.proofs.Common.{ap, rules, subst, ◌≡◌, ◌∙◌}
 -- call_after (src/machine/functions.rt). Arguments have been cut, and what was cut before them goes on: what the function of a name gives
 -- for them.
 
+-- Names: `n`: how many items were reached. `F`: what is known of the outside. `e`: that `F` extends the facts of this call. `reached n s`:
+-- the machine s where n items were reached. `call_step`: calls the function of this name with these words. `after_fails`: where the end of
+-- the last word is refused, so is the call.
+
 -- the word that is open can't end: its look-up has a fault
 pub returns-in_err-end_word-clause-does : goal.returns-in_err-end_word-clause-does
 returns-in_err-end_word-clause-does g c n F e =

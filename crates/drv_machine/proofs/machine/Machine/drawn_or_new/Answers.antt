@@ -8,6 +8,9 @@ use Rattle.std.proofs.Common.{subst, sym, ◌∙◌}
 
 -- drawn_or_new (src/machine/naming.rt). The last name that was drawn so with this suffix, or else a new one.
 
+-- Names: `n`: how many items were reached. `F`: what is known of the outside. `e`: that `F` extends the facts of this call. `reached n s`:
+-- the machine s where n items were reached. `none_drawn`: where no name was drawn so, a new one is.
+
 -- no name was drawn so: a new one is
 pub returns-clause-does : goal.returns-clause-does
 returns-clause-does g c n F e =

@@ -6,6 +6,9 @@ use Rattle.std.proofs.Common.{[], ◌∷◌, rules}
 
 -- end_failure (src/machine/marking.rt). The open word ends, and with it the innermost `%W`.
 
+-- Names: `n`: how many items were reached. `F`: what is known of the outside. `e`: that `F` extends the facts of this call. `reached n s`:
+-- the machine s where n items were reached. `put_failed`: where the first part of a list is refused, the whole is.
+
 -- the word that is open can't end: its look-up has a fault
 pub returns-in_err-end_word-clause-does : goal.returns-in_err-end_word-clause-does
 returns-in_err-end_word-clause-does g c n F e =

@@ -7,6 +7,10 @@ use Rattle.std.proofs.Common.{ap, rules, ◌∙◌}
 
 -- end_file (src/machine/filing.rt). The open word ends, and with it the file: its name is put, if it has words.
 
+-- Names: `n`: how many items were reached. `F`: what is known of the outside. `e`: that `F` extends the facts of this call. `reached n s`:
+-- the machine s where n items were reached. `no_end`: where the break is refused, so is the end. `gives_as`: a result that gives one answer
+-- gives another that is equal to it.
+
 -- the word that is open can't end: its look-up has a fault
 pub returns-in_err-end_word-clause-does : goal.returns-in_err-end_word-clause-does
 returns-in_err-end_word-clause-does g c n F e =

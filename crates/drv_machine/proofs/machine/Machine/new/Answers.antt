@@ -4,6 +4,8 @@ use Rattle.std.proofs.Common.{◌∙◌}
 
 -- new (src/machine.rt). Nothing is cut, hidden or counted; options, numbers and outputs go on from the texts before.
 
+-- Names: `begun_with`: the fields that `Machine` is made with are the state before the first item.
+
 -- a new machine has cut nothing, and its world is that of the context
 pub returns : goal.returns
 returns c F =

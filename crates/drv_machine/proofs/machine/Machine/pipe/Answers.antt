@@ -5,6 +5,9 @@ use Rattle.std.proofs.Common.{ap, rules}
 
 -- pipe (src/machine.rt). The open word ends, and its command with a pipe.
 
+-- Names: `n`: how many items were reached. `F`: what is known of the outside. `e`: that `F` extends the facts of this call. `reached n s`:
+-- the machine s where n items were reached. `pipe_failed`: where the end of its word is refused, so is a pipe.
+
 -- the word that is open can't end: its look-up has a fault
 pub returns-in_err-end_word-clause-does : goal.returns-in_err-end_word-clause-does
 returns-in_err-end_word-clause-does g c n F e =

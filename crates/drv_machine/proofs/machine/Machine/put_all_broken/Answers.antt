@@ -10,6 +10,10 @@ use Rattle.std.specs.List.{flat_map}
 
 -- put_all_broken (src/machine/lists.rt). Lists of bytes are put, with a break after each.
 
+-- Names: `n`: how many items were reached. `F`: what is known of the outside. `e`: that `F` extends the facts of this call. `reached n s`:
+-- the machine s where n items were reached. `asked_further`: calls that only asked, one after another. `extends_before`: what extends the
+-- facts after a call extends those before it.
+
 -- one list of bytes is put with its break, and the others are left
 pub loop-word-preserved : goal.loop-word-preserved
 loop-word-preserved g c = record {

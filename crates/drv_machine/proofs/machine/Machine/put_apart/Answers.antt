@@ -7,6 +7,9 @@ use Rattle.std.proofs.Common.{◌∷◌, [], rules}
 
 -- put_apart (src/machine/lists.rt). Whole words are put after a break.
 
+-- Names: `n`: how many items were reached. `F`: what is known of the outside. `e`: that `F` extends the facts of this call. `reached n s`:
+-- the machine s where n items were reached. `words`: the atoms of words, each whole.
+
 -- the word that is open can't end: its look-up has a fault
 pub returns-in_err-end_word-clause-does : goal.returns-in_err-end_word-clause-does
 returns-in_err-end_word-clause-does g c n F e =

@@ -8,6 +8,10 @@ use Rattle.std.proofs.Common.{◌∙◌, Some, [], ◌∷◌, ap, map, rules, sy
 
 -- put_argument (src/machine.rt). The open word ends, and the argument of the switch at a place, if it has one, is a word after it.
 
+-- Names: `n`: how many items were reached. `F`: what is known of the outside. `e`: that `F` extends the facts of this call. `reached n s`:
+-- the machine s where n items were reached. `argument`: the argument of the switch at a place, if it has one. `argument_open`: a switch
+-- with one. `put_failed`: where the first part of a list is refused, the whole is.
+
 -- the word of the switch can't end
 pub returns-in_err-end_word-clause-does : goal.returns-in_err-end_word-clause-does
 returns-in_err-end_word-clause-does g c n F e =

@@ -6,6 +6,9 @@ use Rattle.std.proofs.Common.{[], ◌∷◌, map, rules}
 
 -- put_broken (src/machine/lists.rt). Bytes are put, with a break after them.
 
+-- Names: `n`: how many items were reached. `F`: what is known of the outside. `e`: that `F` extends the facts of this call. `reached n s`:
+-- the machine s where n items were reached. `put_failed`: where the first part of a list is refused, the whole is.
+
 -- no memory for the bytes
 pub returns-in_err-put-clause-does : goal.returns-in_err-put-clause-does
 returns-in_err-put-clause-does g c n F e =

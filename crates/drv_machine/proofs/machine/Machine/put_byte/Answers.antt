@@ -6,6 +6,9 @@ use Rattle.std.proofs.Common.{◌∙◌, ◌++◌, ◌∷◌, [], ap, refl, sym}
 
 -- put_byte (src/machine.rt). A byte goes into the open word, or opens one.
 
+-- Names: `n`: how many items were reached. `F`: what is known of the outside. `bytes_put`: a word that has grown by some bytes. `reached n
+-- s`: the machine s where n items were reached.
+
 -- the byte goes into the open word, or opens one
 pub returns : goal.returns
 returns c n F C = rw (← c.self.view_is)

@@ -6,6 +6,9 @@ use Rattle.std.proofs.Common.{◌∙◌, ◌++◌, ap, sym}
 
 -- put_bytes (src/machine.rt). Bytes go into the open word, or open one; no bytes change nothing.
 
+-- Names: `n`: how many items were reached. `F`: what is known of the outside. `bytes_put`: a word that has grown by some bytes. `reached n
+-- s`: the machine s where n items were reached.
+
 -- the bytes go into the open word, or open one
 pub returns : goal.returns
 returns c n F C = rw (← c.self.view_is)

@@ -9,6 +9,11 @@ use Rattle.std.proofs.Common.{[], map, refl, rules, sym, ◌++◌, ◌∙◌, �
 
 -- put_file (src/machine/filing.rt). The name of a file with these words is put, if there are any.
 
+-- Names: `n`: how many items were reached. `F`: what is known of the outside. `e`: that `F` extends the facts of this call. `reached n s`:
+-- the machine s where n items were reached. `file_drawn`: after the name was drawn, its word is put. `put_failed`: where the first part of
+-- a list is refused, the whole is. `put_last`: where the first part was put, what putting the second gives is what the whole gives.
+-- `whole`: that putting the drawn name is the whole step.
+
 -- a file without words has no name
 pub returns-then-is_empty-clause-does : goal.returns-then-is_empty-clause-does
 returns-then-is_empty-clause-does g c n F e = none_filed F c.args.context.now (reached n c.args.self.now) c.args.words.now

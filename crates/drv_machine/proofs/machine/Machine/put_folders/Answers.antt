@@ -11,6 +11,9 @@ use Rattle.std.specs.List.{flat_map}
 
 -- put_folders (src/machine/lists.rt). The options for the folders of libraries are put.
 
+-- Names: `n`: how many items were reached. `F`: what is known of the outside. `e`: that `F` extends the facts of this call. `reached n s`:
+-- the machine s where n items were reached. `puts`: puts these atoms.
+
 -- the options for the folders are put, each with a break
 pub returns-clause-does : goal.returns-clause-does
 returns-clause-does g c n F e =

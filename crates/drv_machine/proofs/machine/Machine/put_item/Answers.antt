@@ -7,6 +7,9 @@ use Rattle.std.proofs.Common.{◌≡◌, Ok, OnOk, ap, subst, sym}
 
 -- put_item (src/machine.rt). The bytes of an item go into the open word, or open one: mostly one byte, which has a shorter path.
 
+-- Names: `n`: how many items were reached. `F`: what is known of the outside. `reached n s`: the machine s where n items were reached.
+-- `one_byte`: a list of bytes of length 1 is its first byte alone.
+
 -- the label of a plain byte has one byte, which is put
 pub returns-then-bytes-eq1 : goal.returns-then-bytes-eq1
 returns-then-bytes-eq1 c n F C =

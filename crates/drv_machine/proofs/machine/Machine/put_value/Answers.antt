@@ -6,6 +6,10 @@ use Rattle.std.proofs.Common.{rules}
 -- put_value (src/machine/functions.rt). Arguments have been cut, and what was cut before them goes on: the function's value is put, if it
 -- has one.
 
+-- Names: `n`: how many items were reached. `F`: what is known of the outside. `e`: that `F` extends the facts of this call. `reached n s`:
+-- the machine s where n items were reached. `value_failed`: where the call of an item's function is refused, so is the item. `value_none`:
+-- where a function gives no value, nothing is put, as the definition says.
+
 -- the function has a fault, or its arguments do
 pub returns-in_err-word-clause-does : goal.returns-in_err-word-clause-does
 returns-in_err-word-clause-does g c n F e =

@@ -7,6 +7,10 @@ use Rattle.std.proofs.Common.{[], ◌∷◌}
 
 -- put_word (src/machine/lists.rt). A whole word is put, with an opening before it and a break after it.
 
+-- Names: `n`: how many items were reached. `F`: what is known of the outside. `e`: that `F` extends the facts of this call. `reached n s`:
+-- the machine s where n items were reached. `put_last`: where the first part was put, what putting the second gives is what the whole
+-- gives.
+
 -- the word is put whole: it is opened, its bytes are put, and it ends
 pub returns-clause-does : goal.returns-clause-does
 returns-clause-does g c n F e =

@@ -10,6 +10,10 @@ use Rattle.std.specs.List.{flat_map}
 
 -- put_words (src/machine/lists.rt). Whole words are put.
 
+-- Names: `n`: how many items were reached. `F`: what is known of the outside. `e`: that `F` extends the facts of this call. `reached n s`:
+-- the machine s where n items were reached. `whole_word`: a word with an opening before it and a break after it. `asked_further`: calls
+-- that only asked, one after another.
+
 -- one word is put, and the others are left
 pub loop-word-preserved : goal.loop-word-preserved
 loop-word-preserved g c = record {

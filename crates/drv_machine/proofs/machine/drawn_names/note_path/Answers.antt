@@ -3,6 +3,8 @@ use Rattle.drv_machine.proofs.machine.drawn_names.note_path.Goals as goal
 
 -- note_path (src/machine/drawn_names.rt). The path of a name is the last one of its suffix.
 
+-- Names: `path_noted`: a map into which the path was put notes it.
+
 -- the path of the name is the last one of its suffix
 pub returns : goal.returns
 returns c =

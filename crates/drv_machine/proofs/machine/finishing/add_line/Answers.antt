@@ -7,6 +7,10 @@ use Rattle.std.specs.Global.{Vec}
 
 -- add_line (src/machine/finishing.rt). The command of one line more joins those of the group that is begun.
 
+-- Names: `F`: what is known of the outside. `e`: that `F` extends the facts of this call. `one_ended`: a command that no pipe follows, or
+-- any without -pipe, ends its group. `one_joined`: a command that a pipe follows, with -pipe, joins the group that is begun. `made`: the
+-- group of some commands.
+
 -- a pipe joins the command to the next: its group goes on
 pub returns-then-is_joined-clause-added : goal.returns-then-is_joined-clause-added
 returns-then-is_joined-clause-added g c F e lines =

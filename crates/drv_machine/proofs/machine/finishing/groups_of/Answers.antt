@@ -9,6 +9,10 @@ use Rattle.std.proofs.lemmas.List.{map-id}
 
 -- groups_of (src/machine/finishing.rt). The groups of commands: with `-pipe` piped commands form one, otherwise each command is one.
 
+-- Names: `F`: what is known of the outside. `e`: that `F` extends the facts of this call. `all_grouped`: after the last command the group
+-- that is begun ends. `grouped_none`: before the first command no group has ended or begun, and what the lines give is all.
+-- `asked_further`: calls that only asked, one after another. `asked_none`: a call that leaves the outside as it was only asked.
+
 -- before the first command no group has ended or begun
 pub loop-line-init : goal.loop-line-init
 loop-line-init g c = record {

@@ -8,11 +8,15 @@ use Rattle.std.proofs.Common.{arith, [], ◌∷◌, ◌≡◌, ◌∙◌, ap, ap
 
 -- once (src/machine/finishing.rt). Files, each once.
 
+-- Names: `once`: each once, at its first place. `all_once`: after the last file none is left. `none_kept`: before the first file the loop
+-- has kept none, and all are left.
+
 -- before the first file none is kept
 pub loop-file-init : goal.loop-file-init
 loop-file-init c rest = none_kept c.new-kept.result (once rest) (c.new-kept.ensures ∙ c.new.ensures)
 
--- the file is kept if it is new, and the others are left
+-- the file is kept if it is new, and the others are left: the file joins those that are left, the invariant says what they give, and
+-- `one_added` moves it to those that are kept
 pub loop-file-preserved : goal.loop-file-preserved
 loop-file-preserved c rest =
     ap once (append_assoc c.loop-file.yielded (c.in-Some.file ∷ []) rest) ∙ c.loop-file.invariant (c.in-Some.file ∷ rest)

@@ -4,6 +4,8 @@ use Rattle.std.proofs.Common.{arith}
 
 -- index_of (src/machine/indexed.rt). The words of a list, in order.
 
+-- Names: `next_indexed`: the invariant of the loop that makes the index.
+
 -- one word more is in the index
 pub loop-word-preserved : goal.loop-word-preserved
 loop-word-preserved c other =

@@ -4,6 +4,8 @@ use Rattle.std.proofs.Common.{arith, sym, ◌-◌, ◌∙◌}
 
 -- last_drawn (src/machine/naming.rt). The last of these names that was drawn so with this suffix.
 
+-- Names: `drawn_at`: the code looks from the end.
+
 -- the name is the last one that was drawn so, for none after it was
 pub returns-then-is_drawn : goal.returns-then-is_drawn
 returns-then-is_drawn c =

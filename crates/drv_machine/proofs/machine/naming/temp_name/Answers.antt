@@ -6,6 +6,9 @@ use Rattle.std.specs.Option.{option_copied}
 
 -- temp_name (src/machine/naming.rt). The name of a temporary with this seed, number and suffix.
 
+-- Names: `F`: what is known of the outside. `e`: that `F` extends the facts of this call. `temp_named`: a name is made of its parts.
+-- `variable_of`: the value None means that the variable is known to be unset.
+
 -- the folder, the seed, the number and the suffix make the name of the definition
 pub returns-clause-name : goal.returns-clause-name
 returns-clause-name g c F e =

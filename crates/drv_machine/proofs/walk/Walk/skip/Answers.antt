@@ -7,6 +7,11 @@ use Rattle.std.proofs.Common.{ap, arith, subst, sym, ◌<◌, ℕ}
 
 -- skip (src/walk.rt). Passes over other alternatives than the one that was run.
 
+-- Names: `F`: what is known of the outside. `s`: the machine: what has been cut, and the world. `given`: what the walk gives in the end.
+-- `left`: the clause's condition `Left`. `left_at`: a walk that moved on in the innermost part. `lies_past`: after an alternative that is
+-- passed over the same items are left. `past_later`: an alternative that is passed over ends after the place reached. `place_in`: a place
+-- before the end of what is left is one of the list of tokens.
+
 -- the place is a token of the text
 pub token_at-token-requires : goal.token_at-token-requires
 token_at-token-requires c =

@@ -6,6 +6,10 @@ use Rattle.std.proofs.lemmas.Result.{IfOk-weaker}
 
 -- any_hits (src/switches.rt). The places of the switches that one of these patterns hits, in order.
 
+-- Names: `all_same`: patterns that hit the same switches hit the same places. `any_within`: the places that are hit are places of the line.
+-- `front_is`: a list of patterns is its first one and those after it. `front_same`: the code leaves out patterns without a hit.
+
+-- no pattern hits anything
 pub returns-in_default-clause-places : goal.returns-in_default-clause-places
 returns-in_default-clause-places c =
     c.new.ensures ∙ none_hit c.args.self.now c.args.hidden.now c.from_first_hit.result.now c.args.patterns.now
@@ -36,12 +40,14 @@ returns-then-not-is_empty-clause-places c =
     (front_is c.from_first_hit.result.now c.first-item.result c.in-len1-up.len_at_least c.first-item.is) c.from_first_hit-others.ensures))
     c.merged_hits.ensures
 
+-- the hits of one pattern are places of the line
 pub returns-clause-within : goal.returns-clause-within
 returns-clause-within c =
     IfOk-weaker c.hits.result (λ (places : List ℕ). places ≡ any_hits c.args.self.now c.args.hidden.now c.args.patterns.now)
     (λ (places : List ℕ). All (λ place. place < length c.args.self.now) places)
     (λ places is. any_within c.args.self.now c.args.hidden.now c.args.patterns.now places is) (returns-clause-places c)
 
+-- so are those of several patterns
 pub returns-then-not-is_empty-clause-within : goal.returns-then-not-is_empty-clause-within
 returns-then-not-is_empty-clause-within c =
     IfOk-weaker c.merged_hits.result (λ (places : List ℕ). places ≡ any_hits c.args.self.now c.args.hidden.now c.args.patterns.now)

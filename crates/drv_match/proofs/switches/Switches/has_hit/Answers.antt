@@ -8,6 +8,9 @@ use Rattle.std.proofs.lemmas.Iterator.Search.{any_from_yields_List}
 
 -- has_hit (src/switches.rt). Whether a pattern hits any switch.
 
+-- Names: `counts`: whether a place that a pattern names counts. `named_any`: some named place counts exactly if the pattern has a hit.
+
+-- each place that the test is asked for is one of the line
 pub any-requires-clause-callable : goal.any-requires-clause-callable
 any-requires-clause-callable c =
     serves_from_places (YieldsList-from_slice c.named_places-named.result.now c.iter.ensures.rest) (λ x q k. search (rules, tests))
@@ -15,6 +18,7 @@ any-requires-clause-callable c =
     named_place c.args.self.now c.args.pattern.now c.named_places-named.result.now c.named_places-named.ensures k x.now lt at in
     search (rules, within))
 
+-- the test holds for one of the places that the pattern names
 pub returns : goal.returns
 returns c =
     any_from_yields_List (counts c.args.self.now c.args.hidden.now (is_broad c.args.pattern.now)) _ _ _ c.any.ensures.ran

@@ -6,11 +6,15 @@ use Rattle.std.proofs.lemmas.List.Sorted.{IsNonDecreasingBy-from_sort}
 
 -- hits (src/switches.rt). The places of the switches that a pattern hits, in order.
 
+-- Names: `counted`: at the end of the loop the places that count are complete. `counts`: whether a place that a pattern names counts.
+
+-- a place that the pattern names is one of the line
 pub counts-requires : goal.counts-requires
 counts-requires c = named_within c.args.self.now c.args.pattern.now c.named_places-named.result.now
     c.named_places-named.ensures
     c.loop-place.place-index (omega arith)
 
+-- after the last of the named places the hits are those that count
 pub returns : goal.returns
 returns c = c.from_vec.ensures ∙ named_hits c.args.self.now c.named_places-named.result.now c.loop-place.places.items _ c.args.hidden.now
     c.args.pattern.now c.named_places-named.ensures (counted (counts c.args.self.now c.args.hidden.now (is_broad c.args.pattern.now))

@@ -5,6 +5,10 @@ use Rattle.std.proofs.lemmas.List.{get_or_read}
 
 -- merged_hits (src/switches.rt). The places that one of these patterns hits, in order, by a flag for each place.
 
+-- Names: `flagged_from`: the places from here on whose flags are set. `place_kept`: one step of the loop that reads the flags.
+-- `place_passed`: one step of the loop that reads the flags.
+
+-- before the first flag no place is taken, and all are left
 pub loop-place-init : goal.loop-place-init
 loop-place-init c =
     ap (λ ps. ps ++ flagged_from c.args.self.now c.args.hidden.now c.loop-pattern.flags.items 0) c.new-places.ensures.items

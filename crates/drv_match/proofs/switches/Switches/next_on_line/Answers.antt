@@ -6,6 +6,9 @@ use Rattle.std.proofs.lemmas.Iterator.{first_from_Range}
 
 -- next_on_line (src/switches.rt). The first place of a hit from one place on, in the order of the line.
 
+-- Names: `next_found`: the first place that is hit from `from` on. `is_hit`: the switch at a place is hit.
+
+-- the first place of the line, from this one on, that passes the test
 pub returns : goal.returns
 returns c =
     let hit = is_hit c.args.self.now c.args.hidden.now c.args.pattern.now in

@@ -4,6 +4,10 @@ use Rattle.drv_plan.specs.Denoted.{with_source}
 
 -- add_source (src/progress.rt). Runs the text of a source, and adds its job.
 
+-- Names: `F`: what is known of the outside. `e`: that `F` extends the facts of this call. `refusal_given`: a refusal of a step is that of
+-- the plan. `source_refused`: a source whose text is refused refuses the plan. `source_worked`: a source's job goes to the plan, and its
+-- output to the link.
+
 pub returns-in_err-job-clause-works : goal.returns-in_err-job-clause-works
 returns-in_err-job-clause-works g c F e =
     refusal_given c.in_err-job.field-0.0 c.from_residual.result _ (with_source F c.args.source.place c.args.source.of c.args.text.now

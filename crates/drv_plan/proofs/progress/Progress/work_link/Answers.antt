@@ -5,6 +5,9 @@ use Rattle.std.proofs.Common.{ap}
 
 -- work_link (src/progress.rt). Runs the text of the link, which takes all outputs.
 
+-- Names: `F`: what is known of the outside. `e`: that `F` extends the facts of this call. `worked`: a text is run. `given_alike`: an answer
+-- to one definition is an answer to an equal one.
+
 -- the link's text is processed without an input and with all outputs
 pub returns-clause-works : goal.returns-clause-works
 returns-clause-works g c F e =

@@ -5,6 +5,9 @@ use Rattle.std.specs.Option.{option_flatten}
 
 -- insert (src/named_texts.rt). Puts a text under a name: a name that is there keeps its place, a new one goes last.
 
+-- Names: `text_before`: the text that a name had, after another was put. `put_there`: a text is put under a name that had a text, or no
+-- entry. `moved`: a text under a name that had lost its own goes behind all others.
+
 pub returns-in-None-clause-old : goal.returns-in-None-clause-old
 returns-in-None-clause-old c =
     rw (← c.self.view_is) (ap option_flatten (sym c.in-None.is ∙ c.in_ok-insert.ensures.old)

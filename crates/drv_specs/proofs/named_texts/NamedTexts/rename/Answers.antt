@@ -8,6 +8,9 @@ use Rattle.std.specs.Option.{option_copied}
 -- rename (src/named_texts.rt). Gives a text a new name, in its place: under the new name it goes last, and from there to the place of the
 -- old one.
 
+-- Names: `left_renamed`: the code renames by a new entry, which it swaps into the place of the old one. `unnamed`: a rename of a name
+-- without a text changes nothing.
+
 pub returns-in_default : goal.returns-in_default
 returns-in_default c = unnamed c.args.old.now c.args.new.now c.args.self.now
     (ap (lookup (pointwise nat_eq c.args.old.now)) (sym c.self.view_is) ∙ sym c.text_at.ensures ∙ ap option_copied c.in_default.is)

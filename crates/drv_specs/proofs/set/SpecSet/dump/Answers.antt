@@ -9,6 +9,9 @@ use Rattle.std.proofs.Common.{◌≡◌, IfOk, Ok, subst, sym}
 -- dump (src/dumping.rt). The text of the set: its named texts and then its pairs, each with its name and a colon on a line before it and an
 -- empty line after it (GCC manual, "-dumpspecs").
 
+-- Names: `F`: what is known of the outside. `plain`: the clause's condition `Plain`. `dump_given`: the text that a dump gives, loaded into
+-- the empty set, gives the set. `loaded`: a text loaded, and a file.
+
 pub returns-clause-reloads : goal.returns-clause-reloads
 returns-clause-reloads c plain F prefixes =
     subst (λ (set : Set). IfOk c.dump_of.result (λ text. loaded F prefixes no_specs text ≡ Is (Ok set))) c.self.view_is

@@ -9,6 +9,9 @@ use Rattle.std.proofs.Common.{◌≡◌, Ok, subst, sym}
 -- reloads_over_itself (src/laws.rt). The law that the dump of this set, loaded over the set, changes no named text and gives each pair once
 -- more, unless a named text begins with `+` and a blank.
 
+-- Names: `F`: what is known of the outside. `plain`: the clause's condition `Plain`. `dump_doubles`: a dump loaded over the set adds its
+-- pairs once more. `dumped`: the named texts of a set, then its pairs.
+
 pub returns : goal.returns
 returns c plain F prefixes =
     subst (λ (set : Set). loaded F prefixes set (dumped set) ≡ Is (Ok (doubled set))) c.self.view_is

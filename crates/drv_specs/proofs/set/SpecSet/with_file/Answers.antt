@@ -13,6 +13,10 @@ use Rattle.std.proofs.Common.{◌≡◌, ◌⊎◌, ◌∙◌, Err, ap, rules, s
 -- with_file (src/loading.rt). The set with the directives of the file of this name carried out, as `load_file` does; no copy of the set is
 -- made.
 
+-- Names: `F`: what is known of the outside. `e`: that `F` extends the facts of this call. `file_read`: a file that is loaded is its settled
+-- text, carried out. `file_unread`: a file that can't be read is not loaded. `given_alike`: what a result gives of one definition it gives
+-- of an equal one. `read_file`: the file's text, as the code keeps it, is the settled one.
+
 pub returns-in_err-text-clause-asks : goal.returns-in_err-text-clause-asks
 returns-in_err-text-clause-asks g c = let asks = c.file_text.ensures.asks.asks in search rules
 

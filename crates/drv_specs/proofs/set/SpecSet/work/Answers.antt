@@ -5,6 +5,8 @@ use Rattle.drv_specs.proofs.set.SpecSet.work.Goals as goal
 -- work (src/loading.rt). Carries out the directives of a settled text, which may read `files` more files, on a copy that then takes the
 -- place of the set.
 
+-- Names: `settled_keeps`: a settled text that was carried out keeps the invariant. `extends_refl`: facts keep their own answers.
+
 pub invariant_of-self : goal.invariant_of-self
 invariant_of-self g c =
     settled_keeps c.draft_of.new.outside.facts.now c.args.prefixes.now c.self.inside.entries c.in_ok-draft.draft c.args.files

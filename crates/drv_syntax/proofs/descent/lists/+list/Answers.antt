@@ -22,6 +22,10 @@ use Rattle.std.specs.Prelude.{Ok, Some, ◌==◌}
 
 -- The functions of the reader that call one another (src/descent/): each gives what the descent gives for its list, choice, test or call.
 
+-- Names: `l`: of the type `Listed` (proofs/Taken). `b`: of the type `Taken` (proofs/Taken). `seen`: what a `Reader` of the code has read.
+-- `context_seen`: the context of a list, as the code's type has it. `gives_err`: code that passes on the fault of a part meets its clause.
+-- `differs`: bytes that are not equal are found different by the test. `ok_same`: the values of two equal results are equal.
+
 -- the text ends in the list, and a whole text may
 pub items-returns-in_default-clause-list : goal.items-returns-in_default-clause-list
 items-returns-in_default-clause-list t c = sym c.loop-tail.invariant
@@ -40,6 +44,7 @@ items-returns-then-ends_list-clause-list t c = sym c.loop-tail.invariant
     ∙ turn_ends (context_seen c.args.c) c.args.outer c.args.c.kind refl _ _ (seen c.loop-tail.r) _ c.in_ok-tail.ensures
     _ (sym c.in-Some.ensures) (sym c.ends_list.ensures ∙ c.if-ends_list.true) ∙ rw c.with_end.ensures refl
 
+-- `items`: a directive has a fault, and so has the list
 pub items-returns-in_err-percent-clause-list : goal.items-returns-in_err-percent-clause-list
 items-returns-in_err-percent-clause-list t c =
     gives_err _ _ c.from_residual-in_err-percent.ensures.1 c.in_err-percent.ensures (λ h. sym c.loop-tail.invariant
@@ -47,6 +52,7 @@ items-returns-in_err-percent-clause-list t c =
     c.in-Some.ensures ∙ ap (λ x. Some x) c.if-b-eq37.true)
     ∙ rw h refl)
 
+-- `items`: after a directive fewer bytes are left
 pub items-loop-tail-smaller-then-b-eq37 : goal.items-loop-tail-smaller-then-b-eq37
 items-loop-tail-smaller-then-b-eq37 t c =
     omega (
@@ -64,12 +70,14 @@ items-loop-tail-preserved-then-b-eq37 t c = rw c.tail_here-tail-then-b-eq37.ensu
     c.in-Some.ensures ∙ ap (λ x. Some x) c.if-b-eq37.true)
     ∙ rw c.in_ok-percent.ensures refl) ∙ c.loop-tail.invariant)
 
+-- `items`: what is no directive has a fault, and so has the list
 pub items-returns-in_err-tail-2-clause-list : goal.items-returns-in_err-tail-2-clause-list
 items-returns-in_err-tail-2-clause-list t c =
     gives_err _ _ c.from_residual-in_err-tail-2.ensures.1 c.in_err-tail-2.ensures (λ h. sym c.loop-tail.invariant
     ∙ turn_item (context_seen c.args.c) c.args.outer c.args.c.kind refl _ _ (seen c.loop-tail.r) _ c.in_ok-tail.ensures
     _ (sym c.in-Some.ensures) (sym c.ends_list.ensures ∙ c.if-ends_list.false) (differs _ _ c.if-b-eq37.false) ∙ rw h refl)
 
+-- `items`: after another item fewer bytes are left
 pub items-loop-tail-smaller : goal.items-loop-tail-smaller
 items-loop-tail-smaller t c =
     omega (
@@ -88,6 +96,7 @@ items-loop-tail-preserved t c =
     c.in-Some.ensures) (sym c.ends_list.ensures ∙ c.if-ends_list.false) (differs _ _ c.if-b-eq37.false)
     ∙ rw c.in_ok-tail-2.ensures refl) ∙ c.loop-tail.invariant
 
+-- `tests`: the first test has a fault
 pub tests-returns-in_err-test : goal.tests-returns-in_err-test
 tests-returns-in_err-test t c =
     gives_err _ _ c.from_residual.ensures.1 c.in_err-test.ensures (λ h. rw (form_given_by (context_seen c.args.c), h) refl)
@@ -100,18 +109,22 @@ tests-returns-in-Emits t c = rw (form_given_by (context_seen c.args.c), c.in_ok-
 pub tests-returns-in-Asks : goal.tests-returns-in-Asks
 tests-returns-in-Asks t c = rw (form_given_by (context_seen c.args.c), c.in_ok-test.ensures, c.in-Asks.is) refl
 
+-- `more_tests`: the next test has a fault
 pub more_tests-returns-in_err-test : goal.more_tests-returns-in_err-test
 more_tests-returns-in_err-test t c = gives_err _ _ c.from_residual.ensures.1 c.in_err-test.ensures (λ h. sym c.loop-choice.invariant
     ∙ rw (more_given_by (context_seen c.args.c), h) refl)
 
+-- `more_tests`: a colon ends the tests
 pub more_tests-returns-in-Asks : goal.more_tests-returns-in-Asks
 more_tests-returns-in-Asks t c =
     sym c.loop-choice.invariant ∙ rw (more_given_by (context_seen c.args.c), c.in_ok-test.ensures, c.in-Asks.is) refl
 
+-- `more_tests`: after a bar the tests so far and those that follow are all
 pub more_tests-loop-choice-preserved : goal.more_tests-loop-choice-preserved
 more_tests-loop-choice-preserved t c =
     (rw (more_given_by (context_seen c.args.c), c.in_ok-test.ensures, c.in-Bars.is) at c.loop-choice.invariant)
 
+-- `more_tests`: after a test fewer bytes are left
 pub more_tests-loop-choice-smaller : goal.more_tests-loop-choice-smaller
 more_tests-loop-choice-smaller t c =
     omega (
@@ -120,21 +133,25 @@ more_tests-loop-choice-smaller t c =
           (rw c.in-Bars.is at c.in_ok-test.ensures),
     )
 
+-- `tests`: a pattern after an ampersand has a fault
 pub tests-returns-in_err-patterns-in-Joins : goal.tests-returns-in_err-patterns-in-Joins
 tests-returns-in_err-patterns-in-Joins t c =
     gives_err _ _ c.from_residual-in_err-patterns-in-Joins.ensures.1 c.in_err-patterns-in-Joins.ensures (λ h. rw (form_given_by
     (context_seen c.args.c))
     (rw (c.in_ok-test.ensures, c.in-Joins.is, h) refl))
 
+-- `tests`: an ampersand leads to more patterns
 pub tests-returns-in_ok-patterns-in-Joins : goal.tests-returns-in_ok-patterns-in-Joins
 tests-returns-in_ok-patterns-in-Joins t c =
     rw (form_given_by (context_seen c.args.c), c.in_ok-test.ensures, c.in-Joins.is, c.in_ok-patterns-in-Joins.ensures) refl
 
+-- `tests`: a test after a bar has a fault
 pub tests-returns-in_err-more_tests-in-Bars : goal.tests-returns-in_err-more_tests-in-Bars
 tests-returns-in_err-more_tests-in-Bars t c =
     gives_err _ _ c.from_residual-in_err-more_tests-in-Bars.ensures.1 c.in_err-more_tests-in-Bars.ensures
     (λ h. rw (form_given_by (context_seen c.args.c), c.in_ok-test.ensures, c.in-Bars.is, h) refl)
 
+-- `tests`: a bar leads to more tests
 pub tests-returns-in_ok-more_tests-in-Bars : goal.tests-returns-in_ok-more_tests-in-Bars
 tests-returns-in_ok-more_tests-in-Bars t c =
     rw (form_given_by (context_seen c.args.c), c.in_ok-test.ensures, c.in-Bars.is, c.in_ok-more_tests-in-Bars.ensures) refl
@@ -147,17 +164,21 @@ more_tests-returns-in-Emits t c =
       | inr e ↦ rw (more_given_by (context_seen c.args.c), c.in_ok-test.ensures, e) refl
     ])
 
+-- `choices`: what the braces begin with has a fault
 pub choices-returns-in_err-tests : goal.choices-returns-in_err-tests
 choices-returns-in_err-tests t c =
     gives_err _ _ c.from_residual.ensures.1 c.in_err-tests.ensures (λ h. rw (choices_given_by (context_seen c.args.c), h) refl)
 
+-- `choices`: the braces are patterns
 pub choices-returns-in-Patterns : goal.choices-returns-in-Patterns
 choices-returns-in-Patterns t c = rw (choices_given_by (context_seen c.args.c), c.in_ok-tests.ensures, c.in-Patterns.is) refl
 
+-- `choices`: the first X has a fault
 pub choices-returns-in_err-x : goal.choices-returns-in_err-x
 choices-returns-in_err-x t c = gives_err _ _ c.from_residual-in_err-x.ensures.1 c.in_err-x.ensures
     (λ h. rw (choices_given_by (context_seen c.args.c), c.in_ok-tests.ensures, c.in-Tests.is, h) refl)
 
+-- `choices`: a later alternative has a fault
 pub choices-returns-in_err-later : goal.choices-returns-in_err-later
 choices-returns-in_err-later t c = gives_err _ _ c.from_residual-in_err-later.ensures.1 c.in_err-later.ensures
     (λ h. rw (
@@ -170,6 +191,7 @@ choices-returns-in_err-later t c = gives_err _ _ c.from_residual-in_err-later.en
       h,
     ) refl)
 
+-- `choices`: the first alternative, and those after it
 pub choices-returns-in_ok-later : goal.choices-returns-in_ok-later
 choices-returns-in_ok-later t c =
     rw (
@@ -187,6 +209,7 @@ pub choices-returns-else-branch-ne125 : goal.choices-returns-else-branch-ne125
 choices-returns-else-branch-ne125 t c =
     rw (choices_given_by (context_seen c.args.c), c.in_ok-tests.ensures, c.in-Tests.is, c.in_ok-x.ensures, c.if-branch-ne125.false) refl
 
+-- `later`: the X of the default has a fault
 pub later-returns-in_err-x : goal.later-returns-in_err-x
 later-returns-in_err-x t c = gives_err _ _ c.from_residual-in_err-x.ensures.1 c.in_err-x.ensures (λ h. sym c.loop-r.invariant
     ∙ default_turn (context_seen c.args.c) c.args.at c.args.outer c.requires (seen c.loop-r.r)
@@ -207,6 +230,7 @@ later-returns-then-begins_after_white t c = sym c.loop-r.invariant
     (sym c.begins_after_white.ensures ∙ c.if-begins_after_white.true) _ c.skip_white.ensures _ _ (ok_same c.in_ok-choice.ensures)
     ∙ rw (c.in_ok-x.ensures, c.if-branch-ne125.false) refl
 
+-- `later`: the tests of the next alternative have a fault
 pub later-returns-in_err-choice-2 : goal.later-returns-in_err-choice-2
 later-returns-in_err-choice-2 t c =
     let e = sym c.begins_after_white.ensures ∙ c.if-begins_after_white.false in
@@ -224,6 +248,7 @@ later-returns-in_default t c =
       c.in_default.is,
     ) refl)
 
+-- `later`: its X has a fault
 pub later-returns-in_err-x-2 : goal.later-returns-in_err-x-2
 later-returns-in_err-x-2 t c =
     let e = sym c.begins_after_white.ensures ∙ c.if-begins_after_white.false in
@@ -247,6 +272,7 @@ later-returns-then-branch-eq125 t c =
       c.if-branch-eq125.true,
     ) refl
 
+-- `later`: after an alternative fewer bytes are left
 pub later-loop-r-smaller : goal.later-loop-r-smaller
 later-loop-r-smaller t c =
     let some : (c.args.c.levels == 0) ≡ false = grind (arith, nat_tests, c.requires) in
@@ -258,6 +284,7 @@ later-loop-r-smaller t c =
           c.in_ok-x-2.field-0 c.in_ok-x-2.ensures,
     )
 
+-- `later`: the alternatives so far and those that follow are all
 pub later-loop-r-preserved : goal.later-loop-r-preserved
 later-loop-r-preserved t c =
     let e = sym c.begins_after_white.ensures ∙ c.if-begins_after_white.false in
@@ -322,6 +349,7 @@ test-returns-then-begun-ne37 t c =
     gives_same _ _ (test_plain c.args.outer c.args.at (order_seen c.args.order) (alternative_of c.args.order) (context_seen c.args.c)
     (seen c.args.r.now) _ _ c.in_ok-begun.ensures (differs _ _ c.if-begun-ne37.true)) c.plain_test.ensures
 
+-- `test`: the call whose result is asked for has a fault
 pub test-returns-in_err-choice : goal.test-returns-in_err-choice
 test-returns-in_err-choice t c = gives_err _ _ c.from_residual-in_err-choice.ensures.1 c.in_err-choice.ensures (λ h.
     test_result c.args.outer c.args.at (order_seen c.args.order) (alternative_of c.args.order) (context_seen c.args.c)
@@ -329,6 +357,7 @@ test-returns-in_err-choice t c = gives_err _ _ c.from_residual-in_err-choice.ens
     ∙ tried_fails c.args.outer c.args.at (order_seen c.args.order) (alternative_of c.args.order) (seen c.begin.new.r)
     (fails_then _ (fails _ _ _ h)))
 
+-- `test`: the text ends after the call
 pub test-returns-in_default : goal.test-returns-in_default
 test-returns-in_default t c =
     inr (test_ends c.args.outer c.args.at (order_seen c.args.order) (alternative_of c.args.order) (context_seen c.args.c)
@@ -336,6 +365,7 @@ test-returns-in_default t c =
     c.if-begun-ne37.false (deep_enough c.args.c.levels c.requires c.if-c-eq1.false) _ (seen c.result.new.r) c.in_ok-choice.ensures _
     c.skip_white.ensures ∙ rw (← c.in_default.ensures, c.unclosed_fault.ensures) refl)
 
+-- `test`: the byte after the call doesn't fit
 pub test-returns-in_err-judged : goal.test-returns-in_err-judged
 test-returns-in_err-judged t c = err_gives _ _ c.from_residual-in_err-judged.ensures.1
     (test_ends c.args.outer c.args.at (order_seen c.args.order) (alternative_of c.args.order) (context_seen c.args.c)
@@ -343,6 +373,7 @@ test-returns-in_err-judged t c = err_gives _ _ c.from_residual-in_err-judged.ens
     c.if-begun-ne37.false (deep_enough c.args.c.levels c.requires c.if-c-eq1.false) _ (seen c.result.new.r) c.in_ok-choice.ensures _
     c.skip_white.ensures ∙ rw (← c.in-Some.ensures, sym c.judge_result.ensures ∙ c.in_err-judged.was) refl)
 
+-- `test`: the byte after the call says what follows
 pub test-returns : goal.test-returns
 test-returns t c = test_ends c.args.outer c.args.at (order_seen c.args.order) (alternative_of c.args.order) (context_seen c.args.c)
     (seen c.args.r.now) _ _ c.in_ok-begun.ensures
@@ -390,18 +421,21 @@ result-returns t c =
     ∙ filled kinds.Test _ c.args.test.begun.start (seen c.open_alternative.new.r) (seen c.open.new.r) c.in_ok-part.part l.list.0
     (seen c.items.new.r).parts (after 1 c.items.new.r.rest) p l.parts_are))))
 
+-- `percent`: a directive without lists
 pub percent-returns-then-is_simple : goal.percent-returns-then-is_simple
 percent-returns-then-is_simple t c =
     gives_same _ _ (percent_simple (context_seen c.args.c) c.args.outer (seen c.args.r.now) _ c.at-at.ensures.place _ c.take.ensures.left
     c.in-Some.b (sym c.in-Some.ensures) (sym c.allows.ensures ∙ c.if-not-allows.false) _ c.take-2.ensures.left _
     c.directive_of-d.ensures (sym c.is_simple.ensures ∙ c.if-is_simple.true)) c.directive.ensures
 
+-- `percent`: a call of a function
 pub percent-returns-in-WithCall : goal.percent-returns-in-WithCall
 percent-returns-in-WithCall t c =
     gives_same _ _ (percent_by (context_seen c.args.c) c.args.outer (seen c.args.r.now) _ c.at-at.ensures.place _ c.take.ensures.left
     c.in-Some.b (sym c.in-Some.ensures) (sym c.allows.ensures ∙ c.if-not-allows.false) _ c.take-2.ensures.left _
     (sym c.in-WithCall.is ∙ c.directive_of-d.ensures) ∙ rw (differs _ _ c.if-c-eq0.false) refl) c.call.ensures
 
+-- `percent`: a directive with braces
 pub percent-returns-in-WithBraces : goal.percent-returns-in-WithBraces
 percent-returns-in-WithBraces t c =
     gives_same _ _ (percent_by (context_seen c.args.c) c.args.outer (seen c.args.r.now) _ c.at-at.ensures.place _ c.take.ensures.left
@@ -424,6 +458,7 @@ percent-returns-then-b-ne123 t c =
     (sym c.in-WithMarkedBraces.is ∙ c.directive_of-d.ensures)
     ∙ rw (differs _ _ c.if-c-eq0.false, ← c.in-Some-first.ensures, differs _ _ c.if-b-ne123.true) refl)
 
+-- `percent`: braces, if the byte after the directive is `{`
 pub percent-returns-else-b-ne123 : goal.percent-returns-else-b-ne123
 percent-returns-else-b-ne123 t c =
     gives_same _ _ (percent_by (context_seen c.args.c) c.args.outer (seen c.args.r.now) _ c.at-at.ensures.place _ c.take.ensures.left

@@ -4,6 +4,9 @@ use Rattle.drv_syntax.specs.Code.Writing.{seen}
 
 -- close_choice (src/descent/parts.rt). An alternative ends, whose X ends so without the white space at its end.
 
+-- Names: `owned_of`: the fields that the code leaves when it closes an alternative are those that the definition says. `seen`: what a
+-- `Reader` of the code has read.
+
 -- what was written after the tail is taken back, and the alternative's token and label are filled in
 pub returns : goal.returns
 returns c =

@@ -14,6 +14,9 @@ use Rattle.std.specs.Prelude.{Some}
 
 -- patterns (src/descent/patterns.rt). Patterns after an ampersand, with the brace that closes them.
 
+-- Names: `seen`: what a `Reader` of the code has read. `patterns_turn`: patterns (`patterns` of lists.rt), as T after & in %{S*&T*}.
+-- `fails_then`: two parts in a row have the fault of the first. `ok_same`: the values of two equal results are equal.
+
 -- the next pattern has a fault
 pub returns-in_err-p : goal.returns-in_err-p
 returns-in_err-p c =

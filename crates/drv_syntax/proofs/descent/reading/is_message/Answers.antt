@@ -6,6 +6,10 @@ use Rattle.std.proofs.Common.{◌∙◌, ap, drop, false, sym}
 
 -- is_message (src/descent/reading.rt). Whether a text is one text for the user, which could go on.
 
+-- Names: `h`: the clause's equation. `tokens`, `labels`, `holds`: the fields of `Parts` (specs/Code/Writing). `rest`, `parts`: the fields
+-- of `Reading` (specs/Code/Writing). `seen`: what a `Reader` of the code has read. `message_by`: the code's test finds a message
+-- (`is_message`).
+
 -- the text begins with % and its letter, and the run after them is all that follows
 pub returns-in_default-first : goal.returns-in_default-first
 returns-in_default-first c h =

@@ -5,6 +5,9 @@ use Rattle.std.proofs.Common.{◌-◌, ◌∙◌, ap, arith, drop, length, sym, 
 
 -- is_open (src/descent/reading.rt). Whether a text with these tokens ends in a text for the user that could go on.
 
+-- Names: `h`: the clause's equation. `ending_in`: how a text of this size ends, by its last token. `goes_on`: whether what was read can be
+-- kept where this follows it.
+
 -- what precedes the message has a tree, and the message begins a new item
 pub returns : goal.returns
 returns c h =

@@ -5,6 +5,9 @@ use Rattle.std.proofs.Common.{sym, ◌∙◌}
 
 -- read_text (src/descent/reading.rt). The tokens and the labels of a text.
 
+-- Names: `ok_same`: the values of two equal results are equal. `gives_err`: code that passes on the fault of a part meets its clause.
+-- `from_start`: a text that is read from its start.
+
 -- no memory for the tokens
 pub returns-in_err-tokens : goal.returns-in_err-tokens
 returns-in_err-tokens c =

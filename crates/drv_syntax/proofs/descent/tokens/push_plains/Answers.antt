@@ -4,6 +4,8 @@ use Rattle.std.proofs.Common.{arith, ◌∙◌}
 
 -- push_plains (src/descent/tokens.rt). The tokens of plain bytes, the first of them at this place.
 
+-- Names: `tokens_step`: a step of the loop of `push_plains` keeps the list of tokens that the loop leads to.
+
 -- one token more is put, in reserved room
 pub loop-byte-preserved : goal.loop-byte-preserved
 loop-byte-preserved c =

@@ -7,6 +7,9 @@ use Rattle.std.proofs.Common.{◌∙◌, ap, sym}
 -- escaped_run (src/descent/words.rt). More of a run of bytes of the class and of escapes, after this part of it; nothing where the text
 -- ends in an escape.
 
+-- Names: `in_class`: the byte belongs to a class that `word_run` of words.rt reads. `seen`: what a `Reader` of the code has read.
+-- `first_of`: the byte that comes next, if there is one.
+
 -- after a backslash (92) and the byte that it makes plain, which is copied
 pub loop-b-preserved-then-b-eq92 : goal.loop-b-preserved-then-b-eq92
 loop-b-preserved-then-b-eq92 c =

@@ -10,6 +10,8 @@ use Rattle.std.specs.Prelude.{Ok}
 
 -- word_run (src/descent/words.rt). The longest run of bytes of the class and of escapes; nothing where the text ends in an escape.
 
+-- Names: `runs_in`: the bytes of a class that are no backslash. `seen`: what a `Reader` of the code has read.
+
 -- no backslash follows the run: its bytes are those of the text
 pub returns-then-not-begins : goal.returns-then-not-begins
 returns-then-not-begins c =

@@ -6,6 +6,9 @@ use Rattle.std.specs.Prelude.{Ok}
 
 -- lengthen_last (src/labels.rt). The word of the last one goes on with these bytes.
 
+-- Names: `within_mark`: the word of a mark that is at this place lies within n bytes. `ok_same`: the values of two equal results are equal.
+-- `labels_longer`: where the last word is at the end of the words.
+
 -- the last word begins before it ends
 pub last_start-requires-clause-order : goal.last_start-requires-clause-order
 last_start-requires-clause-order c =

@@ -7,6 +7,10 @@ use Rattle.std.proofs.Common.{◌<◌, arith, length, refl, subst, sym}
 -- plain_bytes (src/lent.rt). The bytes of plain parts that follow one another from this place on, up to another part or to this end, in one
 -- slice.
 
+-- Names: `b`: a byte. `byte`: the clause's condition `IsByte`. `byte_in`: a plain byte is a part of the lists. `byte_there`: a part that is
+-- a plain byte, whose word is kept at `stop`, is the byte there. `later_part`: where a part isn't in the slice that begins with a plain
+-- byte, it is a later one. `run_begun`: before the first step nothing is in the slice.
+
 -- no part is there, so no plain byte is
 pub returns-then-place-last-clause-begins : goal.returns-then-place-last-clause-begins
 returns-then-place-last-clause-begins c b below byte =

@@ -3,6 +3,8 @@ use Rattle.drv_syntax.proofs.lent.LentLabels.word.Goals as goal
 
 -- word (src/lent.rt). The word of the one at this place.
 
+-- Names: `within_at`: the word of the label at this place of the list lies within the words.
+
 -- the word of a mark begins before it ends
 pub slice_bounds-result-count : goal.slice_bounds-result-count
 slice_bounds-result-count c =

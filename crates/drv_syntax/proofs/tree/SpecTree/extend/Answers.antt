@@ -6,6 +6,10 @@ use Rattle.std.proofs.Common.{◌∙◌, ◌++◌, ap, arith, inr, length, lengt
 
 -- extend (src/tree.rt). The tree of the text with more after it, or its first fault.
 
+-- Names: `read_of`: what is kept of a text that was read is its tokens and labels. `ending_in`: how a text of this size ends, by its last
+-- token. `goes_on`: whether what was read can be kept where this follows it. `kept_there`: where `extended` succeeds, its tokens and labels
+-- are those of both texts together.
+
 -- what follows the kept parts has a fault: it is that of the whole text
 pub returns-in_err-read-clause-tree : goal.returns-in_err-read-clause-tree
 returns-in_err-read-clause-tree c =

@@ -6,6 +6,8 @@ use Rattle.std.proofs.Common.{subst, sym}
 
 -- plain_bytes (src/tree.rt). The plain bytes that follow one another from this place on, up to another part or to this end, in one slice.
 
+-- Names: `b`: a byte. `byte`: the clause's condition `IsByte`. `tree_of`: the tree of a text. `tokens_of`: the tokens of a tree.
+
 -- a plain byte of the tree is one of its lent labels
 pub returns-clause-begins : goal.returns-clause-begins
 returns-clause-begins c b below byte =

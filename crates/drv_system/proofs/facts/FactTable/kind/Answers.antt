@@ -8,6 +8,9 @@ use Rattle.std.specs.Prelude.{cond}
 
 -- kind (src/facts.rt). The kind of a path: the table's answer, or else the system's, which the table keeps.
 
+-- Names: `appended`: a key that wasn't there goes to the end. `consulted`: the question was answered. `consults_asks`: a look-up that asks,
+-- or finds the answer, only asked. `in_order_unknown`: what the table knows, the map knows.
+
 -- the new pair is put last, and its key was not there before
 pub invariant_of-self-2 : goal.invariant_of-self-2
 invariant_of-self-2 g c =
@@ -44,5 +47,6 @@ returns-clause-consults g c =
     (returns-clause-known g c) c.in_ok-kind.ensures.event
     (ap (λ kinds. record { reads = c.self.inside.reads; kinds = kinds; variables = c.self.inside.variables }) kinds))
 
+-- a table that was consulted asks at most what it lacks
 pub returns-clause-asks : goal.returns-clause-asks
 returns-clause-asks g c = consults_asks _ _ _ _ _ _ _ _ (λ kind new. new) (returns-clause-consults g c)

@@ -7,6 +7,10 @@ use Rattle.drv_system.specs.Code.Output.{is_pipe}
 
 -- start (src/system.rt). Starts a command of the plan.
 
+-- Names: `is_pipe`: whether a command writes into a pipe. `holds_step`: what holds, still holds after a step that starts no child.
+-- `holds_started`: what holds, still holds after a start.
+
+-- the numbers of children stay below the count, and the end of a pipe is kept exactly while one is pending
 pub invariant_of-self : goal.invariant_of-self
 invariant_of-self c = holds_step _ _ c.self.invariant c.push_reserved.ensures.items refl tt refl
 
@@ -22,8 +26,10 @@ invariant_of-self-in-Ok c =
     holds_started _ c.self.invariant c.push_reserved-in-Ok-2.ensures.items c.push_reserved-in-Ok.ensures.len c.len.ensures
     (c.in-Ok.ensures ∙ out)
 
+-- the same where the command was not started
 pub invariant_of-self-in-Err : goal.invariant_of-self-in-Err
 invariant_of-self-in-Err c = holds_step _ _ c.self.invariant c.push_reserved-in-Err.ensures.items refl tt refl
 
+-- the number of the child is new: no event has it
 pub returns-in-Ok-clause-fresh : goal.returns-in-Ok-clause-fresh
 returns-in-Ok-clause-fresh c = rw (← c.self.view_is) (holds_is_new c.self.invariant (ap start.Started c.len.ensures))

@@ -5,6 +5,8 @@ use Rattle.std.proofs.Common.{ap, sym, ◌∙◌}
 
 -- add (src/machine/indexed.rt). A word goes to the end, unless it is in the list.
 
+-- Names: `indexed_more`: a word that is added to the list and to its index. `is_among`: whether a word is among these.
+
 -- the word that is new is in the list and in its index
 pub invariant_of-self-2 : goal.invariant_of-self-2
 invariant_of-self-2 c =

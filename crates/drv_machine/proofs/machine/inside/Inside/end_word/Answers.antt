@@ -5,6 +5,9 @@ use Rattle.std.proofs.Common.{ap, ◌∙◌}
 
 -- end_word (src/machine/inside.rt). A word has ended in all of them.
 
+-- Names: `all_ended`: a word that ends is the last one in each open %W. `ended_in`: for each %W that is open the last word that ended in
+-- it.
+
 -- the word is the last one of each %W that is open
 pub returns : goal.returns
 returns c = rw (← c.self.view_is)

@@ -5,6 +5,9 @@ use Rattle.std.proofs.Common.{◌-◌, ◌∙◌, ap, arith}
 
 -- end_last (src/descent/tokens.rt). The last one ends at this place.
 
+-- Names: `end_changed`: tokens with one in the place of the last that ends elsewhere (`end_last`). `ended`: a token that ends at this
+-- place.
+
 -- the last token has this place as its end
 pub returns-then-count-ne0 : goal.returns-then-count-ne0
 returns-then-count-ne0 c =
