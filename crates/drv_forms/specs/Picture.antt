@@ -1,4 +1,4 @@
-use Rattle.drv_forms.specs.Script.{command_text}
+use Rattle.drv_forms.specs.Shell.{shell_text}
 use Rattle.drv_words.specs.Bytes as byte
 use Rattle.drv_words.specs.declared.plan.Command.{Command}
 use Rattle.drv_words.specs.declared.plan.Job.{Job}
@@ -31,7 +31,7 @@ place_text job group number = codes "\"" ++ job ++ codes "." ++ decimal group ++
 -- the node of a command, with its words as its label
 abbrev pub node_text : List ℕ → ℕ → ℕ → Command → List ℕ
 node_text job group number command =
-    place_text job group number ++ codes " [label=\"" ++ quoted_text (command_text command) ++ codes "\"];\n"
+    place_text job group number ++ codes " [label=\"" ++ quoted_text (shell_text (command.program ∷ command.words)) ++ codes "\"];\n"
 
 -- the pipe into the command after this one
 abbrev pub pipe_edge : List ℕ → ℕ → ℕ → List ℕ

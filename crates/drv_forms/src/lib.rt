@@ -10,6 +10,7 @@ mod json_form;
 mod pieces;
 mod scripting;
 mod shell;
+mod stems;
 
 pub use changes_json::put_changes;
 pub use comparing::{LineChange, changes, changes_text, difference};
@@ -17,4 +18,4 @@ pub use database::compile_commands;
 pub use drawing::picture;
 pub use json_form::{plan_json, put_number, put_word, put_words};
 pub use scripting::script;
-pub use shell::{shell_line, shell_word};
+pub use shell::{shell_line, shell_word, stem_line};

@@ -10,7 +10,14 @@ use std::alloc::AllocError;
 pub enum Piece {
     /// The head of the script: its functions, and what is removed at its end. The positional
     /// parameters are those files; 4 is standard output, which a pipe's last command gets back.
+    /// A signal is noted, and the script ends outside of functions, which have other parameters.
     Opening,
+    /// The stem of temporaries is.
+    Stem,
+    /// A private folder is made beside them, by this template.
+    Folder,
+    /// Where it is made, the stem is its name between slashes.
+    NewStem,
     /// A notice is said.
     Say,
     /// Who says it.
@@ -35,7 +42,7 @@ pub enum Piece {
     Into,
     /// A pipe ends, and fails where a command of it did.
     EndPipe,
-    /// No command of this job was started yet.
+    /// A job begins, unless a signal has come. No command of it was started yet.
     NotStarted,
     /// What a fault of a job does: its failure files are removed if a command of it was started.
     Fault,
@@ -48,16 +55,17 @@ pub enum Piece {
 }
 
 const OPENING: &[u8] = b"#!/bin/sh
+set -e
 exec 4>&1
 set --
-gdrv_failed= gdrv_started= gdrv_pipe= gdrv_file=
+gdrv_failed= gdrv_started= gdrv_stopped= gdrv_pipe= gdrv_file= gdrv_folder= gdrv_stem=
 remove() { for gdrv_file; do if test -f \"$gdrv_file\" && ! test -L \"$gdrv_file\"; then rm -f -- \"$gdrv_file\"; fi; done; }
 claim() { (umask 077; set -C; printf %s \"$2\" >\"$1\"); }
-starts() { command -v -- \"$1\" >/dev/null && gdrv_started=yes; }
-run() { starts \"$1\" && command -- \"$@\" 4>&-; }
+starts() { test -z \"$gdrv_stopped\" && command -v -- \"$1\" >/dev/null && gdrv_started=yes; }
+run() { starts \"$1\" && command -- \"$@\" 4>&- && test -z \"$gdrv_stopped\"; }
 member() { command -- \"$@\" 3>&- 4>&- || echo failed >&3; }
-trap 'remove \"$@\"' EXIT
-trap 'exit 1' HUP INT TERM
+trap 'remove \"$@\" || :; test -z \"$gdrv_folder\" || rmdir -- \"$gdrv_folder\" || :' EXIT
+trap gdrv_stopped=yes HUP INT TERM
 ";
 
 /// The text of a piece.
@@ -67,9 +75,12 @@ fn bytes(piece: Piece) -> &'static [u8]
 {
     match piece {
         Piece::Opening => OPENING,
+        Piece::Stem => b"gdrv_stem=",
+        Piece::Folder => b"\ngdrv_folder=$(mktemp -d --",
+        Piece::NewStem => b") && gdrv_stem=/${gdrv_folder##*/}/\n",
         Piece::Say => b"printf '%s\\n'",
         Piece::Driver => b"gdrv: ",
-        Piece::ToError => b" >&2\n",
+        Piece::ToError => b" >&2 || :\n",
         Piece::Keep => b"set -- \"$@\"",
         Piece::Claim => b"claim",
         Piece::Then => b" && ",
@@ -78,10 +89,10 @@ fn bytes(piece: Piece) -> &'static [u8]
         Piece::Start => b"starts",
         Piece::Pipe => b" && gdrv_pipe=$({ member",
         Piece::Into => b" | member",
-        Piece::EndPipe => b" >&4; } 3>&1) && test -z \"$gdrv_pipe\" &&\n",
-        Piece::NotStarted => b"gdrv_started=\n",
+        Piece::EndPipe => b" >&4; } 3>&1) && test -z \"$gdrv_pipe$gdrv_stopped\" &&\n",
+        Piece::NotStarted => b"test -z \"$gdrv_stopped\" || exit 1\ngdrv_started=\n",
         Piece::Fault => b": || {\ngdrv_failed=yes\ntest -z \"$gdrv_started\" || remove",
-        Piece::EndFault => b"\n}\n",
+        Piece::EndFault => b" || :\n}\n",
         Piece::Unless => b"test -z \"$gdrv_failed\" || exit 1\n",
         Piece::Status => b"test -z \"$gdrv_failed\"\n",
     }

@@ -1,13 +1,22 @@
 //! Words in the shell's language.
 
-ghost use Rattle.drv_forms.specs.Shell.{inside, shell_text, shell_word as word_text};
-ghost use Rattle.drv_forms.specs.Shell.{shell_words, spaced};
+ghost use Rattle.drv_forms.specs.Shell.{Values, bare_variable, begins, inside, moved};
+ghost use Rattle.drv_forms.specs.Shell.{quoted, quoted_variable, shell_text, shell_word as word_text};
+ghost use Rattle.drv_forms.specs.Shell.{shell_words, spaced, stem_name, stem_spaced};
+ghost use Rattle.drv_forms.specs.Shell.{stem_text, stem_word};
 ghost use Rattle.drv_words.specs.Printed.{is_bare, is_plain};
 ghost use Rattle.std.specs.List.{list_all};
-ghost use Rattle.std.specs.Prelude.{◌≡◌, ◌∷◌, ◌++◌, [], IfOk, OnOk, Some};
+ghost use Rattle.std.specs.Prelude.{◌≡◌, ◌∷◌, ◌++◌, [], IfOk, IsTrue, OnOk, Some, length};
+ghost use Rattle.std.specs.Prelude.{◌≤◌, ◌<◌, map};
 
 use drv_words::Word;
 use std::alloc::{AllocError, Global};
+
+/// The variable, where there are no quotes around it.
+const BARE_VARIABLE: &[u8] = b"\"$gdrv_stem\"";
+
+/// The variable, between single quotes.
+const QUOTED_VARIABLE: &[u8] = b"'\"$gdrv_stem\"'";
 
 /// Whether a byte means itself in the shell's language: a letter, a digit or one of `./-_`.
 fn is_plain_byte(byte: u8) -> bool
@@ -30,56 +39,116 @@ fn is_bare_word(word: &[u8]) -> bool
     !word.is_empty() && are_plain_bytes(word)
 }
 
-/// Adds what is between single quotes.
-fn push_inside(text: &mut Vec<u8>, word: &[u8]) -> Result<(), AllocError>
-    ensures { OnOk result (text.new.items ≡ text.old.items ++ inside word.now) }
+/// Whether bytes begin with the stem.
+fn begins_with(stem: &[u8], bytes: &[u8]) -> bool
+    ensures is { result ≡ begins stem.now bytes.now }
+    ensures some { IsTrue result → 0 < length stem.now }
+    ensures within { IsTrue result → length stem.now ≤ length bytes.now }
 {
-    for &byte in word {
-        if byte == b'\'' {
-            text.extend_from_slice(b"'\\''")?;
+    !stem.is_empty() && bytes.starts_with(stem)
+}
+
+/// Adds a byte that is between single quotes.
+fn push_quoted(text: &mut Vec<u8>, byte: u8) -> Result<(), AllocError>
+    ensures { OnOk result (text.new.items ≡ text.old.items ++ quoted byte) }
+{
+    if byte == b'\'' {
+        text.extend_from_slice(b"'\\''")?;
+    } else {
+        text.push(byte)?;
+    }
+    Ok(())
+}
+
+/// Adds what is between single quotes, with the variable for a stem.
+#[tactic(auto, using(crate::proofs::Shells::stem_turn, crate::proofs::Shells::byte_turn))]
+fn push_inside(
+    text: &mut Vec<u8>,
+    stem: &[u8],
+    variable: &[u8],
+    word: &[u8],
+) -> Result<(), AllocError>
+    ensures { OnOk result (text.new.items ≡ text.old.items ++ inside stem.now variable.now 0 word.now) }
+{
+    let mut left = word;
+    while let [byte, following @ ..] = left {
+        if begins_with(stem, left) {
+            text.extend_from_slice(variable)?;
+            left = left.split_at(stem.len()).1;
         } else {
-            text.push(byte)?;
+            push_quoted(text, *byte)?;
+            left = following;
         }
     }
     Ok(())
 }
 
-/// Adds a word as the shell reads it.
-fn push_shell_word(text: &mut Vec<u8>, word: &[u8]) -> Result<(), AllocError>
-    ensures { OnOk result (text.new.items ≡ text.old.items ++ word_text word.now) }
+/// Adds a word as the shell reads it, with the variable for a stem.
+fn push_stem_word(text: &mut Vec<u8>, stem: &[u8], word: &[u8]) -> Result<(), AllocError>
+    ensures { OnOk result (text.new.items ≡ text.old.items ++ stem_word stem.now word.now) }
 {
     if is_bare_word(word) {
-        return text.extend_from_slice(word);
+        return push_inside(text, stem, BARE_VARIABLE, word);
     }
     text.push(b'\'')?;
-    push_inside(text, word)?;
+    push_inside(text, stem, QUOTED_VARIABLE, word)?;
     text.push(b'\'')?;
     Ok(())
+}
+
+/// Adds a word as the shell reads it.
+pub(crate) fn push_shell_word(text: &mut Vec<u8>, word: &[u8]) -> Result<(), AllocError>
+    ensures { OnOk result (text.new.items ≡ text.old.items ++ word_text word.now) }
+{
+    push_stem_word(text, b"", word)
+}
+
+/// Adds a word after a space, with the variable for a stem.
+pub(crate) fn push_stem_spaced(
+    text: &mut Vec<u8>,
+    stem: &[u8],
+    word: &[u8],
+) -> Result<(), AllocError>
+    ensures { OnOk result (text.new.items ≡ text.old.items ++ stem_spaced stem.now word.now) }
+{
+    text.push(b' ')?;
+    push_stem_word(text, stem, word)
 }
 
 /// Adds a word after a space.
 pub(crate) fn push_spaced(text: &mut Vec<u8>, word: &[u8]) -> Result<(), AllocError>
     ensures { OnOk result (text.new.items ≡ text.old.items ++ spaced word.now) }
 {
-    text.push(b' ')?;
-    push_shell_word(text, word)
+    push_stem_spaced(text, b"", word)
+}
+
+/// Adds words, each after a space, with the variable for a stem.
+pub(crate) fn push_stem_words(
+    text: &mut Vec<u8>,
+    stem: &[u8],
+    words: &[Word],
+) -> Result<(), AllocError>
+    ensures { OnOk result (text.new.items ≡ text.old.items ++ stem_text stem.now words.now) }
+{
+    for word in words {
+        push_stem_spaced(text, stem, word.as_bytes())?;
+    }
+    Ok(())
 }
 
 /// Adds words, each after a space.
 pub(crate) fn push_shell_words(text: &mut Vec<u8>, words: &[Word]) -> Result<(), AllocError>
     ensures { OnOk result (text.new.items ≡ text.old.items ++ shell_text words.now) }
 {
-    for word in words {
-        push_spaced(text, word.as_bytes())?;
-    }
-    Ok(())
+    push_stem_words(text, b"", words)
 }
 
 /// The text of one word in the shell's language, which the shell reads as that word, byte by byte:
 /// a word of letters, digits and `./-_` stays as it is, any other is in single quotes.
 pub fn shell_word(alloc: Global, word: &Word) -> Result<Word, AllocError>
     ensures text { IfOk result (λ text. text ≡ word_text word.now) }
-    ensures read { IfOk result (λ text. shell_words text ≡ Some (word.now ∷ [])) }
+    ensures read { IfOk result
+        (λ text. (values : Values) → shell_words values text ≡ Some (word.now ∷ [])) }
 {
     let mut text = Vec::new(alloc);
     push_shell_word(&mut text, word.as_bytes())?;
@@ -90,9 +159,27 @@ pub fn shell_word(alloc: Global, word: &Word) -> Result<Word, AllocError>
 /// words.
 pub fn shell_line(alloc: Global, words: &[Word]) -> Result<Word, AllocError>
     ensures text { IfOk result (λ text. text ≡ shell_text words.now) }
-    ensures read { IfOk result (λ text. shell_words text ≡ Some words.now) }
+    ensures read { IfOk result
+        (λ text. (values : Values) → shell_words values text ≡ Some words.now) }
 {
     let mut text = Vec::new(alloc);
     push_shell_words(&mut text, words)?;
+    Ok(Word::from_vec(text))
+}
+
+/// The text of words in the shell's language, each after a space, where the variable `gdrv_stem`
+/// is in the place of each stem in them. The shell reads the words with the variable's value for
+/// each stem, and so the words themselves where that is the stem. An empty stem is none.
+pub fn stem_line(alloc: Global, stem: &[u8], words: &[Word]) -> Result<Word, AllocError>
+    ensures text { IfOk result (λ text. text ≡ stem_text stem.now words.now) }
+    ensures read { IfOk result
+        (λ text. (values : Values)
+        → shell_words values text ≡ Some (map (moved stem.now (values stem_name)) words.now)) }
+    ensures same { IfOk result
+        (λ text. (values : Values) → values stem_name ≡ stem.now
+        → shell_words values text ≡ Some words.now) }
+{
+    let mut text = Vec::new(alloc);
+    push_stem_words(&mut text, stem, words)?;
     Ok(Word::from_vec(text))
 }

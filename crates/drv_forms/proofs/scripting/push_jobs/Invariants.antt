@@ -6,4 +6,6 @@ use Rattle.drv_forms.proofs.scripting.push_jobs.Given as goal
 -- The loops of push_jobs (src/scripting.rt). Adds jobs.
 
 abbrev pub invariant-loop-job : goal.invariant-loop-job
-invariant-loop-job l = l.text.items ++ flat_map job_text (drop l.job-index l.jobs) ≡ l.fn.text.items ++ flat_map job_text l.jobs
+invariant-loop-job l =
+    l.text.items ++ flat_map (job_text l.stem) (drop l.job-index l.jobs)
+    ≡ l.fn.text.items ++ flat_map (job_text l.stem) l.jobs

@@ -1,8 +1,12 @@
 use Rattle.drv_forms.specs.Shell.{inside}
-use Rattle.std.proofs.Common.{◌≡◌, ◌++◌, drop}
+use Rattle.std.proofs.Common.{◌≡◌, ◌++◌, length}
 use Rattle.drv_forms.proofs.shell.push_inside.Given as goal
 
--- The loops of push_inside (src/shell.rt). Adds what is between single quotes.
+-- The loops of push_inside (src/shell.rt). Adds what is between single quotes, with the variable for a stem.
 
-abbrev pub invariant-loop-byte : goal.invariant-loop-byte
-invariant-loop-byte l = l.text.items ++ inside (drop l.byte-index l.word) ≡ l.fn.text.items ++ inside l.word
+abbrev pub invariant-loop-left : goal.invariant-loop-left
+invariant-loop-left l = l.text.items ++ inside l.stem l.variable 0 l.left ≡ l.fn.text.items ++ inside l.stem l.variable 0 l.word
+
+-- each turn takes a byte or a stem, so the loop ends
+abbrev pub decreases-loop-left : goal.decreases-loop-left
+decreases-loop-left l = length l.left
