@@ -22,6 +22,7 @@ use Rattle.drv_check.specs.declared.findings.Source.{Source}
 use Rattle.drv_check.specs.declared.findings.Spot.{Spot}
 use Rattle.drv_check.specs.declared.opening.OpenFile.{OpenFile}
 use Rattle.drv_check.specs.declared.pieces.Piece.{Piece}
+use Rattle.drv_check.specs.declared.unused_text.Names.{Names}
 use Rattle.drv_check.specs.declared.warning.Mark.{Mark}
 use Rattle.drv_search.specs.Search.{file_found, prefixes_of}
 use Rattle.drv_search.specs.declared.prefixes.Prefixes.{Prefixes}
@@ -45,6 +46,15 @@ use Rattle.std.specs.Prelude.{filter, map}
 
 -- For first_fault_is_refusal (src/laws.rt): a check finds no fault exactly where the driver loads the files, and its first fault is the
 -- driver's refusal.
+-- Names: `F` is what is known of the outside. `prefixes` is where files are searched for. `c` is a check before a step, `c'` after it, and
+-- `d` or `c''` between. `file` is the open file, and `piece` one of its pieces. `from` is where a file is included. `levels` is how deep
+-- files may still be within one another, and `left` how many may still be read. `enters` is how an open file is checked. `before` is the
+-- faults so far. `known` is what the driver makes of the same step, if the facts tell it. `missing` and `may` say what is done with a file
+-- that isn't there. `over` is the files that are loaded first, and `names` those of the call. `faults_of` is the faults of findings, in
+-- order. `including`, `carried` and `all_carried` are the driver's: a file that is included, one directive, and several (drv_specs).
+-- `then_by` goes on behind a step that is not refused. `all_loaded` is files loaded by the driver. `IsRead piece directive`: the piece is
+-- that directive, and `AreRead` the same of lists (specs/Numbers). `step`, `entered`, `opened` and `called` are the steps of a check
+-- (specs/Checks). `Agrees` is the claim of the law.
 
 -- what is known is one thing
 
@@ -239,6 +249,8 @@ module _ (F : Facts) (prefixes : Prefixes) where
   checks_at levels opens c c' file (piece ∷ pieces) (directive ∷ directives) are is =
       by_step (λ c'' more. checks_at levels opens c'' c' file pieces directives are.1 more) (step F prefixes levels c file piece) refl is
     where
+      -- Plan: `by_step` goes by whether the step of the piece is known, `by_entered` by whether the check of what it opens is, and `ends`
+      -- joins this piece's end with that of the pieces after it.
       ends : ((d : Checking) → pieces_checked F prefixes levels (enters_at F prefixes levels) d file pieces ≡ Is c'
           → Follows (faults_of d.findings) c' (all_carried (including F prefixes levels) (carried_of d) directives))
           → (c'' : Checking) → One (enters_at F prefixes levels) levels c file piece c''
@@ -405,6 +417,7 @@ module _ (F : Facts) (prefixes : Prefixes) where
   all_load c c' [] is = subst (λ x. Loads (faults_of c.findings) x (Is (Ok c.set))) (same_in is) (refl, refl)
   all_load c c' (name ∷ names) is = by (λ d more. all_load d c' names more) (called F prefixes c name) refl is
     where
+      -- Plan: `by` goes by whether the check of the file is known, and joins its end with that of the files after it.
       by : ((d : Checking) → all_called F prefixes d names ≡ Is c' → Loads (faults_of d.findings) c' (all_loaded F prefixes d.set names))
           → (known : Known Checking) → called F prefixes c name ≡ known → (known >>= λ c''. all_called F prefixes c'' names) ≡ Is c'
           → Loads (faults_of c.findings) c' (all_loaded F prefixes c.set (name ∷ names))
@@ -419,6 +432,7 @@ module _ (F : Facts) (prefixes : Prefixes) where
   loaded_both set [] second = refl
   loaded_both set (name ∷ first) second = by (λ next. loaded_both next first second) (file_loaded F prefixes set name)
     where
+      -- Plan: `by` goes by what the first file of the list gives: nothing known, a refusal, or a set.
       by : ((next : Set) → all_loaded F prefixes next (first ++ second)
           ≡ then_by (all_loaded F prefixes next first) (λ after. all_loaded F prefixes after second))
           → (known : Known (Result Set SpecsFault)) → then_by known (λ next. all_loaded F prefixes next (first ++ second))
@@ -434,6 +448,7 @@ faults_stay : (findings : List Finding) → faults_of (filter tells_fault findin
 faults_stay [] = refl
 faults_stay (finding ∷ findings) = by finding.note refl (faults_stay findings)
   where
+    -- Plan: `by` goes by the cases of `finding.note`.
     by : (note : Note) → finding.note ≡ note → faults_of (filter tells_fault findings) ≡ faults_of findings
         → faults_of (if is_fault note then finding ∷ filter tells_fault findings else filter tells_fault findings)
         ≡ fault_in note ++ faults_of findings
@@ -441,25 +456,27 @@ faults_stay (finding ∷ findings) = by finding.note refl (faults_stay findings)
     by (Warned warning) is same = same
 
 -- what only the whole shows of pieces is no fault
-pieces_well : (set : Set) (worked : List (List ℕ)) (file : OpenFile) (pieces : List Piece)
-    → faults_of (pieces_judged set worked file pieces) ≡ []
-pieces_well set worked file [] = refl
-pieces_well set worked file (piece ∷ later) =
-    faults_with (map (finding_of file piece) (whole_marks set worked later piece.text)) (pieces_judged set worked file later)
-    (pieces_well set worked file later) ∙ no_faults file piece (whole_marks set worked later piece.text)
+pieces_well : (whose : Names) (set : Set) (worked : List (List ℕ)) (file : OpenFile) (pieces : List Piece)
+    → faults_of (pieces_judged whose set worked file pieces) ≡ []
+pieces_well whose set worked file [] = refl
+pieces_well whose set worked file (piece ∷ later) =
+    faults_with (map (finding_of file piece) (whole_marks whose set worked later piece.text)) (pieces_judged whose set worked file later)
+    (pieces_well whose set worked file later) ∙ no_faults file piece (whole_marks whose set worked later piece.text)
 
 -- what only the whole shows of files is no fault
-sources_well : (set : Set) (worked : List (List ℕ)) (n : ℕ) (sources : List Source) → faults_of (sources_judged set worked n sources) ≡ []
-sources_well set worked n [] = refl
-sources_well set worked n (source ∷ sources) =
-    faults_with (file_judged set worked (open_file n source.text)) (sources_judged set worked (n + 1) sources)
-    (sources_well set worked (n + 1) sources)
-    ∙ pieces_well set worked (open_file n source.text) (open_file n source.text).pieces
+sources_well : (whose : Names) (set : Set) (worked : List (List ℕ)) (n : ℕ) (sources : List Source)
+    → faults_of (sources_judged whose set worked n sources) ≡ []
+sources_well whose set worked n [] = refl
+sources_well whose set worked n (source ∷ sources) =
+    faults_with (file_judged whose set worked (open_file n source.text)) (sources_judged whose set worked (n + 1) sources)
+    (sources_well whose set worked (n + 1) sources)
+    ∙ pieces_well whose set worked (open_file n source.text) (open_file n source.text).pieces
 
 -- judging the whole adds no fault to a check
-judged_well : (first : ℕ) (c : Checking) → faults_of (judged first c).findings ≡ faults_of c.findings
-judged_well first c = faults_with c.findings (sources_judged c.set (flat_map source_names c.sources) first (drop first c.sources))
-    (sources_well c.set (flat_map source_names c.sources) first (drop first c.sources))
+judged_well : (whose : Names) (first : ℕ) (c : Checking) → faults_of (judged whose first c).findings ≡ faults_of c.findings
+judged_well whose first c =
+    faults_with c.findings (sources_judged whose c.set (flat_map source_names c.sources) first (drop first c.sources))
+    (sources_well whose c.set (flat_map source_names c.sources) first (drop first c.sources))
 
 -- a check that loads as the driver does agrees with it: the end of the law's proof
 pub agrees : (F : Facts) (prefixes : Prefixes) (c : Checking) (known : Known (Result Set SpecsFault)) → Loads F prefixes [] c known
@@ -468,11 +485,12 @@ agrees F prefixes c Unasked loads = loads
 agrees F prefixes c (Is (Ok set)) loads = loads.0
 agrees F prefixes c (Is (Err fault)) loads = loads
 
-module _ (F : Facts) (prefixes : Prefixes) (over names : List (List ℕ)) (c : Checking) where
+module _ (F : Facts) (prefixes : Prefixes) (whose : Names) (over names : List (List ℕ)) (c : Checking) where
   -- the faults of the files `over` are the driver's: leaving out their warnings changes none
   base_faults : (base : Checking) → based F prefixes over ≡ Is base → Loads F prefixes [] base (all_loaded F prefixes builtin_specs over)
   base_faults base is = by (all_called F prefixes empty_check over) refl is
     where
+      -- Plan: `by` goes by whether the check of the files is known.
       by : (known : Known Checking) → all_called F prefixes empty_check over ≡ known → (known >>= λ d. Is (faults_alone d)) ≡ Is base
           → Loads F prefixes [] base (all_loaded F prefixes builtin_specs over)
       by Unasked calls more = absurd cc
@@ -482,29 +500,30 @@ module _ (F : Facts) (prefixes : Prefixes) (over names : List (List ℕ)) (c : C
           (all_load F prefixes empty_check d over calls))
 
   -- the faults of all files are the driver's, and judging the whole adds none
-  over_agrees : checked_over F prefixes over names ≡ Is c
+  over_agrees : checked_over F prefixes whose over names ≡ Is c
       → Agrees (faults_of c.findings) (all_loaded F prefixes builtin_specs (over ++ names))
   over_agrees is = by_base (based F prefixes over) refl is
     where
+      -- Plan: `by_base` goes by whether the check of the files `over` is known, and `by_rest` by whether that of all files is.
       by_rest : (base : Checking) → based F prefixes over ≡ Is base → (known : Known Checking)
-          → all_called F prefixes base names ≡ known → (known >>= λ d. Is (judged (length base.sources) d)) ≡ Is c
+          → all_called F prefixes base names ≡ known → (known >>= λ d. Is (judged whose (length base.sources) d)) ≡ Is c
           → Agrees (faults_of c.findings) (all_loaded F prefixes builtin_specs (over ++ names))
       by_rest base first Unasked rest more = absurd cc
       by_rest base first (Is d) rest more =
           subst (λ k. Agrees (faults_of c.findings) k) (sym (loaded_both F prefixes builtin_specs over names))
           (subst (λ fs. Agrees fs (then_by (all_loaded F prefixes builtin_specs over) (λ next. all_loaded F prefixes next names)))
-          (sym (judged_well (length base.sources) d) ∙ ap (λ x. faults_of x.findings) (same_in more))
+          (sym (judged_well whose (length base.sources) d) ∙ ap (λ x. faults_of x.findings) (same_in more))
           (agrees F prefixes d _ (loads_join F prefixes [] base d (all_loaded F prefixes builtin_specs over)
           (λ next. all_loaded F prefixes next names) (base_faults base first) (all_load F prefixes base d names rest))))
 
       by_base : (known : Known Checking) → based F prefixes over ≡ known
-          → (known >>= λ base. all_called F prefixes base names >>= λ d. Is (judged (length base.sources) d)) ≡ Is c
+          → (known >>= λ base. all_called F prefixes base names >>= λ d. Is (judged whose (length base.sources) d)) ≡ Is c
           → Agrees (faults_of c.findings) (all_loaded F prefixes builtin_specs (over ++ names))
       by_base Unasked first more = absurd cc
       by_base (Is base) first more = by_rest base first (all_called F prefixes base names) refl more
 
   -- the whole check agrees with the driver: this is what the law of the first fault needs
-  pub checked_agrees : prefixes_of F [] ≡ Is prefixes → checked F over names ≡ Is c
+  pub checked_agrees : prefixes_of F [] ≡ Is prefixes → checked F whose over names ≡ Is c
       → Agrees (faults_of c.findings) (all_loaded F prefixes builtin_specs (over ++ names))
   unfolding checked
-  checked_agrees known is = over_agrees (ap (λ k. k >>= λ p. checked_over F p over names) (sym known) ∙ is)
+  checked_agrees known is = over_agrees (ap (λ k. k >>= λ p. checked_over F p whose over names) (sym known) ∙ is)

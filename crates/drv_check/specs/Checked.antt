@@ -4,6 +4,7 @@ use Rattle.drv_check.specs.declared.findings.Checking.{Checking}
 use Rattle.drv_check.specs.declared.findings.Finding.{Finding}
 use Rattle.drv_check.specs.declared.findings.Note.TheVariants.{Fault, Warned}
 use Rattle.drv_check.specs.declared.findings.Note.{Note}
+use Rattle.drv_check.specs.declared.unused_text.Names.{Names}
 use Rattle.drv_search.specs.Search.{prefixes_of}
 use Rattle.drv_search.specs.declared.prefixes.Prefixes.{Prefixes}
 use Rattle.drv_system.specs.Facts.{Facts}
@@ -11,7 +12,8 @@ use Rattle.drv_system.specs.Known.{◌>>=◌, Is, Known}
 use Rattle.std.specs.Prelude.{Bool, List, [], false, filter, length, true, ℕ}
 
 -- Spec files checked (GCC manual, "Spec Files"): the files `names` over the built-in set as the files `over` change it, each over what the
--- earlier ones made. Of the files `over` only the faults are given, and no warnings.
+-- earlier ones made. Of the files `over` only the faults are given, and no warnings. A text that counts as run, by `whose`, needs no text
+-- that names it.
 -- For clauses of src/checking.rt, and laws of src/laws.rt. gdrv_specs cites it too.
 
 -- whether a note is a fault, for which the driver refuses the file
@@ -32,9 +34,10 @@ abbrev pub based : Facts → Prefixes → List (List ℕ) → Known Checking
 based F prefixes over = all_called F prefixes empty_check over >>= λ c. Is (faults_alone c)
 
 -- the check of the files `names` over that set, with what only the whole shows
-abbrev pub checked_over : Facts → Prefixes → List (List ℕ) → List (List ℕ) → Known Checking
-checked_over F prefixes over names =
-    based F prefixes over >>= λ base. all_called F prefixes base names >>= λ c. Is (judged (length base.sources) c)
+abbrev pub checked_over : Facts → Prefixes → Names → List (List ℕ) → List (List ℕ) → Known Checking
+checked_over F prefixes whose over names =
+    based F prefixes over >>= λ base. all_called F prefixes base names >>= λ c. Is (judged whose (length base.sources) c)
 
-unfoldable pub checked : Facts → List (List ℕ) → List (List ℕ) → Known Checking
-checked F over names = prefixes_of F [] >>= λ prefixes. checked_over F prefixes over names
+-- the check of files along the prefixes of a call without -B
+unfoldable pub checked : Facts → Names → List (List ℕ) → List (List ℕ) → Known Checking
+checked F whose over names = prefixes_of F [] >>= λ prefixes. checked_over F prefixes whose over names

@@ -1,9 +1,12 @@
 use Rattle.drv_check.specs.OwnTexts.{own_tree}
 use Rattle.drv_check.specs.Pieces.{pieces_of}
 use Rattle.drv_check.specs.Points.{body_start, front_length, is_addition, name_in}
+use Rattle.drv_check.specs.Warnings.{is_self_spec}
 use Rattle.drv_check.specs.declared.findings.Source.{Source}
 use Rattle.drv_check.specs.declared.findings.Warning.TheVariants.{UnusedText}
 use Rattle.drv_check.specs.declared.pieces.Piece.{Piece}
+use Rattle.drv_check.specs.declared.unused_text.Names.TheVariants.{Driver, Gcc}
+use Rattle.drv_check.specs.declared.unused_text.Names.{Names}
 use Rattle.drv_check.specs.declared.warning.Mark.{Mark}
 use Rattle.drv_specs.specs.Blanks.{is_blank}
 use Rattle.drv_specs.specs.Lines.{settle}
@@ -17,25 +20,26 @@ use Rattle.drv_syntax.specs.declared.token.TokenKind.{TokenKind}
 use Rattle.drv_words.specs.Bytes.{space}
 use Rattle.std.specs.Cmp.Lexicographic.{pointwise}
 use Rattle.std.specs.List.{flat_map, list_any, slice_split}
-use Rattle.std.specs.Prelude.{◌+◌, ◌==◌, ◌&&◌, Bool, List, [], ◌∷◌, ◌++◌, None, Option, Some, codes, drop, false, if◌then◌else◌, is_some}
-use Rattle.std.specs.Prelude.{nat_eq, not, ℕ}
+use Rattle.std.specs.Prelude.{◌+◌, ◌==◌, ◌&&◌, ◌||◌, Bool, List, [], ◌∷◌, ◌++◌, None, Option, Some, codes, drop, false, if◌then◌else◌}
+use Rattle.std.specs.Prelude.{is_some, nat_eq, not, ℕ}
 
--- A text that no other one works and that is none of gcc's own (GCC manual, "Spec Files", %(NAME); that it is a warning is this project's
--- profile).
+-- A text that no other one works, and that neither the driver works itself nor gcc, where a check is for gcc too (GCC manual, "Spec Files",
+-- %(NAME); that it is a warning is this project's profile).
 -- For clauses of src/unused_text.rt.
 
--- the names of gcc's own texts, between spaces (GCC, "gcc.cc", static_specs; -dumpspecs adds that of the link)
+-- the names of the built-in texts and of those that they name, and of the texts that the programs run by themselves, between spaces
+abbrev pub driver_names : List ℕ
+driver_names =
+    codes "asm asm_final asm_options as_cmd cpp cpp_options cpp_unique_options cpp_cmd cc1 cc1_options cc1_cmd signed_char linker link "
+    ++ codes "link_command link_gcc_c_sequence startfile lib libgcc endfile gdrv_self gdrv_pass"
+
+-- the names of gcc's own texts that are none of these, between spaces (GCC, "gcc.cc", static_specs)
 abbrev pub gcc_names : List ℕ
 gcc_names =
-    codes "asm asm_debug asm_debug_option asm_final asm_options invoke_as cpp cpp_options cpp_debug_options cpp_unique_options "
-    ++ codes "trad_capable_cpp cc1 cc1_options cc1plus link_gcc_c_sequence link_ssp endfile link lib link_gomp libgcc startfile "
-    ++ codes "cross_compile version multilib multilib_defaults multilib_extra multilib_matches multilib_exclusions multilib_options "
-    ++ codes "multilib_reuse linker linker_plugin_file lto_wrapper lto_gcc post_link link_libgcc md_exec_prefix md_startfile_prefix "
-    ++ codes "md_startfile_prefix_1 startfile_prefix_spec sysroot_spec sysroot_suffix_spec sysroot_hdrs_suffix_spec self_spec link_command "
-
--- those that the driver's set has besides
-abbrev pub own_names : List ℕ
-own_names = codes "signed_char cpp_cmd cc1_cmd as_cmd"
+    codes "asm_debug asm_debug_option invoke_as cpp_debug_options trad_capable_cpp cc1plus link_ssp link_gomp cross_compile version "
+    ++ codes "multilib multilib_defaults multilib_extra multilib_matches multilib_exclusions multilib_options multilib_reuse "
+    ++ codes "linker_plugin_file lto_wrapper lto_gcc post_link link_libgcc md_exec_prefix md_startfile_prefix md_startfile_prefix_1 "
+    ++ codes "startfile_prefix_spec sysroot_spec sysroot_suffix_spec sysroot_hdrs_suffix_spec self_spec"
 
 -- the names of a text with a space between two
 abbrev pub names_between : List ℕ → List (List ℕ)
@@ -45,9 +49,10 @@ names_between = slice_split (λ b. b == space)
 abbrev pub is_among : List (List ℕ) → List ℕ → Bool
 is_among names name = list_any (λ other. pointwise nat_eq name other) names
 
--- whether gcc or the driver itself works the text of this name: then no other text must
-abbrev pub is_known : List ℕ → Bool
-is_known name = is_among (names_between (gcc_names ++ own_names)) name
+-- whether the driver itself works the text of this name, or gcc, where its names count too: then no other text must
+abbrev pub is_known : Names → List ℕ → Bool
+is_known Driver name = is_among (names_between driver_names) name
+is_known Gcc name = is_among (names_between driver_names) name || is_among (names_between gcc_names) name
 
 -- The names that texts work.
 
@@ -77,12 +82,17 @@ source_names source = flat_map piece_names (pieces_of (settle source.text))
 -- A piece that puts a text which is in the set, by the names that texts work.
 
 -- whether a name is that of a text of the set which nobody works
-abbrev pub is_unused : Set → List (List ℕ) → Option (List ℕ) → Bool
-is_unused set worked None = false
-is_unused set worked (Some name) = is_some (text_of set name) && not (is_known name) && not (is_among worked name)
+abbrev pub is_unused : Names → Set → List (List ℕ) → Option (List ℕ) → Bool
+is_unused whose set worked None = false
+is_unused whose set worked (Some name) = is_some (text_of set name) && not (is_known whose name) && not (is_among worked name)
 
--- the warning on a piece that puts a text which nobody works; one that adds to a text has none, since another piece puts it
-abbrev pub unused_marks : Set → List (List ℕ) → List ℕ → List Mark
-unused_marks set worked text =
-    if not (is_addition (drop (body_start text) text)) && is_unused set worked (name_in text)
+-- whether a piece puts the text of its name: where it adds to it another piece does, but none must for self_spec, which gcc has without
+-- bytes
+abbrev pub puts_text : List ℕ → Bool
+puts_text text = not (is_addition (drop (body_start text) text)) || is_self_spec (name_in text)
+
+-- the warning on a piece that puts a text which nobody works
+abbrev pub unused_marks : Names → Set → List (List ℕ) → List ℕ → List Mark
+unused_marks whose set worked text =
+    if puts_text text && is_unused whose set worked (name_in text)
     then record { at = front_length is_blank text; warning = UnusedText } ∷ [] else []

@@ -8,6 +8,7 @@ use Rattle.drv_check.specs.declared.findings.Source.{Source}
 use Rattle.drv_check.specs.declared.findings.Warning.TheVariants.{HiddenPair}
 use Rattle.drv_check.specs.declared.opening.OpenFile.{OpenFile}
 use Rattle.drv_check.specs.declared.pieces.Piece.{Piece}
+use Rattle.drv_check.specs.declared.unused_text.Names.{Names}
 use Rattle.drv_check.specs.declared.warning.Mark.{Mark}
 use Rattle.drv_specs.specs.Blanks.{is_blank}
 use Rattle.drv_specs.specs.Directives.{is_colon}
@@ -53,27 +54,27 @@ is_hidden (Some key) later = list_any (puts_key key) later
 abbrev pub pair_marks : List Piece → List ℕ → List Mark
 pair_marks later text = if is_hidden (key_in text) later then record { at = front_length is_blank text; warning = HiddenPair } ∷ [] else []
 
--- of a piece before these in its file, over the set that the files make and the names that their texts work
-abbrev pub whole_marks : Set → List (List ℕ) → List Piece → List ℕ → List Mark
-whole_marks set worked later text = pair_marks later text ++ unused_marks set worked text ++ own_marks set text
+-- of a piece before these in its file, by whose names count, over the set that the files make and the names that their texts work
+abbrev pub whole_marks : Names → Set → List (List ℕ) → List Piece → List ℕ → List Mark
+whole_marks whose set worked later text = pair_marks later text ++ unused_marks whose set worked text ++ own_marks set text
 
 -- the findings on pieces of a file; of each the later pieces are known
-abbrev pub pieces_judged : Set → List (List ℕ) → OpenFile → List Piece → List Finding
-pieces_judged set worked file [] = []
-pieces_judged set worked file (piece ∷ later) =
-    map (finding_of file piece) (whole_marks set worked later piece.text) ++ pieces_judged set worked file later
+abbrev pub pieces_judged : Names → Set → List (List ℕ) → OpenFile → List Piece → List Finding
+pieces_judged whose set worked file [] = []
+pieces_judged whose set worked file (piece ∷ later) =
+    map (finding_of file piece) (whole_marks whose set worked later piece.text) ++ pieces_judged whose set worked file later
 
 -- the findings on a file, by the whole set and the names that all texts work
-abbrev pub file_judged : Set → List (List ℕ) → OpenFile → List Finding
-file_judged set worked file = pieces_judged set worked file file.pieces
+abbrev pub file_judged : Names → Set → List (List ℕ) → OpenFile → List Finding
+file_judged whose set worked file = pieces_judged whose set worked file file.pieces
 
 -- of sources, the first of which has this place among all
-abbrev pub sources_judged : Set → List (List ℕ) → ℕ → List Source → List Finding
-sources_judged set worked n [] = []
-sources_judged set worked n (source ∷ sources) =
-    file_judged set worked (open_file n source.text) ++ sources_judged set worked (n + 1) sources
+abbrev pub sources_judged : Names → Set → List (List ℕ) → ℕ → List Source → List Finding
+sources_judged whose set worked n [] = []
+sources_judged whose set worked n (source ∷ sources) =
+    file_judged whose set worked (open_file n source.text) ++ sources_judged whose set worked (n + 1) sources
 
 -- a check with what only the whole shows, of its files from the number `first` on
-abbrev pub judged : ℕ → Checking → Checking
-judged first c =
-    record c { findings = c.findings ++ sources_judged c.set (flat_map source_names c.sources) first (drop first c.sources) }
+abbrev pub judged : Names → ℕ → Checking → Checking
+judged whose first c =
+    record c { findings = c.findings ++ sources_judged whose c.set (flat_map source_names c.sources) first (drop first c.sources) }

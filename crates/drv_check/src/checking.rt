@@ -1,5 +1,7 @@
 //! All faults of spec files.
 
+// In clauses: `Extends F G` says that G has every answer of F. `Asked` says that a call only asked,
+// and that the table has the answers.
 ghost use Rattle.drv_check.specs.Checked.{based, checked, checked_over, faults_alone, is_fault};
 ghost use Rattle.drv_check.specs.Checks.{all_called, called, file_checked};
 ghost use Rattle.drv_system.specs.Asking.{Asks, Extends};
@@ -13,6 +15,7 @@ use crate::including::Inclusion;
 use crate::judging::judge;
 use crate::opening::{FilePiece, Nesting, OpenFile, Search, open};
 use crate::stepping::step;
+use crate::unused_text::Names;
 use drv_search::Prefixes;
 use drv_system::{FactTable, Outside, System};
 use drv_words::{Listing, Word};
@@ -132,22 +135,33 @@ fn check_base<S: System>(
     faults_alone(search.alloc, checking)
 }
 
+/// Files to be checked, and for whom.
+#[derive(Clone, Copy)]
+pub struct FileCheck<'a> {
+    /// Whose texts count as run, though no text names them.
+    pub whose: Names,
+    /// The paths of the files that are loaded first.
+    pub over: &'a [Word],
+    /// The paths of the files.
+    pub names: &'a [Word],
+}
+
 /// Checks files over the built-in set and over those that are loaded first.
 #[tactic(auto, using(drv_system::proofs::AskedCalls::asked_further))]
 fn check_over<S: System>(
     search: &Search<'_>,
-    over: &[Word],
-    names: &[Word],
+    check: &FileCheck<'_>,
     outside: &mut Outside<'_, S>,
 ) -> Result<Checking, AllocError>
     ensures asks { Asked S.events outside.old outside.new }
     ensures checks { (F : Facts) → Extends outside.new.facts.now F
-        → IfOk result (λ checking. checked_over F search.now.prefixes.now over.now names.now ≡ Is checking) }
+        → IfOk result (λ checking. checked_over F search.now.prefixes.now
+        check.now.whose check.now.over.now check.now.names.now ≡ Is checking) }
 {
-    let mut checking = check_base(search, over, outside)?;
+    let mut checking = check_base(search, check.over, outside)?;
     let first = checking.sources.len();
-    check_all(search, &mut checking, names, outside)?;
-    judge(search.alloc, &mut checking, first)?;
+    check_all(search, &mut checking, check.names, outside)?;
+    judge(search.alloc, check.whose, &mut checking, first)?;
     Ok(checking)
 }
 
@@ -155,26 +169,26 @@ fn check_over<S: System>(
 /// included file in its place (GCC manual, "Spec Files"); then what shows only in the whole of them.
 /// Each file is loaded over the built-in set and what the earlier ones made of it, and found as
 /// `-specs=` finds it; `over` are loaded first, and of them only the faults are given. A directive
-/// that is refused changes nothing, and the check goes on. It asks the system only where the table
-/// has no answer.
+/// that is refused changes nothing, and the check goes on. A text that counts as run needs no text
+/// that names it. It asks the system only where the table has no answer.
 ///
 /// # Errors
 /// Lack of memory; nothing else is refused.
 pub fn check_files<S: System>(
     alloc: Global,
-    over: &[Word],
-    names: &[Word],
+    check: &FileCheck<'_>,
     sys: &mut S,
     facts: &mut FactTable,
 ) -> Result<Checking, AllocError>
     ensures asks { Asks (S.events sys.old) (S.events sys.new) facts.old facts.new }
     ensures checks { (F : Facts) → Extends facts.new F
-        → IfOk result (λ checking. checked F over.now names.now ≡ Is checking) }
+        → IfOk result (λ checking. checked F check.now.whose check.now.over.now check.now.names.now
+        ≡ Is checking) }
 {
     let prefixes = Prefixes::new(alloc, &[], sys, facts)?;
     let search = Search {
         alloc,
         prefixes: &prefixes,
     };
-    check_over(&search, over, names, &mut Outside { sys, facts })
+    check_over(&search, check, &mut Outside { sys, facts })
 }

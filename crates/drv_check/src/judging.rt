@@ -14,15 +14,17 @@ use crate::pieces::Piece;
 use crate::pointing::colon_in;
 use crate::stepping::push_warnings;
 use crate::token_warning::push_own;
-use crate::unused_text::{names_worked, push_unused};
+use crate::unused_text::{Names, names_worked, push_unused};
 use crate::warning::Mark;
 use drv_specs::SpecSet;
 use drv_words::{Listing, Word};
 use std::alloc::{AllocError, Global};
 
-/// The whole of the files: the set that they make, and the names of texts that they run.
+/// The whole of the files: the set that they make, and the names of texts that they run, beside those
+/// that count as run.
 #[derive(Clone, Copy)]
 struct Whole<'a> {
+    whose: Names,
     set: &'a SpecSet,
     worked: &'a [Word],
 }
@@ -92,11 +94,12 @@ fn whole_marks(
     text: &[u8],
 ) -> Result<Vec<Mark>, AllocError>
     ensures { IfOk result
-        (λ marks. marks.items ≡ whole_marks whole.now.set.now whole.now.worked.now later.now text.now) }
+        (λ marks. marks.items
+        ≡ whole_marks whole.now.whose whole.now.set.now whole.now.worked.now later.now text.now) }
 {
     let mut marks = Vec::new(alloc);
     push_pair(&mut marks, later, text)?;
-    push_unused(&mut marks, whole.set, whole.worked, text)?;
+    push_unused(&mut marks, whole.whose, whole.set, whole.worked, text)?;
     push_own(alloc, &mut marks, whole.set, text)?;
     Ok(marks)
 }
@@ -112,7 +115,8 @@ fn judge_piece(
     ensures { OnOk result
         (findings.new ≡ findings.old
         ++ map (finding_of here.now.file.now here.now.piece.now)
-        (whole_marks whole.now.set.now whole.now.worked.now later.now here.now.piece.now.text)) }
+        (whole_marks whole.now.whose whole.now.set.now whole.now.worked.now later.now
+        here.now.piece.now.text)) }
 {
     let marks = whole_marks(alloc, whole, later, here.piece.text.as_bytes())?;
     push_warnings(findings, here.file, here.piece, marks.as_slice())
@@ -127,7 +131,7 @@ fn judge_file(
     file: &OpenFile,
 ) -> Result<(), AllocError>
     ensures { OnOk result (findings.new ≡ findings.old
-        ++ file_judged whole.now.set.now whole.now.worked.now file.now) }
+        ++ file_judged whole.now.whose whole.now.set.now whole.now.worked.now file.now) }
 {
     let mut left = file.pieces.as_slice();
     while let [piece, later @ ..] = left {
@@ -149,7 +153,8 @@ fn judge_sources(
     ensures { OnOk result
         (findings.new
         ≡ findings.old
-        ++ sources_judged whole.now.set.now whole.now.worked.now first (drop first sources.now)) }
+        ++ sources_judged whole.now.whose whole.now.set.now whole.now.worked.now first
+        (drop first sources.now)) }
 {
     let mut number = first;
     while number < sources.len() {
@@ -162,11 +167,17 @@ fn judge_sources(
 }
 
 /// Adds what the whole of the files shows of those from this place among the sources on.
-pub(crate) fn judge(alloc: Global, checking: &mut Checking, first: usize) -> Result<(), AllocError>
-    ensures { OnOk result (checking.new ≡ judged first checking.old) }
+pub(crate) fn judge(
+    alloc: Global,
+    whose: Names,
+    checking: &mut Checking,
+    first: usize,
+) -> Result<(), AllocError>
+    ensures { OnOk result (checking.new ≡ judged whose first checking.old) }
 {
     let worked = names_worked(alloc, checking.sources.as_slice())?;
     let whole = Whole {
+        whose,
         set: &checking.set,
         worked: worked.as_slice(),
     };

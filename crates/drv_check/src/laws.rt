@@ -9,6 +9,7 @@ ghost use Rattle.drv_check.specs.Numbers.{AreRead};
 ghost use Rattle.drv_check.specs.Pieces.{pieces_of};
 ghost use Rattle.drv_check.specs.UntilFault.{all_until};
 ghost use Rattle.drv_check.specs.declared.findings.Checking.{Checking};
+ghost use Rattle.drv_check.specs.declared.unused_text.Names.{Names};
 ghost use Rattle.drv_match.specs.Matching.{is_named};
 ghost use Rattle.drv_search.specs.Search.{prefixes_of};
 ghost use Rattle.drv_search.specs.declared.prefixes.Prefixes.{Prefixes};
@@ -35,8 +36,9 @@ pub fn pieces_are_directives()
 /// nothing.
 #[tactic(auto, using(crate::proofs::Agreeing::checked_agrees))]
 pub fn first_fault_is_refusal()
-    ensures { (F : Facts) (prefixes : Prefixes) (over names : List (List ℕ)) (c : Checking)
-        → prefixes_of F [] ≡ Is prefixes → checked F over names ≡ Is c
+    ensures { (F : Facts) (prefixes : Prefixes) (whose : Names) (over names : List (List ℕ))
+        (c : Checking)
+        → prefixes_of F [] ≡ Is prefixes → checked F whose over names ≡ Is c
         → Agrees (faults_of c.findings) (all_loaded F prefixes builtin_specs (over ++ names)) }
 {}
 

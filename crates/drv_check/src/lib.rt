@@ -35,7 +35,7 @@ mod told_json;
 mod unused_text;
 mod warning;
 
-pub use checking::check_files;
+pub use checking::{FileCheck, check_files};
 pub use differing::texts_difference;
 pub use fault_notes::{SpecFiles, fault_note};
 pub use findings::{Checking, Finding, Note, Source, Spot, Warning};
@@ -54,3 +54,4 @@ pub use spots::place_in;
 pub use switch_names::names_switch;
 pub use told::{Place, Told, report_text};
 pub use told_json::report_json;
+pub use unused_text::Names;

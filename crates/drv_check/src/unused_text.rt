@@ -1,7 +1,8 @@
 //! Texts that no other one works.
 
 ghost use Rattle.drv_check.specs.UnusedTexts.{is_among, is_known, is_unused, name_worked, names_between};
-ghost use Rattle.drv_check.specs.UnusedTexts.{names_in, piece_names, source_names, unused_marks};
+ghost use Rattle.drv_check.specs.UnusedTexts.{names_in, piece_names, puts_text, source_names};
+ghost use Rattle.drv_check.specs.UnusedTexts.{unused_marks};
 ghost use Rattle.drv_syntax.specs.Labels.{label_at};
 ghost use Rattle.drv_syntax.specs.Parsed.{tree_of};
 ghost use Rattle.drv_syntax.specs.Tokens.{tokens_of};
@@ -15,23 +16,35 @@ use crate::opening::open_file;
 use crate::own_text::own_tree;
 use crate::pieces::Piece;
 use crate::pointing::{body_start, is_addition, name_in};
-use crate::warning::Mark;
+use crate::warning::{Mark, is_self_spec};
 use drv_specs::SpecSet;
 use drv_syntax::{SpecTree, TokenKind};
 use drv_words::Word;
 use std::alloc::{AllocError, Global};
 
-/// The names of gcc's own texts (GCC, "gcc.cc", static_specs; `-dumpspecs` adds that of the link),
-/// and those that the driver's set has besides.
-const KNOWN: &[u8] =
-    b"asm asm_debug asm_debug_option asm_final asm_options invoke_as cpp cpp_options \
-      cpp_debug_options cpp_unique_options trad_capable_cpp cc1 cc1_options cc1plus \
-      link_gcc_c_sequence link_ssp endfile link lib link_gomp libgcc startfile cross_compile version \
-      multilib multilib_defaults multilib_extra multilib_matches multilib_exclusions \
-      multilib_options multilib_reuse linker linker_plugin_file lto_wrapper lto_gcc post_link \
-      link_libgcc md_exec_prefix md_startfile_prefix md_startfile_prefix_1 startfile_prefix_spec \
-      sysroot_spec sysroot_suffix_spec sysroot_hdrs_suffix_spec self_spec link_command signed_char \
-      cpp_cmd cc1_cmd as_cmd";
+/// The names of the built-in texts and of those that they name, and of the texts that the programs
+/// run by themselves.
+const DRIVER_NAMES: &[u8] =
+    b"asm asm_final asm_options as_cmd cpp cpp_options cpp_unique_options cpp_cmd cc1 cc1_options \
+      cc1_cmd signed_char linker link link_command link_gcc_c_sequence startfile lib libgcc endfile \
+      gdrv_self gdrv_pass";
+
+/// The names of gcc's own texts that are none of these (GCC, "gcc.cc", static_specs).
+const GCC_NAMES: &[u8] =
+    b"asm_debug asm_debug_option invoke_as cpp_debug_options trad_capable_cpp cc1plus link_ssp \
+      link_gomp cross_compile version multilib multilib_defaults multilib_extra multilib_matches \
+      multilib_exclusions multilib_options multilib_reuse linker_plugin_file lto_wrapper lto_gcc \
+      post_link link_libgcc md_exec_prefix md_startfile_prefix md_startfile_prefix_1 \
+      startfile_prefix_spec sysroot_spec sysroot_suffix_spec sysroot_hdrs_suffix_spec self_spec";
+
+/// Whose texts count as run, though no text names them.
+#[derive(Clone, Copy, Debug)]
+pub enum Names {
+    /// Those of the driver: the built-in ones, and those that its programs run.
+    Driver,
+    /// Those of gcc too.
+    Gcc,
+}
 
 /// Whether a text has a name between spaces.
 fn stands_in(text: &[u8], name: &[u8]) -> bool
@@ -40,11 +53,14 @@ fn stands_in(text: &[u8], name: &[u8]) -> bool
     text.split(|byte| *byte == b' ').any(|other| name == other)
 }
 
-/// Whether gcc or the driver has a text of this name.
-fn is_known(name: &[u8]) -> bool
-    ensures { result ≡ is_known name.now }
+/// Whether the driver works the text of this name itself, or gcc, where its names count.
+fn is_known(whose: Names, name: &[u8]) -> bool
+    ensures { result ≡ is_known whose name.now }
 {
-    stands_in(KNOWN, name)
+    match whose {
+        Names::Driver => stands_in(DRIVER_NAMES, name),
+        Names::Gcc => stands_in(DRIVER_NAMES, name) || stands_in(GCC_NAMES, name),
+    }
 }
 
 /// Whether a name is one of these.
@@ -55,7 +71,7 @@ pub(crate) fn is_among(names: &[Word], name: &[u8]) -> bool
 }
 
 /// Adds the name that the part at this place works, if it works one.
-fn push_name(
+fn push_worked(
     alloc: Global,
     names: &mut Vec<Word>,
     tree: &SpecTree,
@@ -88,7 +104,7 @@ pub(crate) fn push_tree(
     let tokens = tree.tokens();
     let mut place = 0;
     while place < tokens.len() {
-        push_name(alloc, names, tree, place, tokens[place].kind)?;
+        push_worked(alloc, names, tree, place, tokens[place].kind)?;
         place += 1;
     }
     Ok(())
@@ -135,27 +151,37 @@ pub(crate) fn names_worked(alloc: Global, sources: &[Source]) -> Result<Vec<Word
 }
 
 /// Whether the set has a text of this name, which is none of these names and no known one.
-fn is_unused(set: &SpecSet, worked: &[Word], name: Option<&[u8]>) -> bool
-    ensures { result ≡ is_unused set.now worked.now (option_map (λ name. name.now) name.entry) }
+fn is_unused(whose: Names, set: &SpecSet, worked: &[Word], name: Option<&[u8]>) -> bool
+    ensures { result
+        ≡ is_unused whose set.now worked.now (option_map (λ name. name.now) name.entry) }
 {
     match name {
-        Some(name) => set.text(name).is_some() && !is_known(name) && !is_among(worked, name),
+        Some(name) => {
+            set.text(name).is_some() && !is_known(whose, name) && !is_among(worked, name)
+        }
         None => false,
     }
+}
+
+/// Whether a piece puts the text of its name, and not another one, to whose text it adds.
+fn puts_text(text: &[u8]) -> bool
+    ensures { result ≡ puts_text text.now }
+{
+    !is_addition(following(text, body_start(text))) || is_self_spec(name_in(text))
 }
 
 /// Adds the warning of a piece whose text no other one works.
 pub(crate) fn push_unused(
     marks: &mut Vec<Mark>,
+    whose: Names,
     set: &SpecSet,
     worked: &[Word],
     text: &[u8],
 ) -> Result<(), AllocError>
     ensures { OnOk result
-        (marks.new.items ≡ marks.old.items ++ unused_marks set.now worked.now text.now) }
+        (marks.new.items ≡ marks.old.items ++ unused_marks whose set.now worked.now text.now) }
 {
-    let body = following(text, body_start(text));
-    if !is_addition(body) && is_unused(set, worked, name_in(text)) {
+    if puts_text(text) && is_unused(whose, set, worked, name_in(text)) {
         marks.push(Mark {
             at: blanks_before(text),
             warning: Warning::UnusedText,

@@ -14,7 +14,7 @@ use crate::pointing::{body_start, colon_in, is_addition, name_in, old_length};
 use drv_specs::SpecSet;
 use std::alloc::{AllocError, Global};
 
-/// A warning at a byte of a piece.
+/// A warning at a byte of a piece. (The marks before parts of a text are another notion: `marking.rt`.)
 #[derive(Clone, Copy, Debug)]
 pub(crate) struct Mark {
     /// The byte's place in the piece.
@@ -62,7 +62,7 @@ fn adds_to_nothing(old: Option<Option<usize>>, body: &[u8]) -> bool
 }
 
 /// Whether the text of this name may be missing where a body adds to it.
-fn is_self_spec(name: Option<&[u8]>) -> bool
+pub(crate) fn is_self_spec(name: Option<&[u8]>) -> bool
     ensures { result ≡ is_self_spec (option_map (λ name. name.now) name.entry) }
 {
     match name {

@@ -175,7 +175,7 @@ fn cancelled_line(alloc: Global, option: &Word) -> Result<Word, AllocError>
 }
 
 /// The line of the switch of this name, which cancels another one.
-fn canceller_text(alloc: Global, name: &Word) -> Result<Word, AllocError>
+fn later_switch_text(alloc: Global, name: &Word) -> Result<Word, AllocError>
     ensures { IfOk result (λ text. text ≡ cancelled_text (Some name.now)) }
 {
     let option = option_text(alloc, name)?;
@@ -188,7 +188,7 @@ fn cancelled_text(alloc: Global, by: Option<&Word>) -> Result<Word, AllocError>
         (λ text. text ≡ cancelled_text (option_map (λ word. word.now) by.entry)) }
 {
     match by {
-        Some(name) => canceller_text(alloc, name),
+        Some(name) => later_switch_text(alloc, name),
         None => Ok(Word::empty(alloc)),
     }
 }

@@ -57,8 +57,8 @@ _gdrv_specs() {
     if [ "$COMP_CWORD" = 1 ]; then
         _gdrv_words 'check plan after translate diff why --help --version' "$current"
     elif [[ ${COMP_WORDS[1]} == check && $current == -* ]]; then
-        _gdrv_words '--json --over -Werror -Wno-append-to-nothing -Wno-directive-in-body -Wno-hidden-pair -Wno-lost-mark
-            -Wno-never-true -Wno-quoted-word -Wno-unknown-text -Wno-unreachable -Wno-unused-text' "$current"
+        _gdrv_words '--gcc --json --over -Werror -Wno-append-to-nothing -Wno-directive-in-body -Wno-hidden-pair
+            -Wno-lost-mark -Wno-never-true -Wno-quoted-word -Wno-unknown-text -Wno-unreachable -Wno-unused-text' "$current"
     elif [[ ${COMP_WORDS[1]} == after && $current == --f* ]]; then
         _gdrv_words '--fail' "$current"
     elif [[ ${COMP_WORDS[1]} == diff && $COMP_CWORD == 4 ]]; then

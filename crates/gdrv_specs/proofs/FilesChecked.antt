@@ -26,8 +26,15 @@ use Rattle.std.specs.Option.{option_map}
 use Rattle.std.specs.Prelude.{filter, get_or, map, slice_get}
 
 -- For `tell_check` (src/checks.rt): the call prints what is found in spec files.
+-- Names: `journal` is the events of the system before, `journal'` after the questions, and `journal''` at the end. `F`, `F'` and `G` are
+-- what is known of the outside. `request` is what the words ask for: files and options. `c` is the check of the files. `all` is the
+-- findings that are printed. `sources` is the files that were read, `source` one of them, and `place` a number of one. `places` is the
+-- places that were found so far, and `from` where a source is included. `more` is how many levels may still follow. `finding` is the one at
+-- place `n` of `findings`. `before` and `after` are the findings before a step and after it, and `whole` is all of them. `result` is what
+-- the code's call gives. `outcome` is how the call ends. `is_shown` says that a finding is shown, `told_of` is the finding as it is
+-- printed, and `places_from` is the places where a source is included (specs/Checks).
 
--- `put_report` wrote the findings that are shown, in JSON or in lines, and this is the exit status by them
+-- For `put_report`: if the findings that are shown were written, in JSON or in lines, then the exit status is the one by them.
 pub puts_report : (journal journal' : List Event) (request : Request) (c : Checking) (all : List Told) (text : List ℕ) (written : ℕ)
     → all ≡ all_told request c.sources c.findings → text ≡ report request.json all → PutsText journal journal' text written
     → PutsReport journal journal' request c (status_with written (verdict request.strict all))
@@ -41,12 +48,12 @@ puts_report journal journal' request c all text written are is puts = (
   ),
 )
 
--- `tell_found` wrote the report, and ends with its status
+-- For `tell_found`: if the report was written, then the call ends with its status.
 pub reports_put : (journal journal' : List Event) (request : Request) (c : Checking) (status : ℕ)
     → PutsReport journal journal' request c status → TellsFound journal journal' request c (Ended (Done status))
 reports_put journal journal' request c status puts = puts
 
--- `tell_found` lacked memory, and wrote nothing
+-- For `tell_found`: if memory lacked and nothing was written, then the call ends for lack of memory.
 pub reports_short : (journal journal' : List Event) (request : Request) (c : Checking) → journal' ≡ journal
     → TellsFound journal journal' request c (Ended OutOfMemory)
 reports_short journal journal' request c same = ([], same ∙ sym (append-nil journal), refl)
@@ -72,17 +79,17 @@ module _ (sources : List Source) (places : List Place) where
   none_from zero = refl
   none_from (suc more) = refl
 
-  -- `push_places` ends at a file of the call
+  -- For `push_places`: a file of the call is included nowhere, so no place is added.
   pub places_none : (more : ℕ) (from : Option Spot) → from ≡ None → places ≡ places ++ places_from sources more from
   places_none more from is =
       sym (append-nil places) ∙ ap (λ ps. places ++ ps) (sym (none_from more)) ∙ ap (λ f. places ++ places_from sources more f) (sym is)
 
-  -- `push_places` ends after the most levels
+  -- For `push_places`: after the most levels no place is added.
   pub places_end : (more : ℕ) (from : Option Spot) → more ≡ 0 → places ≡ places ++ places_from sources more from
   places_end zero from is = sym (append-nil places)
   places_end (suc more) from is = absurd cc
 
-  -- `push_places` ends at a source that isn't there
+  -- For `push_places`: where the source isn't there, no place is added.
   pub places_lost : (more : ℕ) (from : Option Spot) (spot : Spot) → from ≡ Some spot → 0 < more → slice_get sources spot.source ≡ None
       → places ≡ places ++ places_from sources more from
   places_lost zero from spot is some lost = absurd (omega (arith, some))
@@ -91,7 +98,7 @@ module _ (sources : List Source) (places : List Place) where
       ∙ ap (λ s. places ++ (place_of s spot.at ++ places_from sources more (included_at s))) (sym lost)
       ∙ ap (λ f. places ++ places_from sources (suc more) f) (sym is)
 
-  -- `push_places` adds the place where the source is included, and goes on with those of that source
+  -- For `push_places`: if the place where the source is included was added, and then those of that source, then these are all.
   pub places_more : {X E : Type 0} (after all : List Place) (more : ℕ) (from : Option Spot) (spot : Spot) (source : Source)
       (result : Result X E)
       → from ≡ Some spot → 0 < more → slice_get sources spot.source ≡ Some source → after ≡ places ++ place_in source spot.at ∷ []
@@ -118,6 +125,7 @@ module _ (request : Request) (sources : List Source) (findings : List Finding) (
       ap (λ fs. map (told_of sources) (filter (is_shown request) fs)) (drop_more findings n finding below
       ∙ ap (λ f. f ∷ drop (n + 1) findings) (sym here)) ∙ by on is
     where
+      -- Plan: `by` goes by both answers of `is_shown request finding`.
       by : (on : Bool) → is_shown request finding ≡ on
           → map (told_of sources) (filter (is_shown request) (finding ∷ drop (n + 1) findings))
           ≡ (if on then told_of sources finding ∷ map (told_of sources) (filter (is_shown request) (drop (n + 1) findings))
@@ -125,7 +133,7 @@ module _ (request : Request) (sources : List Source) (findings : List Finding) (
       by true is = rw is refl
       by false is = rw is refl
 
-  -- `all_told` has taken one finding more: those that are left complete the list
+  -- For `all_told`: if the findings so far and those left are all that are shown, then they still are after one more that is on.
   pub told_more : (before after whole : List Told) → n < length findings → finding ≡ get_or findings n finding
       → is_shown request finding ≡ true
       → after ≡ before ++ told_of sources finding ∷ []
@@ -136,7 +144,7 @@ module _ (request : Request) (sources : List Source) (findings : List Finding) (
       ∙ append_assoc before (told_of sources finding ∷ []) (map (told_of sources) (filter (is_shown request) (drop (n + 1) findings)))
       ∙ ap (λ ts. before ++ ts) (sym (left true below here is)) ∙ rest
 
-  -- `all_told` has passed over one that is off
+  -- For `all_told`: the same after one that is off, which is passed over.
   pub told_passed : (before whole : List Told) → n < length findings → finding ≡ get_or findings n finding
       → is_shown request finding ≡ false
       → before ++ map (told_of sources) (filter (is_shown request) (drop n findings)) ≡ whole
@@ -159,7 +167,7 @@ checks_before {journal} request empty asks = record {
 -- the check ended: its findings are those of the answers alone
 pub checks_after : {journal journal' journal'' : List Event} {F F' : Facts} (request : Request) (c : Checking) (outcome : Outcome)
     (over files : List (List ℕ)) → over ≡ request.over → files ≡ request.files → F ≡ no_facts → Asks journal journal' F F'
-    → ((G : Facts) → Extends F' G → checked G over files ≡ Is c) → TellsFound journal' journal'' request c outcome
+    → ((G : Facts) → Extends F' G → checked G request.whose over files ≡ Is c) → TellsFound journal' journal'' request c outcome
     → TellsCheck journal journal'' request outcome
 checks_after {F' = F'} request c outcome over files first are empty asks checks tells = record {
   asked = asks.asked;
@@ -169,9 +177,9 @@ checks_after {F' = F'} request c outcome over files first are empty asks checks 
   ends =
       inr (
         c,
-        subst (λ G. checked G request.over request.files ≡ Is c) (known empty asks)
-            (subst (λ fs. checked F' request.over fs ≡ Is c) are
-            (subst (λ os. checked F' os files ≡ Is c) first (checks F' (extends_refl F')))),
+        subst (λ G. checked G request.whose request.over request.files ≡ Is c) (known empty asks)
+            (subst (λ fs. checked F' request.whose request.over fs ≡ Is c) are
+            (subst (λ os. checked F' request.whose os files ≡ Is c) first (checks F' (extends_refl F')))),
         tells.2,
       );
 }

@@ -157,7 +157,8 @@ TellsFound journal journal' request c outcome = (told : List Event) × (journal'
 -- how a check ends over facts: memory lacked and nothing was said, or its findings are written
 abbrev pub EndsCheck : Facts → Request → Outcome → List Event → Type 0
 EndsCheck F request outcome told =
-    ((outcome ≡ Ended OutOfMemory) × (told ≡ [])) ⊎ ((c : Checking) × (checked F request.over request.files ≡ Is c)
+    ((outcome ≡ Ended OutOfMemory) × (told ≡ [])) ⊎ ((c : Checking)
+    × (checked F request.whose request.over request.files ≡ Is c)
     × Finds request c outcome told)
 
 -- A call that checks files: it asked what it did not know, and its ending is that of the answers to these questions alone.

@@ -1,3 +1,4 @@
+use Rattle.drv_check.specs.declared.unused_text.Names.TheVariants.{Driver, Gcc}
 use Rattle.drv_words.specs.Bytes.{hyphen}
 use Rattle.gdrv_specs.specs.WarningNames.{is_warning}
 use Rattle.gdrv_specs.specs.declared.requesting.Request.{Request}
@@ -9,9 +10,18 @@ use Rattle.std.specs.Prelude.{◌&&◌, List, [], ◌∷◌, ◌++◌, None, Opt
 -- after it for a file that is loaded first.
 -- For clauses of src/requesting.rt and src/calling.rt.
 
--- before the first word: lines, all warnings, no file
+-- before the first word: lines, all warnings, the driver's names alone, no file
 abbrev pub no_request : Request
-no_request = record { json = false; strict = false; off = []; over = []; awaits = false; files = []; unknown = None }
+no_request = record {
+  json = false;
+  strict = false;
+  whose = Driver;
+  off = [];
+  over = [];
+  awaits = false;
+  files = [];
+  unknown = None;
+}
 
 -- the name of a warning that a word switches off
 abbrev pub name_off : List ℕ → Option (List ℕ)
@@ -29,6 +39,7 @@ abbrev pub with_word : Request → List ℕ → Request
 with_word request word =
     if pointwise nat_eq word (codes "--json") then record request { json = true }
     else if pointwise nat_eq word (codes "-Werror") then record request { strict = true }
+    else if pointwise nat_eq word (codes "--gcc") then record request { whose = Gcc }
     else if pointwise nat_eq word (codes "--over") then record request { awaits = true }
     else with_name request word (name_off word)
 

@@ -29,7 +29,7 @@ warning_words UnknownText = codes "there is no text of this name"
 warning_words HiddenPair = codes "a later pair of this file has the same key, and it is the one that counts"
 warning_words Unreachable = codes "no line reaches this branch, as an earlier one is taken in its place"
 warning_words LostMark = codes "this marks no word, as white space is on both sides"
-warning_words UnusedText = codes "no text names this one, and it is none of those that gcc names itself"
+warning_words UnusedText = codes "no text names this one, and nothing else runs it"
 
 -- what a warning says, with its name
 abbrev pub warning_text : Warning → List ℕ

@@ -17,7 +17,7 @@ use crate::outcome::Outcome;
 use crate::requesting::Request;
 use crate::warning_names::{is_name_of, warning_text};
 use drv_check::{
-    Checking, Finding, Note, Place, Source, Spot, Told, Warning, check_files, place_in,
+    Checking, FileCheck, Finding, Note, Place, Source, Spot, Told, Warning, check_files, place_in,
     report_json, report_text,
 };
 use drv_place::{line_after, line_before};
@@ -318,8 +318,14 @@ pub fn tell_check<S: System>(alloc: Global, sys: &mut S, request: &Request) -> O
     ensures { TellsCheck (S.events sys.old) (S.events sys.new) request.now result }
 {
     let facts = &mut FactTable::new(alloc);
+    let over = request.over.as_slice();
     let files = request.files.as_slice();
-    match check_files(alloc, request.over.as_slice(), files, sys, facts) {
+    let check = FileCheck {
+        whose: request.whose,
+        over,
+        names: files,
+    };
+    match check_files(alloc, &check, sys, facts) {
         Ok(checking) => tell_found(alloc, sys, request, &checking),
         Err(_) => Outcome::Ended(Ending::OutOfMemory),
     }

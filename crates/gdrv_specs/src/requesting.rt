@@ -5,6 +5,7 @@ ghost use Rattle.std.specs.Option.{option_map};
 ghost use Rattle.std.specs.Prelude.{◌≡◌, IfOk, OnOk};
 
 use crate::warning_names::is_warning;
+use drv_check::Names;
 use drv_words::{Listing, Word};
 use std::alloc::{AllocError, Global};
 
@@ -15,6 +16,8 @@ pub struct Request {
     pub json: bool,
     /// Whether warnings count for the exit status.
     pub strict: bool,
+    /// Whose texts count as run, though no text names them.
+    pub whose: Names,
     /// The names of the warnings that it doesn't print.
     pub off: Listing<Word>,
     /// The paths of the files that are loaded first.
@@ -43,6 +46,7 @@ impl Request {
         Request {
             json: false,
             strict: false,
+            whose: Names::Driver,
             off: Listing::new(alloc),
             over: Listing::new(alloc),
             awaits: false,
@@ -74,6 +78,8 @@ impl Request {
             self.json = true;
         } else if bytes == b"-Werror".as_slice() {
             self.strict = true;
+        } else if bytes == b"--gcc".as_slice() {
+            self.whose = Names::Gcc;
         } else if bytes == b"--over".as_slice() {
             self.awaits = true;
         } else {

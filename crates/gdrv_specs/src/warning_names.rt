@@ -45,8 +45,7 @@ fn warning_words(warning: Warning) -> &'static [u8]
             b"no line reaches this branch, as an earlier one is taken in its place"
         }
         Warning::LostMark => b"this marks no word, as white space is on both sides",
-        Warning::UnusedText =>
-            b"no text names this one, and it is none of those that gcc names itself",
+        Warning::UnusedText => b"no text names this one, and nothing else runs it",
     }
 }
 

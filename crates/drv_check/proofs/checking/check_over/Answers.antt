@@ -4,9 +4,13 @@ use Rattle.drv_system.proofs.AskedCalls.{extends_before}
 
 -- check_over (src/checking.rt). Checks files over the built-in set and over those that are loaded first.
 
+-- Names: `F`: what is known of the outside. `e`: that `F` extends the facts of this call. `over_checked`: the files of the call are checked
+-- over these. `extends_before`: what extends the facts after a call extends those before it.
+
 pub returns-clause-checks : goal.returns-clause-checks
 returns-clause-checks g c F e =
-    over_checked F c.args.search.now.prefixes.now c.args.over.now c.args.names.now c.in_ok-checking.checking c.check_all.new.checking
+    over_checked F c.args.search.now.prefixes.now c.args.check.now.over.now c.args.check.now.whose c.args.check.now.names.now
+    c.in_ok-checking.checking c.check_all.new.checking
     c.judge.new.checking
     c.len-first.result (c.in_ok-checking.ensures.checks F (extends_before c.check_all.ensures.asks e)) c.len-first.ensures
     (c.in_ok-check_all.ensures.checks F e) c.in_ok-judge.ensures

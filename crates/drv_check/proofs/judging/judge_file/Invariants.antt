@@ -5,8 +5,9 @@ use Rattle.std.proofs.Common.{◌≡◌, ◌++◌, length}
 -- The loops of judge_file (src/judging.rt). Adds what the whole of the files shows of one.
 
 abbrev pub invariant-loop-left : goal.invariant-loop-left
-invariant-loop-left l = l.findings ++ pieces_judged l.whole.set.now l.whole.worked.now l.file l.left ≡ l.fn.findings ++ file_judged
-    l.whole.set.now l.whole.worked.now l.file
+invariant-loop-left l =
+    l.findings ++ pieces_judged l.whole.whose l.whole.set.now l.whole.worked.now l.file l.left ≡ l.fn.findings
+    ++ file_judged l.whole.whose l.whole.set.now l.whole.worked.now l.file
 
 abbrev pub decreases-loop-left : goal.decreases-loop-left
 decreases-loop-left l = length l.left
