@@ -6,7 +6,7 @@ use Rattle.drv_compile.specs.Compilers.{values}
 use Rattle.drv_compile.specs.Decides.{copies_of, decide, decided_around, decided_by, decided_over, decided_with, first_of, of_reading}
 use Rattle.drv_compile.specs.Decides.{surroundings}
 use Rattle.drv_compile.specs.Parts.{texts_at, texts_of}
-use Rattle.drv_compile.specs.Places.{texts_for, texts_or}
+use Rattle.drv_compile.specs.Places.{part_or_whole, texts_for}
 use Rattle.drv_compile.specs.Reading.{line_read}
 use Rattle.drv_compile.specs.declared.deciding.Decision.{Decision}
 use Rattle.drv_compile.specs.declared.parts.Texts.{Texts}
@@ -17,8 +17,13 @@ use Rattle.drv_system.specs.declared.event.PathKind.{PathKind}
 use Rattle.std.proofs.Common.{◌≡◌, ◌∙◌, Err, IfOk, List, Ok, Option, Result, Some, ap, codes, sym, ℕ}
 
 -- For `decide` (src/deciding.rt): what was asked, one thing after another, gives the decision.
+-- Names: `F` is what is known of the outside. `own` is the place of the program's own spec file. `specs` is the path of the spec file, and
+-- `slice` the same as the code lends it. `words` is the words of the line. `text` is the text of the file beside the spec file, which names
+-- the compiler. `around` is the compiler and its folders. `result` is what the code's call gives. `IfOk result P`: P holds of the value, if
+-- there is one. `decide`, `decided_with`, `decided_over` and `decided_around` are the decision, from the whole line to its last step
+-- (specs/Decides).
 
--- `file_of_variable` asks for the variable by a word that it makes of its name
+-- For `file_of_variable`: if the name is that of the variable, then what was made of its value is the file of the variable.
 pub named_by_variable : {E : Type 0} (F : Facts) (name : List ℕ) (value : Option (List ℕ)) (result : Result (Option (List ℕ)) E)
     → name ≡ codes "GDRV_CC_SPECS" → variable_of F name ≡ Some value → IfOk result (λ path. path ≡ given_by value)
     → IfOk result (λ path. file_of_variable F ≡ Is path)
@@ -26,18 +31,18 @@ named_by_variable F name value (Err e) named known is = tt
 named_by_variable F name value (Ok path) named known is =
     ap (λ v. asked v >>= λ w. Is (given_by w)) (ap (variable_of F) (sym named) ∙ known) ∙ ap Is (sym is)
 
--- `texts_asked` asks whether the part for a line is there, and then whether the file that it takes is whole
+-- For `texts_asked`: if the part for a line was asked for, and then the file that it takes, then the result is the line's texts.
 pub texts_found : {E : Type 0} (F : Facts) (specs : List ℕ) (items : List Item) (stages : Stages) (part path : List ℕ) (kind : PathKind)
     (result : Result Texts E)
-    → part ≡ texts_for specs items stages → kind_of F part ≡ Some kind → path ≡ texts_or specs part kind
+    → part ≡ texts_for specs items stages → kind_of F part ≡ Some kind → path ≡ part_or_whole specs part kind
     → IfOk result (λ texts. texts_at F path ≡ Is texts) → IfOk result (λ texts. texts_of F specs items stages ≡ Is texts)
 texts_found F specs items stages part path kind (Err e) part_is known path_is is = tt
 texts_found F specs items stages part path kind (Ok texts) part_is known path_is is =
-    ap (λ p. asked (kind_of F p) >>= λ k. texts_at F (texts_or specs p k)) (sym part_is)
-    ∙ ap (λ k. asked k >>= λ k'. texts_at F (texts_or specs part k')) known
+    ap (λ p. asked (kind_of F p) >>= λ k. texts_at F (part_or_whole specs p k)) (sym part_is)
+    ∙ ap (λ k. asked k >>= λ k'. texts_at F (part_or_whole specs part k')) known
     ∙ ap (texts_at F) (sym path_is) ∙ is
 
--- `decided_around` reads the line by the bytes of the spec file's path, and decides by what it read
+-- For `decided_around`: if the result is the decision for what was read of the line, then it is the decision around this compiler.
 pub around_read : {E : Type 0} (F : Facts) (specs slice : List ℕ) (words : List (List ℕ)) (around : Surroundings) (reading : Option Reading)
     (result : Result Decision E)
     → slice ≡ specs → line_read F slice around words ≡ Is reading → IfOk result (λ decision. decision ≡ of_reading specs around reading)
@@ -46,7 +51,8 @@ around_read F specs slice words around reading (Err e) same read is = tt
 around_read F specs slice words around reading (Ok decision) same read is =
     ap (λ k. k >>= λ r. Is (of_reading specs around r)) (ap (λ s. line_read F s around words) (sym same) ∙ read) ∙ ap Is (sym is)
 
--- `decided_by` asks for two variables, and hands on where the compiler looks
+-- For `decided_by`: if the file names a compiler, and both variables were asked for, then the decision with these folders is that by the
+-- file's text.
 pub compiler_given : {E : Type 0} (F : Facts) (specs : List ℕ) (words : List (List ℕ)) (text : List ℕ)
     (compiler : List ℕ) (folders copies : List (List ℕ))
     (programs libraries : Option (List ℕ)) (result : Result Decision E)
@@ -67,7 +73,7 @@ compiler_given F specs words text compiler folders copies programs libraries (Ok
     ∙ ap (λ c. decided_around F specs words (surroundings compiler folders c programs libraries)) (sym copies_are)
     ∙ is
 
--- `decided_with` reads the file that names the compiler, by the bytes of the spec file's path
+-- For `decided_with`: if a spec file was found, then the decision by the file beside it, which names the compiler, is the decision.
 pub specs_given : {E : Type 0} (F : Facts) (own : Option (List ℕ)) (words : List (List ℕ)) (found : Option (List ℕ)) (specs slice : List ℕ)
     (text : Option (List ℕ)) (result : Result Decision E)
     → found ≡ Some specs → slice ≡ specs → written_beside F slice (codes ".gcc") ≡ Is text
@@ -78,7 +84,8 @@ specs_given F own words found specs slice text (Ok decision) some same written i
     ap (decided_with F own words) some
     ∙ ap (λ k. k >>= λ t. decided_over F specs words t) (ap (λ s. written_beside F s (codes ".gcc")) (sym same) ∙ written) ∙ is
 
--- `decide` takes its own place twice, since the look for the spec file uses the first copy up
+-- For `decide`: if the spec file was looked for at the program's own place, then the decision with it is the decision of the call; the code
+-- copies that place twice.
 pub decided_so : {E : Type 0} (F : Facts) (own : Option (List ℕ)) (words : List (List ℕ)) (place found again : Option (List ℕ))
     (result : Result Decision E)
     → place ≡ own → spec_file F place ≡ Is found → again ≡ own

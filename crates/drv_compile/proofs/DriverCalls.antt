@@ -9,10 +9,10 @@ use Rattle.drv_compile.proofs.RowsAsked.{asked_alike}
 use Rattle.drv_compile.proofs.Worded.{stop_stays, told_as}
 use Rattle.drv_compile.specs.Code.Refusing.{IsEndSaid}
 use Rattle.drv_compile.specs.Compilers.{values}
-use Rattle.drv_compile.specs.Driven.{IsCalled, IsDenied, IsMachined, IsMade, IsUnanswered, IsUncalled, IsUndrivenAfter, IsWorker}
-use Rattle.drv_compile.specs.Driven.{IsWorkerAfter, Replaces, Undriven, answer_of, asks, at_once, denied, driver_items, driver_line}
-use Rattle.drv_compile.specs.Driven.{in_place, later, not_answered, not_whole, refuses, rows_of, runs, stays, unchanged, uncalled}
-use Rattle.drv_compile.specs.Driven.{uncalled_after, undriven_after}
+use Rattle.drv_compile.specs.Driven.{IsCalled, IsChosen, IsDenied, IsMachined, IsMade, IsUnanswered, IsUncalled, IsUndrivenAfter, IsWorker}
+use Rattle.drv_compile.specs.Driven.{IsWorkerAfter, Passes, Replaces, Undriven, answer_of, asks, at_once, compiles, denied, driver_items}
+use Rattle.drv_compile.specs.Driven.{driver_line, drives, in_place, later, not_answered, not_whole, refuses, rows_of, runs, stays, unchanged}
+use Rattle.drv_compile.specs.Driven.{uncalled, uncalled_after, undriven_after}
 use Rattle.drv_compile.specs.Inputs.{Noted}
 use Rattle.drv_compile.specs.Machines.{RowAsked, items_by, row_of}
 use Rattle.drv_compile.specs.Near.{AreTold}
@@ -40,10 +40,18 @@ use Rattle.std.proofs.Common.{sym, ℕ}
 use Rattle.std.specs.Prelude.{MatchResult}
 
 -- For the functions of `driving` (src/driving.rt): who carries out a line.
+-- Names: `F` is what is known of the outside, and `knows` says which facts the call has. `line` is the line of gcc: its `request` is what
+-- the call is given, its `given` the words, and its `chain` the spec file (`specs`), the compiler and the known names. `call` is what the
+-- front made of it. `slice` is the items, or the refusals, as the code lends them. `first` is what the driver is called with before the
+-- line's spec files. `answer` is the line that these give. `driven` and `made` are what the driver is called with in the end. `worker` is
+-- who carries the line out: the driver or the compiler. `events` and `more` are what the host was asked. `stop` is why the call ends, and
+-- `result` what the code's call gives. `Noted before after P`: events were added, of which P holds. `IfTold stop P`: P holds of the stop's
+-- text, if it has one. `MatchResult result P Q`: P holds of the value, or Q of the fault. `IsErrAnd result P`: there is a fault, of which P
+-- holds. `Replaces` and most claims that begin with Is are in specs/Driven.
 
 -- what its spec files give
 
--- `answer` hands on how the driver ends where the line's self spec can't be carried out, by the name that it lends
+-- For `answer`: if the text says how the driver ends for the line's self spec, then it says why there is no answer.
 pub answer_told : (F : Facts) (line : GccLine) (name : List ℕ) (first : Driven) (ending : Ending) (stop : Stop)
     → name ≡ line.request.now.calling.now.name
     → (ending ≡ OutOfMemory) ⊎ (answer_of F line.chain line.given first ≡ Is (Err ending))
@@ -54,6 +62,7 @@ answer_told F line name first ending stop named stops tells =
     (IsUnanswered F line.request.now.calling.now.name line.chain line.given first)
     (by ending stops) (subst (λ n. IfTold stop (IsEndSaid F n first.line ending)) named tells)
   where
+    -- Plan: `by` goes by the ending: a refusal has its text, and the other endings have none.
     by : (ending : Ending) → (ending ≡ OutOfMemory) ⊎ (answer_of F line.chain line.given first ≡ Is (Err ending)) → (text : List ℕ)
         → IsEndSaid F line.request.now.calling.now.name first.line ending text
         → IsUnanswered F line.request.now.calling.now.name line.chain line.given first text
@@ -64,7 +73,7 @@ answer_told F line name first ending stop named stops tells =
 
 -- a line by itself
 
--- `made_call` calls the driver with the items and the suffix
+-- For `made_call`: if the driver's line has the spec file's path, the items and the suffix, then it is made as `IsMade` says.
 pub made_driver : (path : List ℕ) (rows : Option (List ℕ)) (given : Expanded) (made : MachineItems) (items suffixed all : List Item)
     (children : List Variable) (driven : Driven)
     → made ≡ Made items children → suffixed ≡ suffixed_by rows items → all ≡ driver_items path suffixed
@@ -90,7 +99,8 @@ made_alike path text rows given made made' (Driver driven) same suffix (items, c
   driven_is ∙ ap (λ its. record { line = driver_line path its given; children = children }) (suffix items),
 )
 
--- `machined_call` takes the rows only of a text that has some, which gives the same row and the same suffix
+-- For `machined_call`: if the code left out the text of the rows, since it has no row and no suffix, then row and line are still those by
+-- the file's text.
 pub machined_as : {E : Type 0} (specs : List ℕ) (files : LineFiles) (call : Call) (given : Expanded) (text : Option (List ℕ))
     (slice : List Item) (row : LineRow) (made : MachineItems) (before after : List HostEvent) (result : Result Worker E)
     → ((items : List Item) → row_of text items ≡ row_of files.rows items)
@@ -111,7 +121,8 @@ machined_as specs files call given text slice row made before after (Ok worker) 
   ),
 )
 
--- `driver_of_call` lends the path of the spec file, and the items of the call
+-- For `driver_of_call`: if the facts say that the line's texts are whole, and its row was asked for, then the line is called as `IsCalled`
+-- says.
 pub called_whole : (line : GccLine) (call : Call) (specs : List ℕ) (slice : List Item) (files : LineFiles) (worker : Worker)
     (before after : List HostEvent) (knows : Facts → Type 0)
     → specs ≡ line.chain.specs → slice ≡ call.items
@@ -131,7 +142,7 @@ called_whole line call specs slice files worker before after knows at same texts
   ),
 )
 
--- `driver_of_call` refuses a line whose texts are damaged, by the parts of its call
+-- For `driver_of_call`: if the file with the line's texts is not whole, then the text about that is the refusal of the line.
 pub called_damaged : (F : Facts) (line : GccLine) (call : Call) (specs : List ℕ) (slice : List Item) (path place text : List ℕ)
     → specs ≡ line.chain.specs → slice ≡ call.items → texts_of F specs slice call.stages ≡ Is (Damaged path) → place ≡ path
     → text ≡ damaged_text line.request.now.calling.now.name place specs line.request.now.calling.now.machine
@@ -144,11 +155,11 @@ called_damaged F line call specs slice path place text at same texts placed is =
 
 -- a line in its place
 
--- `call_given` hands on the line that the spec files made
+-- For `call_given`: if the answer is a line that is carried out, then that line replaces the first.
 pub given_run : (answer : Option Answer) (call : Call) → answer ≡ Some (Run call) → Replaces answer (Some call)
 given_run answer call is = subst (λ a. Replaces a (Some call)) (sym is) runs
 
--- `call_given` says why the line that the spec files made is refused
+-- For `call_given`: if the answer is refusals, and the text has them all, then that text denies the line.
 pub given_refusal : (line : GccLine) (answer : Option Answer) (refusals slice : List Refusal) (name known text : List ℕ)
     → answer ≡ Some (Refuse refusals) → name ≡ line.request.now.calling.now.name → known ≡ line.chain.known → slice ≡ refusals
     → AreTold name (values [] known) slice text
@@ -158,17 +169,17 @@ given_refusal line answer refusals slice name known text is named same are told 
     (refuses (subst (λ n. AreTold n (values [] line.chain.known) refusals text) named
     (subst (λ k. AreTold name (values [] k) refusals text) same (subst (λ rs. AreTold name (values [] known) rs text) are told))))
 
--- `call_given` gives no line where the spec files made a question of it
+-- For `call_given`: if the answer is a question, then no line replaces the first.
 pub given_ask : (answer : Option Answer) → answer ≡ Some Ask → Replaces answer None
 given_ask answer is = subst (λ a. Replaces a None) (sym is) asks
 
--- `call_given` gives no line where the spec files gave it nothing
+-- For `call_given`: if there is no answer, since the spec files gave the line nothing, then no line replaces the first.
 pub given_none : (answer : Option Answer) → answer ≡ None → Replaces answer None
 given_none answer is = subst (λ a. Replaces a None) (sym is) stays
 
 -- the steps of a line
 
--- `worker_after` hands on why its spec files give no answer
+-- For `worker_after`: if the spec files give no answer, and the stop says why, then the line is refused after them with that text.
 pub undriven_answer : (F : Facts) (line : GccLine) (first : Driven) (stop : Stop) (result : Result Worker Stop)
     → IsErrAnd result (λ s. s ≡ stop) → IfTold stop (IsUnanswered F line.request.now.calling.now.name line.chain line.given first)
     → MatchResult result (λ worker. IsWorkerAfter F line.chain line.given first [] worker)
@@ -179,7 +190,7 @@ undriven_answer F line first stop result is tells =
     (told_as stop (IsUnanswered F line.request.now.calling.now.name line.chain line.given first)
     (IsUndrivenAfter F line.request.now.calling.now line.chain line.given first []) (λ text un. not_answered un) tells)
 
--- `worker_after` hands on why what they give is refused
+-- For `worker_after`: if what the spec files give is refused, and the stop says so, then the line is refused after them with that text.
 pub undriven_denied : (F : Facts) (line : GccLine) (first : Driven) (answer : Option Answer) (stop : Stop) (result : Result Worker Stop)
     → IsErrAnd result (λ s. s ≡ stop) → answer_of F line.chain line.given first ≡ Is (Ok answer)
     → IfTold stop (IsDenied line.request.now.calling.now line.chain answer)
@@ -191,7 +202,8 @@ undriven_denied F line first answer stop result is gives tells =
     (told_as stop (IsDenied line.request.now.calling.now line.chain answer)
     (IsUndrivenAfter F line.request.now.calling.now line.chain line.given first []) (λ text un. denied gives un) tells)
 
--- `worker_after` hands on what becomes of the line that they give
+-- For `worker_after`: if the spec files put a line in the place of the first, then what carries that out, or why it is refused, holds of
+-- the first.
 pub worker_in_place : (F : Facts) (line : GccLine) (first : Driven) (answer : Option Answer) (given : Option Call) (call : Call)
     (events : List HostEvent) (result : Result Worker Stop)
     → answer_of F line.chain line.given first ≡ Is (Ok answer) → Replaces answer given → given ≡ Some call
@@ -206,31 +218,32 @@ worker_in_place F line first answer given call events (Err stop) gives replaces 
     (IsUndrivenAfter F line.request.now.calling.now line.chain line.given first events)
     (λ text un. uncalled_after gives (subst (Replaces answer) is replaces) un) tells
 
--- `worker_after` leaves the line as it is where they give none
+-- For `worker_after`: if the spec files put no line in its place, then the driver carries the first line out.
 pub worker_unchanged : (F : Facts) (line : GccLine) (first : Driven) (answer : Option Answer) (given : Option Call)
     → answer_of F line.chain line.given first ≡ Is (Ok answer) → Replaces answer given → given ≡ None
     → IsWorkerAfter F line.chain line.given first [] (Driver first)
 worker_unchanged F line first answer given gives replaces is = unchanged gives (subst (Replaces answer) is replaces)
 
--- `worker_of` refuses a line whose texts are damaged
+-- For `chosen_worker`: if the line is not called, and the stop says why, then nobody carries it out, for that reason.
 pub undriven_texts : (F : Facts) (line : GccLine) (call : Call) (events : List HostEvent) (stop : Stop) (result : Result Worker Stop)
     → IsErrAnd result (λ s. s ≡ stop) → IfTold stop (IsUncalled F line.request.now.calling.now line.chain.specs call events)
-    → MatchResult result (λ worker. IsWorker F line.chain call line.given events worker)
+    → MatchResult result (λ worker. IsChosen F line.chain call line.given events worker)
     (λ s. IfTold s (Undriven F line.request.now.calling.now line.chain call line.given events))
 undriven_texts F line call events stop result is tells =
-    stop_stays result stop (λ worker. IsWorker F line.chain call line.given events worker)
+    stop_stays result stop (λ worker. IsChosen F line.chain call line.given events worker)
     (Undriven F line.request.now.calling.now line.chain call line.given events) is
     (told_as stop (IsUncalled F line.request.now.calling.now line.chain.specs call events)
     (Undriven F line.request.now.calling.now line.chain call line.given events)
     (λ text un. uncalled un) tells)
 
--- `worker_of` asks the spec files of a line that the driver carries out
+-- For `chosen_worker`: if the driver is called with a line, then who carries it out after its spec files is who is chosen, by the events of
+-- both.
 pub worker_later : (F : Facts) (line : GccLine) (call : Call) (events more : List HostEvent) (worker : Worker) (first : Driven)
     (result : Result Worker Stop)
     → IsCalled F line.chain.specs call line.given events worker → worker ≡ Driver first
     → MatchResult result (λ after. IsWorkerAfter F line.chain line.given first more after)
     (λ s. IfTold s (IsUndrivenAfter F line.request.now.calling.now line.chain line.given first more))
-    → MatchResult result (λ after. IsWorker F line.chain call line.given (events ++ more) after)
+    → MatchResult result (λ after. IsChosen F line.chain call line.given (events ++ more) after)
     (λ s. IfTold s (Undriven F line.request.now.calling.now line.chain call line.given (events ++ more)))
 worker_later F line call events more worker first (Ok after) called is gives =
     later (subst (λ w. IsCalled F line.chain.specs call line.given events w) is called) gives
@@ -239,9 +252,32 @@ worker_later F line call events more worker first (Err stop) called is tells =
     (Undriven F line.request.now.calling.now line.chain call line.given (events ++ more))
     (λ text un. undriven_after (subst (λ w. IsCalled F line.chain.specs call line.given events w) is called) un) tells
 
--- `worker_of` gives a line to the compiler that the driver doesn't carry out
+-- For `chosen_worker`: if no row has the words for the line's machine, then the compiler is chosen at once.
 pub worker_at_once : (F : Facts) (line : GccLine) (call : Call) (events : List HostEvent) (worker : Worker) (options : List ℕ)
     → IsCalled F line.chain.specs call line.given events worker → worker ≡ Compiler options
-    → IsWorker F line.chain call line.given events (Compiler options)
+    → IsChosen F line.chain call line.given events (Compiler options)
 worker_at_once F line call events worker options called is =
     at_once (subst (λ w. IsCalled F line.chain.specs call line.given events w) is called)
+
+-- For `worker_of`: if nobody is chosen to carry the line out, then nobody does, for the same reason.
+pub undriven_line : (F : Facts) (line : GccLine) (call : Call) (events : List HostEvent) (stop : Stop) (result : Result Worker Stop)
+    → IsErrAnd result (λ s. s ≡ stop) → IfTold stop (Undriven F line.request.now.calling.now line.chain call line.given events)
+    → MatchResult result (λ worker. IsWorker F line.chain call line.given events worker)
+    (λ s. IfTold s (Undriven F line.request.now.calling.now line.chain call line.given events))
+undriven_line F line call events stop result is tells =
+    stop_stays result stop (λ worker. IsWorker F line.chain call line.given events worker)
+    (Undriven F line.request.now.calling.now line.chain call line.given events) is tells
+
+-- For `worker_of`: if the driver is chosen, and its line got the libraries of its link, then it carries out that line.
+pub worker_drives : (F : Facts) (line : GccLine) (call : Call) (events : List HostEvent) (worker : Worker) (driven made : Driven)
+    → IsChosen F line.chain call line.given events worker → worker ≡ Driver driven → Passes F driven made
+    → IsWorker F line.chain call line.given events (Driver made)
+worker_drives F line call events worker driven made chosen is passes =
+    drives (subst (IsChosen F line.chain call line.given events) is chosen) passes
+
+-- For `worker_of`: if the compiler is chosen, then it carries the line out.
+pub worker_compiles : (F : Facts) (line : GccLine) (call : Call) (events : List HostEvent) (worker : Worker) (options : List ℕ)
+    → IsChosen F line.chain call line.given events worker → worker ≡ Compiler options
+    → IsWorker F line.chain call line.given events (Compiler options)
+worker_compiles F line call events worker options chosen is =
+    compiles (subst (IsChosen F line.chain call line.given events) is chosen)

@@ -35,11 +35,19 @@ use Rattle.drv_syntax.specs.Parsed.{tree_of}
 use Rattle.drv_system.specs.Facts.{Facts}
 use Rattle.drv_system.specs.Gives.{GivesKnown}
 use Rattle.drv_system.specs.Known.{◌>>=◌, Is, Known}
-use Rattle.std.proofs.Common.{◌≡◌, ◌⊎◌, ◌∙◌, Err, IfOk, IsErrAnd, List, None, Ok, Option, Result, Some, ap, codes, inl, inr, refl, subst}
+use Rattle.std.proofs.Common.{◌≡◌, ◌⊎◌, ◌∙◌, Err, IfOk, IsErrAnd, List, None, Ok, Option, Result, Some, ap, inl, inr, refl, subst}
 use Rattle.std.proofs.Common.{sym, ℕ}
 use Rattle.std.specs.Option.{option_map, unwrap_or}
 
 -- For the options that spec files give (src/self_specs.rt): the text of the self specs is run step by step.
+-- Names: `F` is what is known of the outside. `line` is the line of gcc, or that of the driver with the switches that the text sees.
+-- `first` is what the driver is called with before the line's spec files. `own` is the same as a line. `settings` is its settings, `set`
+-- its spec texts, and `text` the text that is run. `name` is the name of that text. `judged` is the line of the switches, and `read` that
+-- of the driver, or why each is refused. `worked` is what the text gives. `items` is the items that it sees. `fault` is why a step is
+-- refused, and `ending` how the call ends then. `found` and `defined` are values of definitions. `result` is what the code's call gives.
+-- `Ended X` is a value over facts, or how it ends the call. `GivesKnown fault view result defined`: the result is the defined one, or
+-- memory lacked (drv_system). `IsErrAnd result P`: there is a fault, of which P holds. `worked_of`, `worked_by`, `worked_for` and
+-- `worked_along` are the work of a text, from its name to its last step (specs/SelfSpecs).
 
 -- a step that ends the call
 pub ends_as : {X Y : Type 0} (ending : Ending) (result : Result X Ending) (view : X → Y) (defined : Ended Y)
@@ -58,13 +66,13 @@ pub text_worked : (found : Known (Result Outcome PlanFault)) (done : Outcome) (w
     → found ≡ Is (Ok done) → worked ≡ of_job done.job → of_outcome found ≡ Is (Ok worked)
 text_worked found done worked is job = ap of_outcome is ∙ ap (λ w. Is (Ok w)) (sym job)
 
--- `worked_line` makes the context before it works the text in it
+-- For `worked_line`: if the context is the one of the line, the set and the prefixes, then the outcome of the text in it is the work along the line.
 pub context_made : (F : Facts) (set : Set) (text : List ℕ) (line : Line) (prefixes : Prefixes) (context : Context)
     → context ≡ context_of line set prefixes 0
     → worked_along F set text line prefixes ≡ of_outcome (of_text (outcome F context (tree_of text)))
 context_made F set text line prefixes context made = ap (λ c. of_outcome (of_text (outcome F c (tree_of text)))) (sym made)
 
--- `worked_line` gets the prefixes of the line that the driver is called with
+-- For `worked_line`: if the prefixes are those of the settings, then working the text along the line with them is working it for the line.
 pub prefixes_made : (F : Facts) (settings : Settings) (set : Set) (text : List ℕ) (line : Line) (prefixes : Prefixes)
     → prefixes_of F settings.prefixes ≡ Is prefixes → worked_for F settings set text (Ok line) ≡ worked_along F set text line prefixes
 prefixes_made F settings set text line prefixes known = ap (λ k. k >>= worked_along F set text line) known
@@ -76,7 +84,7 @@ by_plan : (fault : PlanFault) (found : Known (Result Outcome PlanFault)) (define
 by_plan fault found defined same (inl memory) = inl (ap stopped_by_plan memory)
 by_plan fault found defined same (inr refused) = inr (same ∙ ap of_outcome refused)
 
--- `worked_in` hands on a fault of the plan, or lack of memory
+-- For `worked_in`: if the plan has a fault, or memory lacked, then the work of the text ends so.
 pub text_refused : (found : Known (Result Outcome PlanFault)) (fault : PlanFault) (result : Result Worked Ending)
     → IsErrAnd result (λ e. e ≡ stopped_by_plan fault) → (fault ≡ plan_fault.Memory) ⊎ (found ≡ Is (Err fault))
     → GivesKnown OutOfMemory (λ worked. worked) result (of_outcome found)
@@ -91,7 +99,7 @@ by_args : (fault : ArgsFault) (read : Result Line ArgsFault) (next : Result Line
 by_args fault read next stops (inl memory) = inl (ap stopped_by_args memory)
 by_args fault read next stops (inr refused) = inr (ap next refused ∙ stops)
 
--- `worked_for` and `self_worked` hand on the refusal of a line
+-- For `worked_for` and `text_worked`: if a line was refused, or memory lacked, then what follows ends so.
 pub line_refused : (fault : ArgsFault) (read : Result Line ArgsFault) (next : Result Line ArgsFault → Ended Worked)
     (result : Result Worked Ending) → next (Err fault) ≡ Is (Err (stopped_by_args fault))
     → IsErrAnd result (λ e. e ≡ stopped_by_args fault) → (fault ≡ args_fault.Memory) ⊎ (read ≡ Err fault)
@@ -100,25 +108,27 @@ line_refused fault read next result stops is given =
     ends_as (stopped_by_args fault) result (λ worked. worked) (next read) is (by_args fault read next stops given)
 
 -- the specs that are loaded
-by_specs : (fault : SpecsFault) (F : Facts) (own : Line) (judged read : Result Line ArgsFault) → read ≡ Ok own
+by_specs : (fault : SpecsFault) (F : Facts) (name : List ℕ) (own : Line) (judged read : Result Line ArgsFault) → read ≡ Ok own
     → (fault ≡ specs_fault.Memory) ⊎ (specs_of F own.settings ≡ Is (Err fault))
-    → (stopped_by_specs fault ≡ OutOfMemory) ⊎ (worked_of F judged read ≡ Is (Err (stopped_by_specs fault)))
-by_specs fault F own judged read reads (inl memory) = inl (ap stopped_by_specs memory)
-by_specs fault F own judged read reads (inr refused) = inr (ap (worked_of F judged) reads ∙ ap (worked_over F own.settings judged) refused)
+    → (stopped_by_specs fault ≡ OutOfMemory) ⊎ (worked_of F name judged read ≡ Is (Err (stopped_by_specs fault)))
+by_specs fault F name own judged read reads (inl memory) = inl (ap stopped_by_specs memory)
+by_specs fault F name own judged read reads (inr refused) =
+    inr (ap (worked_of F name judged) reads ∙ ap (worked_over F name own.settings judged) refused)
 
--- `self_worked` hands on the refusal of a spec file
-pub specs_refused : (fault : SpecsFault) (F : Facts) (own : Line) (judged read : Result Line ArgsFault) (result : Result Worked Ending)
-    → read ≡ Ok own
+-- For `text_worked`: if a spec file was refused, or memory lacked, then the work of the text ends so.
+pub specs_refused : (fault : SpecsFault) (F : Facts) (name : List ℕ) (own : Line) (judged read : Result Line ArgsFault)
+    (result : Result Worked Ending) → read ≡ Ok own
     → IsErrAnd result (λ e. e ≡ stopped_by_specs fault) → (fault ≡ specs_fault.Memory) ⊎ (specs_of F own.settings ≡ Is (Err fault))
-    → GivesKnown OutOfMemory (λ worked. worked) result (worked_of F judged read)
-specs_refused fault F own judged read result reads is given =
-    ends_as (stopped_by_specs fault) result (λ worked. worked) (worked_of F judged read) is (by_specs fault F own judged read reads given)
+    → GivesKnown OutOfMemory (λ worked. worked) result (worked_of F name judged read)
+specs_refused fault F name own judged read result reads is given =
+    ends_as (stopped_by_specs fault) result (λ worked. worked) (worked_of F name judged read) is
+    (by_specs fault F name own judged read reads given)
 
--- `self_worked` runs the text of the set that was loaded
-pub specs_go : (F : Facts) (own : Line) (set : Set) (judged read : Result Line ArgsFault) → read ≡ Ok own
+-- For `text_worked`: if the set was loaded, then the work of the named text is that of the text in this set.
+pub specs_go : (F : Facts) (name : List ℕ) (own : Line) (set : Set) (judged read : Result Line ArgsFault) → read ≡ Ok own
     → specs_of F own.settings ≡ Is (Ok set)
-    → worked_of F judged read ≡ worked_by F own.settings set judged (text_of set (codes "gdrv_self"))
-specs_go F own set judged read reads loads = ap (worked_of F judged) reads ∙ ap (worked_over F own.settings judged) loads
+    → worked_of F name judged read ≡ worked_by F own.settings set judged (text_of set name)
+specs_go F name own set judged read reads loads = ap (worked_of F name judged) reads ∙ ap (worked_over F name own.settings judged) loads
 
 -- the text, if there is one
 pub text_there : {T : Type 0} (now : T → List ℕ) (lent : Option T) (text : T) (F : Facts) (settings : Settings) (set : Set)
@@ -136,7 +146,8 @@ no_text now lent F settings set line found shows is = ap (worked_by F settings s
 abbrev with_names : Surroundings → List ℕ → List (List ℕ) → Given → Option (List ℕ) → List (List ℕ) → Ended (Option Answer)
 with_names around known args given options named = Is (Ok (Some (front_with (unwrap_or options known) named around args given)))
 
--- `answer_with` takes the names in the line's own spec files with those of the compiler's options
+-- For `answer_with`: if the names in the line's own spec files were read, and those of the compiler's options, then the answer by both is
+-- the answer.
 pub options_given : {E : Type 0} (F : Facts) (line : GccLine) (first : DriverLine) (given : Given) (specs known names : List ℕ)
     (words slice : List (List ℕ)) (options : Option (List ℕ)) (all : List Item) (named : List (List ℕ)) (result : Result Answer E)
     → specs ≡ line.chain.specs → known ≡ line.chain.known → words ≡ line.given.words
@@ -158,7 +169,7 @@ options_given F line first given specs known names words slice options all named
     ∙ ap (λ n. Is (Ok (Some (front_with names n line.chain.around words given)))) (sym lent)
     ∙ ap (λ a. Is (Ok (Some a))) (sym is)
 
--- the items that `answer_of_specs` sees, by the words that it lends
+-- If the items are those by the code's copies of names and words, then they are those by the line's own.
 pub seen_by : (line : GccLine) (known : List ℕ) (words : List (List ℕ)) (items : List Item)
     → known ≡ line.chain.known → words ≡ line.given.words → items ≡ seen_items known words
     → items ≡ seen_items line.chain.known line.given.words
@@ -179,7 +190,7 @@ by_work F line first items ending are (inr ends) =
     inr (ap (after_work F line first) (sym are)
     ∙ ap (answer_after F line.chain.specs line.chain.around line.chain.known line.given.words first) ends)
 
--- `answer_of_specs` hands on the end of the work
+-- For `answer_of_specs`: if the work ends the call, then the answer ends it in the same way.
 pub work_ends : (F : Facts) (line : GccLine) (first : DriverLine) (items : List Item) (ending : Ending)
     (result : Result (Option Answer) Ending)
     → items ≡ seen_items line.chain.known line.given.words → IsErrAnd result (λ e. e ≡ ending)
@@ -189,7 +200,7 @@ work_ends F line first items ending result are is given =
     ends_as ending result (λ answer. answer) (after_work F line first (seen_items line.chain.known line.given.words)) is
     (by_work F line first items ending are given)
 
--- `answer_of_specs` answers by what the work gave
+-- For `answer_of_specs`: if the work gave something, and the answer is by that, then it is the answer after the work.
 pub work_answers : (F : Facts) (line : GccLine) (first : DriverLine) (items : List Item) (worked : Worked) (answer : Option Answer)
     → items ≡ seen_items line.chain.known line.given.words → self_worked F first items ≡ Is (Ok worked)
     → answer_by F line.chain.specs line.chain.around line.chain.known line.given.words first worked ≡ Is (Ok answer)

@@ -13,6 +13,7 @@ use Rattle.drv_compile.specs.Machines.{RowAsked, items_by}
 use Rattle.drv_compile.specs.Near.{AreTold}
 use Rattle.drv_compile.specs.Notes.{IsSaid}
 use Rattle.drv_compile.specs.Parts.{texts_of}
+use Rattle.drv_compile.specs.Passed.{line_passed}
 use Rattle.drv_compile.specs.SelfSpecs.{Ended, answer_given}
 use Rattle.drv_compile.specs.Suffixes.{suffixed_by}
 use Rattle.drv_compile.specs.Texts.{damaged_text}
@@ -116,11 +117,22 @@ pub data IsUndrivenAfter (F : Facts) (calling : Calling) (chain : Toolchain) (gi
       → IsUndrivenAfter F calling chain given first events text
 
 -- who carries out a line: the compiler at once, or the driver unless the line's spec files give it another
-pub data IsWorker (F : Facts) (chain : Toolchain) (call : Call) (given : Expanded) : List HostEvent → Worker → Type 0 where
+pub data IsChosen (F : Facts) (chain : Toolchain) (call : Call) (given : Expanded) : List HostEvent → Worker → Type 0 where
   at_once : {options : List ℕ} {events : List HostEvent} → IsCalled F chain.specs call given events (Compiler options)
-      → IsWorker F chain call given events (Compiler options)
+      → IsChosen F chain call given events (Compiler options)
   later : {first : Driven} {worker : Worker} {events more : List HostEvent} → IsCalled F chain.specs call given events (Driver first)
-      → IsWorkerAfter F chain given first more worker → IsWorker F chain call given (events ++ more) worker
+      → IsWorkerAfter F chain given first more worker → IsChosen F chain call given (events ++ more) worker
+
+-- what the driver is called with, with the libraries of its link
+abbrev pub Passes : Facts → Driven → Driven → Type 0
+Passes F driven made = (line : DriverLine) × (line_passed F driven.line ≡ Is line) × (made ≡ record driven { line = line })
+
+-- who carries out a line, and its line has the libraries of its link where the driver does
+pub data IsWorker (F : Facts) (chain : Toolchain) (call : Call) (given : Expanded) : List HostEvent → Worker → Type 0 where
+  drives : {driven made : Driven} {events : List HostEvent} → IsChosen F chain call given events (Driver driven) → Passes F driven made
+      → IsWorker F chain call given events (Driver made)
+  compiles : {options : List ℕ} {events : List HostEvent} → IsChosen F chain call given events (Compiler options)
+      → IsWorker F chain call given events (Compiler options)
 
 -- nobody carries out the line: the text of the refusal
 pub data Undriven (F : Facts) (calling : Calling) (chain : Toolchain) (call : Call) (given : Expanded)

@@ -11,6 +11,7 @@ pub mod Near
 pub mod Notes
 pub mod Opening
 pub mod Parts
+pub mod Passed
 pub mod Places
 pub mod Reading
 pub mod Runs

@@ -93,8 +93,8 @@ texts_for specs items stages =
     if list_any wants_whole items || (may_link stages && list_any is_rooted items) then specs else texts_by specs stages
 
 -- where they are not there the whole file has them
-abbrev pub texts_or : List ℕ → List ℕ → PathKind → List ℕ
-texts_or specs path Plain = path
-texts_or specs path Dir = specs
-texts_or specs path Other = specs
-texts_or specs path Missing = specs
+abbrev pub part_or_whole : List ℕ → List ℕ → PathKind → List ℕ
+part_or_whole specs path Plain = path
+part_or_whole specs path Dir = specs
+part_or_whole specs path Other = specs
+part_or_whole specs path Missing = specs

@@ -39,7 +39,7 @@ use Rattle.std.specs.Prelude.{Err, List, [], ◌∷◌, None, Ok, Option, Result
 -- are the switches that it left (this project's profile).
 -- For clauses of src/self_specs.rt.
 
--- what a job of that text gives: no pipe, no further command, no temporary
+-- what a job of such a text gives: no pipe, no further command, no temporary
 abbrev pub of_groups : List (List Command) → Worked
 of_groups ((given ∷ []) ∷ (left ∷ []) ∷ []) = Gives (record { left = left.words; words = given.words })
 of_groups _ = More
@@ -49,7 +49,7 @@ abbrev pub of_parts : List Temp → List (List Command) → Worked
 of_parts [] groups = of_groups groups
 of_parts (temp ∷ temps) groups = More
 
--- what the job of `gdrv_self` gives: two commands' words, or more than options, which is refused
+-- what the job of such a text gives: two commands' words, or more than words
 abbrev pub of_job : Job → Worked
 of_job job = of_parts job.temps job.groups
 
@@ -72,25 +72,25 @@ abbrev pub worked_for : Facts → Settings → Set → List ℕ → Result Line 
 worked_for F settings set text (Err fault) = Is (Err (stopped_by_args fault))
 worked_for F settings set text (Ok line) = prefixes_of F settings.prefixes >>= worked_along F set text line
 
--- what a set's `self_spec` gives; nothing where no spec file has that text
+-- what a text of a set gives; nothing where no spec file has that text
 abbrev pub worked_by : Facts → Settings → Set → Result Line ArgsFault → Option (List ℕ) → Ended Worked
 worked_by F settings set line None = Is (Ok Nothing)
 worked_by F settings set line (Some text) = worked_for F settings set text line
 
--- what the specs of a line give, or why they aren't loaded
-abbrev pub worked_over : Facts → Settings → Result Line ArgsFault → Known (Result Set SpecsFault) → Ended Worked
-worked_over F settings line Unasked = Unasked
-worked_over F settings line (Is (Err fault)) = Is (Err (stopped_by_specs fault))
-worked_over F settings line (Is (Ok set)) = worked_by F settings set line (text_of set (codes "gdrv_self"))
+-- what the specs of a line give by their text of this name, or why they aren't loaded
+abbrev pub worked_over : Facts → List ℕ → Settings → Result Line ArgsFault → Known (Result Set SpecsFault) → Ended Worked
+worked_over F name settings line Unasked = Unasked
+worked_over F name settings line (Is (Err fault)) = Is (Err (stopped_by_specs fault))
+worked_over F name settings line (Is (Ok set)) = worked_by F settings set line (text_of set name)
 
 -- the same with the specs that the driver loads for a line of its own
-abbrev pub worked_of : Facts → Result Line ArgsFault → Result Line ArgsFault → Ended Worked
-worked_of F line (Err fault) = Is (Err (stopped_by_args fault))
-worked_of F line (Ok own) = worked_over F own.settings line (specs_of F own.settings)
+abbrev pub worked_of : Facts → List ℕ → Result Line ArgsFault → Result Line ArgsFault → Ended Worked
+worked_of F name line (Err fault) = Is (Err (stopped_by_args fault))
+worked_of F name line (Ok own) = worked_over F name own.settings line (specs_of F own.settings)
 
 -- what the spec files of this line of the driver give a line whose switches these items are
 abbrev pub self_worked : Facts → DriverLine → List Item → Ended Worked
-self_worked F first items = worked_of F (line_judged first.from_file items) (line_given first)
+self_worked F first items = worked_of F (codes "gdrv_self") (line_judged first.from_file items) (line_given first)
 
 -- The answer, by what was given: none where the line stays as it is. The compiler's options are known, and the names in the line's spec
 -- files.

@@ -1,8 +1,11 @@
 //! What the driver is called with for a line.
 
-ghost use Rattle.drv_compile.specs.Driven.{IsCalled, IsDenied, IsMachined, IsMade, IsUnanswered};
+// In clauses: `Extends F G` says that G has every answer of F. `Asked` says that a call only asked,
+// and that the table has the answers. `Noted before after P` says that the host was asked, and that
+// P holds of these events. `IfTold stop P` says that P holds of the text of a stop, if it has one.
+ghost use Rattle.drv_compile.specs.Driven.{IsCalled, IsChosen, IsDenied, IsMachined, IsMade, IsUnanswered};
 ghost use Rattle.drv_compile.specs.Driven.{IsUncalled, IsUndrivenAfter, IsWorker, IsWorkerAfter};
-ghost use Rattle.drv_compile.specs.Driven.{Replaces, Undriven, answer_of, driver_items};
+ghost use Rattle.drv_compile.specs.Driven.{Passes, Replaces, Undriven, answer_of, driver_items};
 ghost use Rattle.drv_compile.specs.Inputs.{Noted};
 ghost use Rattle.drv_compile.specs.Tasks.{IfTold};
 ghost use Rattle.drv_system.specs.Asking.{Extends};
@@ -16,6 +19,7 @@ use crate::finding::written_beside;
 use crate::host::Host;
 use crate::machines::{MachineItems, for_machines, items_by};
 use crate::parts::{Texts, texts_asked};
+use crate::passing::line_passed;
 use crate::refusing::stop_after;
 use crate::request::GccLine;
 use crate::row_asking::row_asked;
@@ -248,8 +252,50 @@ fn worker_after<S: System, H: Host<S>>(
     }
 }
 
-/// Who carries out a line, with the options that its spec files give it. It asks the system only
-/// where the table has no answer, and the host for a row that the file lacks.
+/// Who carries out a line, with the options that its spec files give it. The driver's line has no
+/// libraries of its link.
+///
+/// # Errors
+/// The text of a refusal.
+#[tactic(auto, using(drv_system::proofs::AskedCalls::asked_further))]
+fn chosen_worker<S: System, H: Host<S>>(
+    alloc: Global,
+    line: &GccLine<'_>,
+    call: Call,
+    outside: &mut Outside<'_, S>,
+    host: &mut H,
+) -> Result<Worker, Stop>
+    ensures asks { Asked S.events outside.old outside.new }
+    ensures drives { Noted (H.notes host.old) (H.notes host.new)
+        (λ events. (F : Facts) → Extends outside.new.facts.now F
+        → MatchResult result
+        (λ worker. IsChosen F line.now.chain call line.now.given events worker)
+        (λ stop. IfTold stop
+        (Undriven F line.now.request.now.calling.now line.now.chain call line.now.given events))) }
+{
+    match driver_of_call(alloc, line, call, outside, host)? {
+        Worker::Driver(first) => worker_after(alloc, line, first, outside, host),
+        Worker::Compiler(options) => Ok(Worker::Compiler(options)),
+    }
+}
+
+/// What the driver is called with, with the libraries of the link.
+fn with_libraries<S: System>(
+    alloc: Global,
+    driven: Driven,
+    outside: &mut Outside<'_, S>,
+) -> Result<Driven, AllocError>
+    ensures asks { Asked S.events outside.old outside.new }
+    ensures passes { (F : Facts) → Extends outside.new.facts.now F
+        → IfOk result (λ made. Passes F driven made) }
+{
+    let Driven { line, children } = driven;
+    let line = line_passed(alloc, line, outside)?;
+    Ok(Driven { line, children })
+}
+
+/// Who carries out a line, with the options and libraries that its spec files give it. It asks the
+/// system only where the table has no answer, and the host for a row that the file lacks.
 ///
 /// # Errors
 /// The text of a refusal.
@@ -269,8 +315,11 @@ pub(crate) fn worker_of<S: System, H: Host<S>>(
         (λ stop. IfTold stop
         (Undriven F line.now.request.now.calling.now line.now.chain call line.now.given events))) }
 {
-    match driver_of_call(alloc, line, call, outside, host)? {
-        Worker::Driver(first) => worker_after(alloc, line, first, outside, host),
+    match chosen_worker(alloc, line, call, outside, host)? {
+        Worker::Driver(driven) => {
+            let passed = with_libraries(alloc, driven, outside)?;
+            Ok(Worker::Driver(passed))
+        }
         Worker::Compiler(options) => Ok(Worker::Compiler(options)),
     }
 }

@@ -16,6 +16,7 @@ mod machines;
 mod naming;
 mod nearest;
 mod parts;
+mod passing;
 mod places;
 mod preparing;
 mod reading;

@@ -1,12 +1,14 @@
 //! The file that has the texts for a line.
 
+// In clauses: `Asked` says that a call only asked, and that the table has the answers. `Tells` says
+// that a result is that of a definition, by any facts that extend what is known.
 ghost use Rattle.drv_compile.specs.Parts.{texts_at, texts_if, texts_of};
 ghost use Rattle.drv_search.specs.Code.Telling.{Tells};
 ghost use Rattle.drv_system.specs.Code.Asked.{Asked};
 ghost use Rattle.std.specs.Prelude.{◌≡◌, IfOk};
 
 use crate::finding::is_written;
-use crate::places::{texts_for, texts_or};
+use crate::places::{part_or_whole, texts_for};
 use drv_args::Item;
 use drv_cc::Stages;
 use drv_system::{Outside, System};
@@ -57,6 +59,6 @@ pub(crate) fn texts_asked<S: System>(
 {
     let part = texts_for(alloc, specs, items, stages)?;
     let kind = outside.facts.kind(outside.sys, &part)?;
-    let path = Word::from_bytes(alloc, texts_or(specs, part.as_bytes(), kind))?;
+    let path = Word::from_bytes(alloc, part_or_whole(specs, part.as_bytes(), kind))?;
     texts_at(path, outside)
 }

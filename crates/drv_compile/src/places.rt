@@ -2,7 +2,7 @@
 
 ghost use Rattle.drv_compile.specs.Places.{above, beside, companion, is_begun, is_native};
 ghost use Rattle.drv_compile.specs.Places.{path_of_caller};
-ghost use Rattle.drv_compile.specs.Places.{is_rooted, may_link, texts_by, texts_for, texts_or};
+ghost use Rattle.drv_compile.specs.Places.{is_rooted, may_link, part_or_whole, texts_by, texts_for};
 ghost use Rattle.drv_compile.specs.Places.{wants_whole, whole_options};
 ghost use Rattle.drv_cc.specs.Items.{is_among};
 ghost use Rattle.std.specs.List.{list_any};
@@ -165,8 +165,8 @@ pub(crate) fn texts_for(
 }
 
 /// The spec file, or the part of it at a path where there is one.
-pub(crate) fn texts_or<'a>(specs: &'a [u8], path: &'a [u8], kind: PathKind) -> &'a [u8]
-    ensures { result.now ≡ texts_or specs.now path.now kind }
+pub(crate) fn part_or_whole<'a>(specs: &'a [u8], path: &'a [u8], kind: PathKind) -> &'a [u8]
+    ensures { result.now ≡ part_or_whole specs.now path.now kind }
 {
     match kind {
         PathKind::Plain => path,

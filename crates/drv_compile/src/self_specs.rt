@@ -1,5 +1,8 @@
 //! What the spec files of a line give it.
 
+// In clauses: `Extends F G` says that G has every answer of F. `Asked` says that a call only asked,
+// and that the table has the answers. `GivesKnown` says that a result is the one defined over the
+// facts, or lack of memory.
 ghost use Rattle.drv_cc.specs.SelfSpecs.{seen_items};
 ghost use Rattle.drv_cc.specs.declared.answer.Answer.TheVariants as answer;
 ghost use Rattle.drv_cc.specs.declared.refusal.Refusal.TheVariants as refusal;
@@ -40,12 +43,12 @@ use drv_system::{Outside, System};
 use drv_words::{Command, Group, Job, Listing, Word, copy_words};
 use std::alloc::{AllocError, Global};
 
-/// What the text of the self specs gives.
+/// What a text of two commands gives.
 #[derive(Drop)]
 pub(crate) enum Worked {
-    /// The spec file of the call has no text for them.
+    /// The specs have no such text.
     Nothing,
-    /// More than options.
+    /// More than words.
     More,
     /// Words, and which switches are left.
     Gives(Given),
@@ -164,10 +167,11 @@ fn worked_for<S: System>(
     worked_line(alloc, own, text, &line, outside)
 }
 
-/// What specs give a line whose switches these are.
+/// What a text of specs of this name gives a line whose switches these are.
 fn worked_by<S: System>(
     alloc: Global,
     own: &OwnSpecs<'_>,
+    name: &[u8],
     seen: &DriverLine,
     outside: &mut Outside<'_, S>,
 ) -> Result<Worked, Ending>
@@ -176,18 +180,24 @@ fn worked_by<S: System>(
         → prefixes_of F own.now.settings.now.prefixes ≡ Is own.now.prefixes.now
         → GivesKnown ending.OutOfMemory (λ made. made) result
         (worked_by F own.now.settings.now own.now.set.now (line_given seen.now)
-        (text_of own.now.set.now (codes "gdrv_self"))) }
+        (text_of own.now.set.now name.now)) }
 {
-    match own.set.tree(b"gdrv_self") {
+    match own.set.tree(name) {
         Some(text) => worked_for(alloc, own, text, seen, outside),
         None => Ok(Worked::Nothing),
     }
 }
 
-/// What the spec files of a line of the driver give a line whose switches these are.
+/// What the text of this name gives a line whose switches these are, with the specs of a line of the
+/// driver.
+///
+/// # Errors
+/// How the call ends: for lack of memory, or as by the first refusal of a line, of a spec file or of
+/// that text.
 #[tactic(auto, using(drv_system::proofs::AskedCalls::asked_further))]
-fn self_worked<S: System>(
+pub(crate) fn text_worked<S: System>(
     alloc: Global,
+    name: &[u8],
     first: &DriverLine,
     seen: &DriverLine,
     outside: &mut Outside<'_, S>,
@@ -195,7 +205,7 @@ fn self_worked<S: System>(
     ensures asks { Asked S.events outside.old outside.new }
     ensures works { (F : Facts) → Extends outside.new.facts.now F
         → GivesKnown ending.OutOfMemory (λ made. made) result
-        (worked_of F (line_given seen.now) (line_given first.now)) }
+        (worked_of F name.now (line_given seen.now) (line_given first.now)) }
 {
     let line = line_given(alloc, first)?;
     let settings = &line.settings;
@@ -206,7 +216,7 @@ fn self_worked<S: System>(
         set: &set,
         prefixes: &prefixes,
     };
-    worked_by(alloc, &own, seen, outside)
+    worked_by(alloc, &own, name, seen, outside)
 }
 
 /// The refusal of a text that gives more than options.
@@ -219,7 +229,7 @@ fn refused_more(alloc: Global) -> Result<Answer, AllocError>
 }
 
 /// The names of options: those of the compiler, or else the ones that are known.
-fn options_or<'a>(options: &'a Option<Word>, known: &'a [u8]) -> &'a [u8]
+fn names_or_known<'a>(options: &'a Option<Word>, known: &'a [u8]) -> &'a [u8]
     ensures { result.now ≡ unwrap_or options.now known.now }
 {
     match options {
@@ -245,7 +255,7 @@ fn answer_with<S: System>(
     let chain = &line.chain;
     let options = known_names(alloc, chain.specs.as_bytes(), outside)?;
     let named = items_names(alloc, first.items.as_slice(), outside)?;
-    let names = options_or(&options, chain.known.as_bytes());
+    let names = names_or_known(&options, chain.known.as_bytes());
     let beyond = OptionNames {
         known: names,
         named: named.as_slice(),
@@ -298,13 +308,13 @@ fn answer_of_specs<S: System>(
         items,
         from_file: first.from_file,
     };
-    let worked = self_worked(alloc, first, &seen, outside)?;
+    let worked = text_worked(alloc, b"gdrv_self", first, &seen, outside)?;
     let answer = answer_by(alloc, line, first, worked, outside)?;
     Ok(answer)
 }
 
 /// How many spec files items of the driver's line name.
-fn count_specs(alloc: Global, items: &[Item]) -> Result<usize, AllocError>
+pub(crate) fn count_specs(alloc: Global, items: &[Item]) -> Result<usize, AllocError>
     ensures { IfOk result (λ count. count ≡ length (specs_given items.now)) }
 {
     Ok(specs_given(alloc, items)?.len())

@@ -23,10 +23,14 @@ guards =
     ++ written_entry (codes "gdrv_self") (codes "/ %(self_spec)\n/ %{*}") ++ written_entry (codes "self_spec") (codes "%{-gdrv-none:}")
     ++ written_entry (codes "driver_alone") (codes "%<foffload=* %<fdump-core")
     ++ written_entry (codes "sysroot_folder") (codes "%{-gdrv-none:}") ++ written_entry (codes "multilib_folder") (codes ".")
-    ++ written_entry (codes "lto_pass_through") (codes "%(pass_link_gcc_c_sequence)")
+    ++ written_entry (codes "gdrv_pass")
+    (codes "/ %{!fsyntax-only:%{!c:%{!M:%{!MM:%{!E:%{!S:%{!nostdlib:%{!nodefaultlibs:%(link_gcc_c_sequence)}}}}}}}}\n/")
+    ++ written_entry (codes "lto_pass_through")
+    (codes "%{-gdrv-passed:%{-gdrv-pass=*:-plugin-opt=-pass-through=%*};:%(pass_link_gcc_c_sequence)}")
 
 -- What a line without the front is refused for: options that the front alone reads, two of which the last counts, and each switch that is
--- in no list. The list hides the others, so it follows all that asks for them.
+-- in no list. The list hides the others (`%<`), so it follows all that
+-- asks for them.
 unfoldable pub alone : List ℕ
 alone =
     written_entry (codes "last_one") (codes "%ewhich of two options is the last needs gdrv-cc")

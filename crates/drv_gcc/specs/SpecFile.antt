@@ -32,12 +32,12 @@ abbrev pub marked : Bool → ℕ → List ℕ
 marked plain b = if plain then b ∷ [] else byte.backslash ∷ b ∷ []
 
 -- a byte of a word in a spec text
-abbrev pub text_byte : ℕ → List ℕ
-text_byte b = marked (is_ascii_alphanumeric b || is_of (codes "_./=+,:@~-") b) b
+abbrev pub word_byte : ℕ → List ℕ
+word_byte b = marked (is_ascii_alphanumeric b || is_of (codes "_./=+,:@~-") b) b
 
 -- a word as a spec text gives it on, byte by byte
 abbrev pub spec_word : List ℕ → List ℕ
-spec_word word = flat_map text_byte word
+spec_word word = flat_map word_byte word
 
 -- a byte of a switch in a test
 abbrev pub test_byte : ℕ → List ℕ

@@ -45,7 +45,7 @@ fn add_name(names: &mut Listing<Word>, name: Word) -> Result<(), AllocError>
 }
 
 /// Adds the name that a text begins with, if it has this beginning.
-fn add_named(
+fn add_name_after(
     alloc: Global,
     beginning: &[u8],
     names: &mut Listing<Word>,
@@ -73,7 +73,7 @@ pub fn named_texts(
     let mut names = Listing::new(alloc);
     let mut left = texts;
     while let [_, rest @ ..] = left {
-        add_named(alloc, beginning, &mut names, left)?;
+        add_name_after(alloc, beginning, &mut names, left)?;
         left = rest;
     }
     Ok(names)

@@ -1,5 +1,9 @@
 //! What no dump has: how gcc compiles a source of each language, and where files go whose names the
 //! front of gdrv-cc hands on.
+//!
+//! Words --gdrv-.. are the front's: gdrv-cc(1), SWITCHES FOR SPEC TEXTS. A pattern drops their
+//! first hyphen (`%{-gdrv-base=*:..}`). docs/SPECS.md explains `%{..}` and the other directives.
+//! In a constant, `*name:` begins a text of that name, and `@name:` or `.suffix:` that of a language.
 
 ghost use Rattle.drv_gcc.specs.Fixed.{alone, commands, first_texts, guards, languages, last_texts};
 ghost use Rattle.drv_gcc.specs.Fixed.{link_guard, side_files, wrappers};
@@ -8,7 +12,7 @@ ghost use Rattle.std.specs.Prelude.{◌≡◌, ◌++◌, OnOk};
 use drv_words::Word;
 use std::alloc::AllocError;
 
-/// Texts that a dump may replace.
+/// Texts that a dump may replace. Each gives nothing: no line has --gdrv-none.
 const FIRST: &[u8] = b"\
     *distro_defaults:\n\
     %{-gdrv-none:}\n\
@@ -17,7 +21,12 @@ const FIRST: &[u8] = b"\
     %{-gdrv-none:}\n\
     \n";
 
-/// What a line is refused for: the front sees what no pattern can.
+/// What a line is refused for: the front sees what no pattern can. `refused_here` has what this spec
+/// file leaves out. `several_suffixes` refuses side files where sources that only `-x` makes sources
+/// have several suffixes. `gdrv-cc` runs two texts before a line: `gdrv_self` gives it options, and
+/// `gdrv_pass` the libraries of its link, which `lto_pass_through` passes to the linker's plugin.
+/// `driver_alone` hides switches that gcc's driver alone reads. The others give nothing, or the
+/// folder `.`, unless another text of that name follows.
 const GUARDS: &[u8] = b"\
     *several_suffixes:\n\
     %{fstack-usage|fcallgraph-info*|coverage|ftest-coverage|fprofile-*|fdump-final-insns*|gs\
@@ -45,8 +54,13 @@ const GUARDS: &[u8] = b"\
     *multilib_folder:\n\
     .\n\
     \n\
+    *gdrv_pass:\n\
+    / %{!fsyntax-only:%{!c:%{!M:%{!MM:%{!E:%{!S:%{!nostdlib:%{!nodefaultlibs:%(link_gcc_c_seq\
+    uence)}}}}}}}}\n\
+    /\n\
+    \n\
     *lto_pass_through:\n\
-    %(pass_link_gcc_c_sequence)\n\
+    %{-gdrv-passed:%{-gdrv-pass=*:-plugin-opt=-pass-through=%*};:%(pass_link_gcc_c_sequence)}\n\
     \n";
 
 /// What a line without the front is refused for: options that the front alone reads, two of which
@@ -71,7 +85,11 @@ const ALONE: &[u8] = b"\
     %<undef %<v %<w %<z* %<-param* %{*:%eunknown option}\n\
     \n";
 
-/// The names of side files.
+/// The names of side files. `dump_words`: -dumpbase-ext is the front's suffix; none, if it gave a
+/// name alone; else the input's own, or that of --gdrv-suffix=. `dependencies` is the file of -MD.
+/// `object`, `split_object`, `preprocessed`, `checked`, `assembly` and `dwo_name` are files of a
+/// compilation: by -o, by what -save-temps keeps (--gdrv-aux=, or --gdrv-dir= before the input's
+/// name), or temporaries.
 const SIDE_FILES: &[u8] = b"\
     *dump_words:\n\
     %{-gdrv-dir=*:-dumpdir %*} %{-gdrv-base=*:-dumpbase %*;:-dumpbase %B} %{-gdrv-ext=*:-dum\
@@ -101,7 +119,8 @@ const SIDE_FILES: &[u8] = b"\
     %{-gdrv-aux=*:%*.dwo;-gdrv-dir=*:%*%b.dwo;:%b.dwo}\n\
     \n";
 
-/// The words of `-wrapper`.
+/// The words of `-wrapper`: `wrapper` before a first command, and `later_wrapper` before a second one,
+/// unless a pipe feeds it. `wrapped` lets a program behind them be looked for as a file (`%s`).
 const WRAPPERS: &[u8] = b"\
     *wrapper:\n\
     %{-gdrv-wrapper=*:%* }\n\
@@ -113,7 +132,8 @@ const WRAPPERS: &[u8] = b"\
     %{-gdrv-wrapper=*:%s}\n\
     \n";
 
-/// How a source is compiled, and its assembly assembled.
+/// How a source is compiled (`compile`: by one program, or after a preprocessor of its own), and its
+/// assembly assembled (`invoke_as`: from a file that -save-temps keeps, or else a pipe or temporary).
 const COMMANDS: &[u8] = b"\
     *invoke_as:\n\
     %{!fwpa*:%{S:;save-temps*:-o %(assembly)\n \
@@ -128,7 +148,7 @@ const COMMANDS: &[u8] = b"\
     %(cpp_unique_options) %(cc1_options) %(distro_defaults)}\n\
     \n";
 
-/// The languages.
+/// The languages: what is run for a source of each.
 const LANGUAGES: &[u8] = b"\
     @c:\n\
     %(driver_alone) %{E|M|MM:%(trad_capable_cpp) %(cpp_options) %(cpp_debug_options) %V;:%(c\

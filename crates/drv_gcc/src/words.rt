@@ -2,7 +2,7 @@
 
 ghost use Rattle.drv_dump.specs.Dumps.{written_entry};
 ghost use Rattle.drv_gcc.specs.SpecFile.{is_of, marked, or_nothing, spec_word, test_byte, test_word};
-ghost use Rattle.drv_gcc.specs.SpecFile.{text_byte, then_blank};
+ghost use Rattle.drv_gcc.specs.SpecFile.{then_blank, word_byte};
 ghost use Rattle.std.specs.Prelude.{◌≡◌, ◌++◌, OnOk};
 
 use drv_words::Word;
@@ -19,8 +19,8 @@ fn push_marked(text: &mut Word, is_plain: bool, byte: u8) -> Result<(), AllocErr
 }
 
 /// Adds a byte of a word.
-fn push_text_byte(text: &mut Word, byte: u8) -> Result<(), AllocError>
-    ensures { OnOk result (text.new ≡ text.old ++ text_byte byte) }
+fn push_word_byte(text: &mut Word, byte: u8) -> Result<(), AllocError>
+    ensures { OnOk result (text.new ≡ text.old ++ word_byte byte) }
 {
     let is_plain = byte.is_ascii_alphanumeric()
         || matches!(
@@ -35,7 +35,7 @@ pub(crate) fn push_word(text: &mut Word, word: &[u8]) -> Result<(), AllocError>
     ensures { OnOk result (text.new ≡ text.old ++ spec_word word.now) }
 {
     for byte in word {
-        push_text_byte(text, *byte)?;
+        push_word_byte(text, *byte)?;
     }
     Ok(())
 }

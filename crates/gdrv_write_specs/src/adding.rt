@@ -43,7 +43,7 @@ fn lines_of(rt: &HostRuntime, path: &Word) -> Result<Listing<Word>, Fault> {
 }
 
 /// A text of lines.
-fn text_of(alloc: Global, lines: &[Word]) -> Result<Word, Fault> {
+fn joined_lines(alloc: Global, lines: &[Word]) -> Result<Word, Fault> {
     let mut whole = Word::empty(alloc);
     for line in lines {
         whole.extend_from_slice(line.as_bytes())?;
@@ -100,11 +100,11 @@ fn put_row(
 ) -> Result<(), Fault> {
     let alloc = rt.alloc();
     let others = other_lines(alloc, lines, &row.key)?;
-    let mut whole = text_of(alloc, others.as_slice())?;
+    let mut whole = joined_lines(alloc, others.as_slice())?;
     push_row(&mut whole, row)?;
     work.put(rt, b".gcc", &whole)?;
     let options = lines_of(rt, &join(alloc, stem, b".options")?)?;
-    let mut names = text_of(alloc, options.as_slice())?;
+    let mut names = joined_lines(alloc, options.as_slice())?;
     push_names(&mut names, row)?;
     work.put(rt, b".options", &sort_lines(alloc, &names)?)
 }
@@ -113,7 +113,7 @@ fn put_row(
 fn tried_row(pair: Pair<'_>, stem: &Word, lines: &[Word], key: &Word) -> Result<Row, Fault> {
     let Pair { rt, work, .. } = pair;
     copy_files(rt, work, stem)?;
-    let whole = text_of(rt.alloc(), lines)?;
+    let whole = joined_lines(rt.alloc(), lines)?;
     let folders = values(rt.alloc(), b"folder ", whole.as_bytes())?;
     let naming = naming_in(rt.alloc(), whole.as_bytes())?;
     let row = row_for(pair, folders.as_slice(), naming, key)?;
@@ -134,7 +134,7 @@ fn add_in(pair: Pair<'_>, stem: &Word, lines: &[Word], key: &Word) -> Result<(),
 
 /// The gcc of a file that names one and has rows.
 fn gcc_with_rows(alloc: Global, path: &Word, lines: &[Word]) -> Result<Word, Fault> {
-    let whole = text_of(alloc, lines)?;
+    let whole = joined_lines(alloc, lines)?;
     let gccs = values(alloc, b"compiler ", whole.as_bytes())?;
     let rows = values(alloc, b"machine", whole.as_bytes())?;
     match (gccs.as_slice(), rows.as_slice()) {
@@ -162,7 +162,7 @@ fn question_of(rt: &HostRuntime, specs: &Word, options: &[Word]) -> Result<Quest
     let path = join(rt.alloc(), &stem, b".gcc")?;
     let lines = lines_of(rt, &path)?;
     let gcc = gcc_with_rows(rt.alloc(), &path, lines.as_slice())?;
-    let whole = text_of(rt.alloc(), lines.as_slice())?;
+    let whole = joined_lines(rt.alloc(), lines.as_slice())?;
     let key = key_by(rt.alloc(), whole.as_bytes(), options)?;
     Ok(Question {
         stem,
@@ -182,7 +182,7 @@ pub fn add_words(rt: &HostRuntime, specs: &Word, options: &[Word]) -> Result<(),
         key,
     } = question_of(rt, specs, options)?;
     try_place(rt, &stem)?;
-    remove_left(rt)?;
+    remove_left(rt, &stem)?;
     let work = WorkFolder::new(rt, &driver_at(rt)?)?;
     let pair = Pair {
         rt,

@@ -144,7 +144,7 @@ impl<'a> Asked<'a> {
     }
 
     /// Adds a text of devices to a dump, and the probe that shows what it is for a line's device.
-    fn add_text(
+    fn add_device_text(
         self,
         name: &Word,
         texts: &mut Word,
@@ -166,7 +166,7 @@ impl<'a> Asked<'a> {
         }
         let mut texts = guard(self.alloc(), dump)?;
         for name in self.texts_in(&folder)?.as_slice() {
-            self.add_text(name, &mut texts, probes)?;
+            self.add_device_text(name, &mut texts, probes)?;
         }
         Ok(texts)
     }

@@ -1,4 +1,7 @@
 //! The parts of a spec file, which gdrv-cc reads in its place for most lines.
+//!
+//! Words -gdrv-.. are the front's switches, as patterns name them: gdrv-cc(1), SWITCHES FOR SPEC
+//! TEXTS. docs/SPECS.md explains `%{..}`.
 
 use crate::asking::question_about;
 use crate::fault::Fault;
@@ -30,7 +33,7 @@ struct Entry {
     is_reached: bool,
     /// Whether its uses of others were counted.
     is_counted: bool,
-    /// Whether others replace their names in it.
+    /// Whether it is final: the texts that it names are put in it, or it is left as it is.
     is_grown: bool,
     naming: Naming,
     /// Its name in the shorter file, if it is long and used often.
@@ -51,12 +54,13 @@ pub struct Part {
     lacks: &'static [&'static [u8]],
 }
 
+/// The text of the link, and those of all languages.
 const ALL: &[u8] = b"link_command .h @c @cpp-output @assembler-with-cpp @assembler @c-header";
 
 /// Switches for which gdrv-cc reads the whole file, that it refuses, or that no line has.
 const RARE: &[u8] = b"march=native mtune=native save-temps* gsplit-dwarf traditional \
     traditional-cpp no-integrated-cpp m32 mx32 m16 gz=none gz=zlib gz=zstd gz=zlib-gnu -gdrv-none \
-    -gdrv-path=* -gdrv-wrapper=* -gdrv-wrapper= mmusl muclibc mbionic mandroid -help -target-help -version -help=* \
+    -gdrv-path=* -gdrv-wrapper=* -gdrv-wrapper= -gdrv-passed mmusl muclibc mbionic mandroid -help -target-help -version -help=* \
     fvtable-verify=none fvtable-verify=preinit fvtable-verify=std";
 
 /// Switches without which a line may link.

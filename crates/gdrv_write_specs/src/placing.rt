@@ -413,7 +413,7 @@ fn put_with_rows(pair: Pair<'_>, order: &Order) -> Result<(), Fault> {
 
 /// Makes the files of a gcc, and tries them. If the texts alone give other plans, or devices have
 /// spec files, rows do the work.
-fn put_all(pair: Pair<'_>, order: &Order) -> Result<(), Fault> {
+fn put_whole(pair: Pair<'_>, order: &Order) -> Result<(), Fault> {
     if has_devices(pair)? {
         return put_with_rows(pair, order);
     }
@@ -427,7 +427,7 @@ fn put_all(pair: Pair<'_>, order: &Order) -> Result<(), Fault> {
 
 /// Makes the files of a gcc in a folder of work, tries them, and puts them in place.
 fn write_in(pair: Pair<'_>, order: &Order, stem: &Word) -> Result<(), Fault> {
-    put_all(pair, order)?;
+    put_whole(pair, order)?;
     pair.work.place(pair.rt, stem)
 }
 
@@ -447,7 +447,7 @@ pub fn write_file(rt: &HostRuntime, order: &Order) -> Result<(), Fault> {
     };
     let stem = stem_of(rt, &order.output)?;
     try_place(rt, &stem)?;
-    remove_left(rt)?;
+    remove_left(rt, &stem)?;
     let work = WorkFolder::new(rt, &driver_at(rt)?)?;
     let pair = Pair {
         rt,

@@ -226,7 +226,7 @@ fn values_named(asked: Asked<'_>, name: &[u8]) -> Result<Listing<Word>, Fault> {
     let said = asked.ask(question_about(alloc, question.as_bytes(), b"?")?.as_bytes())?;
     let mut found = Listing::new(alloc);
     for line in values(alloc, b"", said.err.as_bytes())?.as_slice() {
-        if let Some(list) = named_in(line.as_bytes()) {
+        if let Some(list) = values_in(line.as_bytes()) {
             found = split(alloc, list)?;
         }
     }
@@ -234,7 +234,7 @@ fn values_named(asked: Asked<'_>, name: &[u8]) -> Result<Listing<Word>, Fault> {
 }
 
 /// The list of values in a line of gcc's, if it has one: up to a semicolon.
-fn named_in(line: &[u8]) -> Option<&[u8]> {
+fn values_in(line: &[u8]) -> Option<&[u8]> {
     let mut parts = line.splitn(2, |byte| *byte == b';');
     let first = parts.next()?;
     let at = place_after(first, b" note: valid arguments are: ")?;

@@ -1,16 +1,12 @@
-//! Folders of work among the temporary files.
+//! Folders of work, and files beside a spec file: each has its process's number in its name.
 
 use crate::asking::text;
 use crate::fault::Fault;
 use crate::work_folder::{absolute, join};
-use drv_words::{Listing, Word};
+use drv_words::{Listing, Word, split_at_last};
 use itoa::Buffer;
-use std::alloc::Global;
 use std::env::var;
 use std::{fs, process};
-
-/// How the name of a folder of work begins. The number of its process is the rest.
-const NAME: &[u8] = b".gdrv-write-specs.";
 
 /// The folder of temporary files.
 fn temporary_folder(rt: &HostRuntime) -> Result<Word, Fault> {
@@ -21,12 +17,34 @@ fn temporary_folder(rt: &HostRuntime) -> Result<Word, Fault> {
     absolute(rt, &join(rt.alloc(), &folder, b"/")?)
 }
 
-/// The place of the folder of work of this process.
-pub fn work_path(rt: &HostRuntime) -> Result<Word, Fault> {
-    let mut path = join(rt.alloc(), &temporary_folder(rt)?, NAME)?;
+/// How the paths of folders of work begin. The number of a process is the rest.
+fn work_start(rt: &HostRuntime) -> Result<Word, Fault> {
+    join(rt.alloc(), &temporary_folder(rt)?, b".gdrv-write-specs.")
+}
+
+/// How the paths of files that are renamed to those of a spec file begin. The number of a process
+/// is the rest, and `stem` is the spec file without its ending.
+fn new_start(rt: &HostRuntime, stem: &Word) -> Result<Word, Fault> {
+    join(rt.alloc(), stem, b".new.")
+}
+
+/// A path with the number of this process after it.
+fn with_number(rt: &HostRuntime, start: Word) -> Result<Word, Fault> {
+    let mut path = start;
     let number = process::id(rt.process());
     path.extend_from_slice(Buffer::new().format(number).as_bytes())?;
     Ok(path)
+}
+
+/// The place of the folder of work of this process.
+pub fn work_path(rt: &HostRuntime) -> Result<Word, Fault> {
+    with_number(rt, work_start(rt)?)
+}
+
+/// The file that this process writes and then renames to one of a spec file. `stem` is the spec
+/// file without its ending.
+pub fn new_path(rt: &HostRuntime, stem: &Word) -> Result<Word, Fault> {
+    with_number(rt, new_start(rt, stem)?)
 }
 
 /// Whether a process of this number runs. Without the system's list of processes each could.
@@ -39,34 +57,42 @@ fn is_running(rt: &HostRuntime, number: &[u8]) -> Result<bool, Fault> {
     Ok(fs::exists(rt, text(path.as_bytes())?)? || !fs::exists(rt, "/proc/self")?)
 }
 
-/// The numbers in the names of the folders of work that are in a folder.
-fn numbers_in(rt: &HostRuntime, folder: &Word) -> Result<Listing<Word>, Fault> {
-    let mut numbers = Listing::new(rt.alloc());
-    for entry in fs::read_dir(rt, text(folder.as_bytes())?)? {
+/// The number of a killed process, if this name is one of its own.
+fn left_number<'a>(
+    rt: &HostRuntime,
+    name: &'a [u8],
+    start: &[u8],
+) -> Result<Option<&'a [u8]>, Fault> {
+    let Some(number) = name.strip_prefix(start) else {
+        return Ok(None);
+    };
+    let is_left = number.iter().all(|byte| byte.is_ascii_digit()) && !is_running(rt, number)?;
+    Ok(if is_left { Some(number) } else { None })
+}
+
+/// What killed processes left at paths that begin so.
+fn paths_left(rt: &HostRuntime, start: &Word) -> Result<Listing<Word>, Fault> {
+    let mut paths = Listing::new(rt.alloc());
+    let Some((folder, name)) = split_at_last(b'/', start.as_bytes()) else {
+        return Ok(paths);
+    };
+    for entry in fs::read_dir(rt, text(folder)?)? {
         let found = entry?;
-        if let Some(number) = found.file_name().as_bytes().strip_prefix(NAME) {
-            if number.iter().all(|byte| byte.is_ascii_digit()) {
-                numbers.push(Word::from_bytes(rt.alloc(), number)?)?;
-            }
+        if let Some(number) = left_number(rt, found.file_name().as_bytes(), name)? {
+            paths.push(join(rt.alloc(), start, number)?)?;
         }
     }
-    Ok(numbers)
+    Ok(paths)
 }
 
-/// The folder of work of the process of this number.
-fn work_of(alloc: Global, folder: &Word, number: &Word) -> Result<Word, Fault> {
-    let start = join(alloc, folder, NAME)?;
-    join(alloc, &start, number.as_bytes())
-}
-
-/// Removes the folders of work of killed processes.
-pub fn remove_left(rt: &HostRuntime) -> Result<(), Fault> {
-    let folder = temporary_folder(rt)?;
-    for number in numbers_in(rt, &folder)?.as_slice() {
-        if !is_running(rt, number.as_bytes())? {
-            let left = work_of(rt.alloc(), &folder, number)?;
-            let _ = fs::remove_dir_all(rt, text(left.as_bytes())?);
-        }
+/// Removes what killed processes left: their folders of work, and their files beside this spec
+/// file. `stem` is the spec file without its ending.
+pub fn remove_left(rt: &HostRuntime, stem: &Word) -> Result<(), Fault> {
+    for folder in paths_left(rt, &work_start(rt)?)?.as_slice() {
+        let _ = fs::remove_dir_all(rt, text(folder.as_bytes())?);
+    }
+    for file in paths_left(rt, &new_start(rt, stem)?)?.as_slice() {
+        let _ = fs::remove_file(rt, text(file.as_bytes())?);
     }
     Ok(())
 }

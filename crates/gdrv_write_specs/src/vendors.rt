@@ -7,8 +7,8 @@ use crate::fault::Fault;
 use crate::finding::{has_bytes, has_word};
 use crate::gluing::unglue;
 use crate::names::sort_lines;
-use drv_dump::{Kind, pass_libraries, read_text, translate_vendors};
-use drv_gcc::{replace, values};
+use drv_dump::{Kind, read_text, translate_vendors};
+use drv_gcc::values;
 use drv_words::{Listing, Word};
 use std::alloc::Global;
 use std::fs;
@@ -27,19 +27,13 @@ pub struct VendorsFile {
     pub options: Listing<Word>,
 }
 
-/// A text of a vendor's file that is read.
-#[derive(Drop)]
-struct Open {
-    name: Word,
-    body: Word,
-}
-
 /// A file that is translated line by line.
 #[derive(Drop)]
 struct Translating {
     content: Word,
     options: Listing<Word>,
-    open: Option<Open>,
+    /// The body of the text that is read, if one is.
+    open: Option<Word>,
     is_lost: bool,
 }
 
@@ -93,27 +87,6 @@ fn translate(alloc: Global, body: &[u8]) -> Result<Option<Word>, Fault> {
     }
 }
 
-/// Whether a text names the libraries of a link.
-fn names_libraries(name: &[u8]) -> bool {
-    name == b"*link_gcc_c_sequence".as_slice() || name.starts_with(b"*lib")
-}
-
-/// The copy of a text for the linker's plugin. A library may be named by the rest of a switch.
-fn passed_text(alloc: Global, name: &[u8], body: &[u8]) -> Result<Word, Fault> {
-    let mut dump = question_about(alloc, name, b":\n")?;
-    dump.extend_from_slice(body)?;
-    dump.extend_from_slice(b"\n\n")?;
-    match pass_libraries(alloc, dump.as_bytes()) {
-        Ok(passed) => Ok(replace(
-            alloc,
-            passed.as_bytes(),
-            b"-pass-through=-l}",
-            b"-pass-through=-l%*}",
-        )?),
-        Err(_) => Ok(Word::empty(alloc)),
-    }
-}
-
 /// Adds a line to a body.
 fn add_body_line(body: &mut Word, line: &[u8]) -> Result<(), Fault> {
     if !body.is_empty() {
@@ -140,27 +113,19 @@ impl Translating {
     }
 
     /// Adds a text that was read.
-    fn push_text(&mut self, alloc: Global, it: &Open) -> Result<(), Fault> {
-        let (name, body) = (it.name.as_bytes(), it.body.as_bytes());
+    fn push_text(&mut self, alloc: Global, body: &[u8]) -> Result<(), Fault> {
         add_options(alloc, body, &mut self.options)?;
         let Some(words) = translate(alloc, body)? else {
             self.is_lost = true;
             return Ok(());
         };
-        self.push_line(words.as_bytes())?;
-        if names_libraries(name) {
-            self.is_lost = self.is_lost || body.starts_with(b"+");
-            let passed = passed_text(alloc, name, words.as_bytes())?;
-            self.push_line(b"")?;
-            self.content.extend_from_slice(passed.as_bytes())?;
-        }
-        Ok(())
+        self.push_line(words.as_bytes())
     }
 
     /// Ends the text that is open.
     fn end_text(&mut self, alloc: Global) -> Result<(), Fault> {
-        if let Some(it) = self.open.take() {
-            self.push_text(alloc, &it)?;
+        if let Some(body) = self.open.take() {
+            self.push_text(alloc, body.as_bytes())?;
         }
         Ok(())
     }
@@ -168,11 +133,8 @@ impl Translating {
     /// Reads a line that is in no text.
     fn read_other(&mut self, alloc: Global, line: &[u8]) -> Result<(), Fault> {
         self.is_lost = self.is_lost || is_whole_text(line);
-        if let Some(name) = name_of(line) {
-            self.open = Some(Open {
-                name: Word::from_bytes(alloc, name)?,
-                body: Word::empty(alloc),
-            });
+        if name_of(line).is_some() {
+            self.open = Some(Word::empty(alloc));
         }
         self.push_line(line)
     }
@@ -183,8 +145,8 @@ impl Translating {
             self.end_text(alloc)?;
             return self.push_line(b"");
         }
-        if let Some(it) = &mut self.open {
-            return add_body_line(&mut it.body, line);
+        if let Some(body) = &mut self.open {
+            return add_body_line(body, line);
         }
         self.read_other(alloc, line)
     }
@@ -277,7 +239,7 @@ impl<'a> Pair<'a> {
     }
 
     /// Whether a link with a spec file of this name and one of these options has another plan.
-    fn is_link_other(self, name: &Word, options: &[Word]) -> Result<bool, Fault> {
+    fn is_any_link_other(self, name: &Word, options: &[Word]) -> Result<bool, Fault> {
         for option in options {
             if self.is_other_with(LINKED, name, option)? {
                 return Ok(true);
@@ -295,8 +257,8 @@ impl<'a> Pair<'a> {
             }
         }
         Ok(
-            self.is_link_other(&copy.name, copy.options.as_slice())?
-                || self.is_link_other(&copy.name, keys)?,
+            self.is_any_link_other(&copy.name, copy.options.as_slice())?
+                || self.is_any_link_other(&copy.name, keys)?,
         )
     }
 }

@@ -4,7 +4,7 @@ use crate::asking::{question_about, text};
 use crate::fault::Fault;
 use crate::gathering::PROBE;
 use crate::programs::is_folder;
-use crate::temporary::work_path;
+use crate::temporary::{new_path, work_path};
 use crate::vendors::{COPIES, VendorsFile};
 use drv_gcc::with_mark;
 use drv_words::Word;
@@ -86,7 +86,7 @@ pub fn make_all(rt: &HostRuntime, path: &[u8]) -> Result<(), Fault> {
 
 /// Writes a file beside its place, and renames it. `stem` is the spec file without its ending.
 fn put_in_place(rt: &HostRuntime, stem: &Word, to: &Word, content: &[u8]) -> Result<(), Fault> {
-    let new = join(rt.alloc(), stem, b".new")?;
+    let new = new_path(rt, stem)?;
     let (from, path) = (text(new.as_bytes())?, text(to.as_bytes())?);
     let is_done = fs::write(rt, from, content).is_ok() && fs::rename(rt, from, path).is_ok();
     if is_done {
@@ -98,7 +98,7 @@ fn put_in_place(rt: &HostRuntime, stem: &Word, to: &Word, content: &[u8]) -> Res
 
 /// Whether files can be put in place: one is made there, and removed.
 pub fn try_place(rt: &HostRuntime, stem: &Word) -> Result<(), Fault> {
-    let new = join(rt.alloc(), stem, b".new")?;
+    let new = new_path(rt, stem)?;
     let path = text(new.as_bytes())?;
     if fs::write(rt, path, b"").is_err() {
         return Err(Fault::NoPlace(join(rt.alloc(), stem, b".specs")?));

@@ -1,25 +1,25 @@
-use Rattle.drv_compile.proofs.DriverCalls.{undriven_texts, worker_at_once, worker_later}
-use Rattle.drv_compile.proofs.Noting.{noted_as, noted_then}
+use Rattle.drv_compile.proofs.DriverCalls.{undriven_line, worker_compiles, worker_drives}
+use Rattle.drv_compile.proofs.Noting.{noted_as}
 use Rattle.drv_compile.proofs.driving.worker_of.Goals as goal
-use Rattle.drv_system.proofs.AskedCalls.{asked_further, extends_before}
+use Rattle.drv_system.proofs.AskedCalls.{extends_before}
 
--- worker_of (src/driving.rt). Who carries out a line, with the options that its spec files give it.
+-- worker_of (src/driving.rt). Who carries out a line, with the options and libraries that its spec files give it.
 
-pub returns-in_err-first-clause-drives : goal.returns-in_err-first-clause-drives
-returns-in_err-first-clause-drives g c =
-    noted_as _ _ _ _ (λ events tells F e. undriven_texts F c.args.line.now c.args.call events _ c.from_residual.result
-    c.from_residual.ensures.1 (tells F e)) c.in_err-first.ensures.calls
+-- Names: `noted_as`: what was noted, said in other words. `undriven_line`: `worker_of` refuses a line that no driver takes.
+-- `worker_compiles`: `worker_of` leaves to the compiler what the driver doesn't carry out.
 
-pub returns-in-Driver-clause-asks : goal.returns-in-Driver-clause-asks
-returns-in-Driver-clause-asks g c = asked_further c.driver_of_call.ensures.asks c.worker_after.ensures.asks
+pub returns-in_err-driven-clause-drives : goal.returns-in_err-driven-clause-drives
+returns-in_err-driven-clause-drives g c =
+    noted_as _ _ _ _ (λ events tells F e. undriven_line F c.args.line.now c.args.call events _ c.from_residual.result
+    c.from_residual.ensures.1 (tells F e)) c.in_err-driven.ensures.drives
 
-pub returns-in-Driver-clause-drives : goal.returns-in-Driver-clause-drives
-returns-in-Driver-clause-drives g c =
-    noted_then _ _ _ _ _ _ (λ events more called gives F e. worker_later F c.args.line.now c.args.call events more _ c.in-Driver.first
-    c.worker_after.result (called F (extends_before c.worker_after.ensures.asks e)) c.in-Driver.is (gives F e))
-    c.in_ok-first.ensures.calls c.worker_after.ensures.drives
+pub returns-in_ok-passed-in-Driver-clause-drives : goal.returns-in_ok-passed-in-Driver-clause-drives
+returns-in_ok-passed-in-Driver-clause-drives g c =
+    noted_as _ _ _ _ (λ events chosen F e. worker_drives F c.args.line.now c.args.call events _ c.in-Driver.driven
+    c.in_ok-passed-in-Driver.passed (chosen F (extends_before c.with_libraries.ensures.asks e)) c.in-Driver.is
+    (c.in_ok-passed-in-Driver.ensures.passes F e)) c.in_ok-driven.ensures.drives
 
 pub returns-in-Compiler-clause-drives : goal.returns-in-Compiler-clause-drives
 returns-in-Compiler-clause-drives g c =
-    noted_as _ _ _ _ (λ events called F e. worker_at_once F c.args.line.now c.args.call events _ c.in-Compiler.options
-    (called F e) c.in-Compiler.is) c.in_ok-first.ensures.calls
+    noted_as _ _ _ _ (λ events chosen F e. worker_compiles F c.args.line.now c.args.call events _ c.in-Compiler.options
+    (chosen F e) c.in-Compiler.is) c.in_ok-driven.ensures.drives

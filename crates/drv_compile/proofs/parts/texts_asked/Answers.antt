@@ -1,14 +1,17 @@
 use Rattle.drv_compile.proofs.Decided.{texts_found}
 use Rattle.drv_compile.proofs.parts.texts_asked.Goals as goal
-use Rattle.drv_compile.specs.Places.{texts_or}
+use Rattle.drv_compile.specs.Places.{part_or_whole}
 use Rattle.drv_system.proofs.AskedCalls.{extends_before}
 use Rattle.std.proofs.Common.{◌∙◌, ap}
 
 -- texts_asked (src/parts.rt). The file that has the texts for a line with these items and stages: the spec file, or a part of it beside it.
 
+-- Names: `texts_found`: `texts_asked` asks whether the part for a line is there. `extends_before`: what extends the facts after a call
+-- extends those before it.
+
 pub returns-clause-texts : goal.returns-clause-texts
 returns-clause-texts g c F e =
     texts_found F c.args.specs.now c.args.items.now c.args.stages c.in_ok-part.part c.in_ok-path.path c.in_ok-kind.kind c.texts_at.result
     c.in_ok-part.ensures ((extends_before c.texts_at.ensures.asks e).kinds c.in_ok-part.part c.in_ok-kind.kind c.in_ok-kind.ensures.known)
-    (c.in_ok-path.ensures ∙ c.texts_or.ensures ∙ ap (λ p. texts_or c.args.specs.now p c.in_ok-kind.kind) c.as_bytes.ensures)
+    (c.in_ok-path.ensures ∙ c.part_or_whole.ensures ∙ ap (λ p. part_or_whole c.args.specs.now p c.in_ok-kind.kind) c.as_bytes.ensures)
     (c.texts_at.ensures.texts F e)

@@ -3,16 +3,16 @@ use Rattle.drv_compile.proofs.self_specs.worked_by.Goals as goal
 use Rattle.drv_compile.specs.Runs.{line_given}
 use Rattle.drv_compile.specs.SelfSpecs.{worked_by, worked_for}
 use Rattle.drv_specs.specs.Sets.{text_of}
-use Rattle.std.proofs.Common.{codes}
 
--- worked_by (src/self_specs.rt). What specs give a line whose switches these are.
+-- worked_by (src/self_specs.rt). What a text of specs of this name gives a line whose switches these are.
 
+-- The set has the text, so its work is that for this text (`text_there`).
 pub returns-in-Some-clause-works : goal.returns-in-Some-clause-works
 returns-in-Some-clause-works g c F e known =
     alike _ c.worked_for.result (worked_for F c.args.own.now.settings.now c.args.own.now.set.now c.in-Some.text.now
     (line_given c.args.seen.now))
     (worked_by F c.args.own.now.settings.now c.args.own.now.set.now (line_given c.args.seen.now)
-    (text_of c.args.own.now.set.now (codes "gdrv_self")))
+    (text_of c.args.own.now.set.now c.args.name.now))
     (text_there _ c.tree.result c.in-Some.text F c.args.own.now.settings.now c.args.own.now.set.now
     (line_given c.args.seen.now) _ c.tree.ensures c.in-Some.is)
     (c.worked_for.ensures.works F e known)
