@@ -10,9 +10,9 @@ use Rattle.drv_compile.proofs.Worded.{stop_stays, told_as}
 use Rattle.drv_compile.specs.Code.Refusing.{IsEndSaid}
 use Rattle.drv_compile.specs.Compilers.{values}
 use Rattle.drv_compile.specs.Driven.{IsCalled, IsChosen, IsDenied, IsMachined, IsMade, IsUnanswered, IsUncalled, IsUndrivenAfter, IsWorker}
-use Rattle.drv_compile.specs.Driven.{IsWorkerAfter, Passes, Replaces, Undriven, answer_of, asks, at_once, compiles, denied, driver_items}
+use Rattle.drv_compile.specs.Driven.{IsWorkerAfter, Passes, Replaces, Undriven, answer_of, asks, at_once, denied, driver_items}
 use Rattle.drv_compile.specs.Driven.{driver_line, drives, in_place, later, not_answered, not_whole, refuses, rows_of, runs, stays, unchanged}
-use Rattle.drv_compile.specs.Driven.{uncalled, uncalled_after, undriven_after}
+use Rattle.drv_compile.specs.Driven.{uncalled, uncalled_after, undriven_after, unworded}
 use Rattle.drv_compile.specs.Inputs.{Noted}
 use Rattle.drv_compile.specs.Machines.{RowAsked, items_by, row_of}
 use Rattle.drv_compile.specs.Near.{AreTold}
@@ -22,7 +22,7 @@ use Rattle.drv_compile.specs.Tasks.{IfTold}
 use Rattle.drv_compile.specs.Texts.{damaged_text}
 use Rattle.drv_compile.specs.declared.driving.Driven.{Driven}
 use Rattle.drv_compile.specs.declared.driving.LineFiles.{LineFiles}
-use Rattle.drv_compile.specs.declared.driving.Worker.TheVariants.{Compiler, Driver}
+use Rattle.drv_compile.specs.declared.driving.Worker.TheVariants.{Driver, Nobody}
 use Rattle.drv_compile.specs.declared.driving.Worker.{Worker}
 use Rattle.drv_compile.specs.declared.host.HostEvent.{HostEvent}
 use Rattle.drv_compile.specs.declared.machines.LineRow.{LineRow}
@@ -91,7 +91,7 @@ made_driver path rows given made items suffixed all children driven is suffixed_
 made_alike : (path : List ℕ) (text rows : Option (List ℕ)) (given : Expanded) (made made' : MachineItems) (worker : Worker)
     → made ≡ made' → ((items : List Item) → suffixed_by text items ≡ suffixed_by rows items)
     → IsMade path text made given worker → IsMade path rows made' given worker
-made_alike path text rows given made made' (Compiler options) same suffix is = sym same ∙ is
+made_alike path text rows given made made' (Nobody options) same suffix is = sym same ∙ is
 made_alike path text rows given made made' (Driver driven) same suffix (items, children, is, driven_is) = (
   items,
   children,
@@ -252,14 +252,14 @@ worker_later F line call events more worker first (Err stop) called is tells =
     (Undriven F line.request.now.calling.now line.chain call line.given (events ++ more))
     (λ text un. undriven_after (subst (λ w. IsCalled F line.chain.specs call line.given events w) is called) un) tells
 
--- For `chosen_worker`: if no row has the words for the line's machine, then the compiler is chosen at once.
+-- For `chosen_worker`: if no row has the words for the line's machine, then nobody is chosen at once.
 pub worker_at_once : (F : Facts) (line : GccLine) (call : Call) (events : List HostEvent) (worker : Worker) (options : List ℕ)
-    → IsCalled F line.chain.specs call line.given events worker → worker ≡ Compiler options
-    → IsChosen F line.chain call line.given events (Compiler options)
+    → IsCalled F line.chain.specs call line.given events worker → worker ≡ Nobody options
+    → IsChosen F line.chain call line.given events (Nobody options)
 worker_at_once F line call events worker options called is =
     at_once (subst (λ w. IsCalled F line.chain.specs call line.given events w) is called)
 
--- For `worker_of`: if nobody is chosen to carry the line out, then nobody does, for the same reason.
+-- For `worker_of`: if the line can't be called, then nobody carries it out, for the same reason.
 pub undriven_line : (F : Facts) (line : GccLine) (call : Call) (events : List HostEvent) (stop : Stop) (result : Result Worker Stop)
     → IsErrAnd result (λ s. s ≡ stop) → IfTold stop (Undriven F line.request.now.calling.now line.chain call line.given events)
     → MatchResult result (λ worker. IsWorker F line.chain call line.given events worker)
@@ -275,9 +275,9 @@ pub worker_drives : (F : Facts) (line : GccLine) (call : Call) (events : List Ho
 worker_drives F line call events worker driven made chosen is passes =
     drives (subst (IsChosen F line.chain call line.given events) is chosen) passes
 
--- For `worker_of`: if the compiler is chosen, then it carries the line out.
-pub worker_compiles : (F : Facts) (line : GccLine) (call : Call) (events : List HostEvent) (worker : Worker) (options : List ℕ)
-    → IsChosen F line.chain call line.given events worker → worker ≡ Compiler options
-    → IsWorker F line.chain call line.given events (Compiler options)
-worker_compiles F line call events worker options chosen is =
-    compiles (subst (IsChosen F line.chain call line.given events) is chosen)
+-- For `worker_of`: if nobody is chosen, as no row has the words for the line's machine, then nobody carries it out.
+pub worker_unworded : (F : Facts) (line : GccLine) (call : Call) (events : List HostEvent) (worker : Worker) (options : List ℕ)
+    → IsChosen F line.chain call line.given events worker → worker ≡ Nobody options
+    → IsWorker F line.chain call line.given events (Nobody options)
+worker_unworded F line call events worker options chosen is =
+    unworded (subst (IsChosen F line.chain call line.given events) is chosen)

@@ -5,21 +5,21 @@ use Rattle.drv_cc.specs.declared.answer.Variable.{Variable}
 use Rattle.drv_compile.proofs.Noting.{noted_then}
 use Rattle.drv_compile.proofs.Worded.{stop_stays, told_as}
 use Rattle.drv_compile.specs.Code.Preparing.{IsDone, IsFailure, IsOverwriting, IsPrepared, IsQuestion, IsUndone, IsUnplanned}
-use Rattle.drv_compile.specs.Compiles.{Comes, IsPlanned, Refuses, asks, declines, drives, fails, handed_on, hands_on}
-use Rattle.drv_compile.specs.Compiles.{no_words, objected, overwriting, performs, stopped, undriven}
+use Rattle.drv_compile.specs.Compiles.{Comes, IsPlanned, Refuses, asks, declines, drives, fails}
+use Rattle.drv_compile.specs.Compiles.{no_words, objected, overwriting, performs, stopped, undriven, unworded}
 use Rattle.drv_compile.specs.Decides.{decide}
 use Rattle.drv_compile.specs.Driven.{IsWorker, Undriven}
 use Rattle.drv_compile.specs.Inputs.{IsRead, Noted, Overwrites, file_of, new_output, no_output, objection, old_output}
 use Rattle.drv_compile.specs.Opening.{opening}
 use Rattle.drv_compile.specs.Runs.{Works}
 use Rattle.drv_compile.specs.Tasks.{Declines, IfTold, Leads}
-use Rattle.drv_compile.specs.Texts.{gone_text, overwritten_text}
+use Rattle.drv_compile.specs.Texts.{gone_text, overwritten_text, unworded_text}
 use Rattle.drv_compile.specs.Words.{RefusesWords, Words}
 use Rattle.drv_compile.specs.Wrapper.{wrapper_of}
 use Rattle.drv_compile.specs.declared.calling.Calling.{Calling}
 use Rattle.drv_compile.specs.declared.deciding.Decision.{Decision}
 use Rattle.drv_compile.specs.declared.driving.Driven.{Driven}
-use Rattle.drv_compile.specs.declared.driving.Worker.TheVariants.{Compiler, Driver}
+use Rattle.drv_compile.specs.declared.driving.Worker.TheVariants.{Driver, Nobody}
 use Rattle.drv_compile.specs.declared.driving.Worker.{Worker}
 use Rattle.drv_compile.specs.declared.host.HostEvent.{HostEvent}
 use Rattle.drv_compile.specs.declared.preparing.Prepared.{Prepared}
@@ -106,15 +106,15 @@ fails_planned : (F : Facts) (line : GccLine) (call : Call) (read asked : List Ho
     → MatchResult result (λ prepared. IsPrepared F line call asked prepared) (λ stop. IfTold stop (IsUnplanned F line call asked))
     → MatchResult result (λ prepared. IsDone F line call (read ++ asked) prepared)
     (λ stop. IfTold stop (IsUndone F line call (read ++ asked)))
-fails_planned F line call read asked (Ok prepared) free apart (inl (driven, works, planned)) = drives free apart works planned
-fails_planned F line call read asked (Ok prepared) free apart (inr (options, works, is)) = hands_on free apart works is
+fails_planned F line call read asked (Ok prepared) free apart (driven, works, planned) = drives free apart works planned
 fails_planned F line call read asked (Err stop) free apart unplanned =
     told_as stop (IsUnplanned F line call asked) (IsUndone F line call (read ++ asked)) by unplanned
   where
     -- Plan: `by` turns each reason why nothing is prepared into one why the line is refused.
     by : (text : List ℕ) → IsUnplanned F line call asked text → IsUndone F line call (read ++ asked) text
     by text (inl un) = undriven free apart un
-    by text (inr (driven, works, (refusal, stops, said))) = stopped free apart works stops said
+    by text (inr (inl (options, works, is))) = subst (λ t. IsUndone F line call (read ++ asked) t) (sym is) (unworded free apart works)
+    by text (inr (inr (driven, works, (refusal, stops, said)))) = stopped free apart works stops said
 
 -- For `compilation`: if something speaks against the line, then the text of that is its refusal.
 pub objected_as : (F : Facts) (line : GccLine) (call : Call) (name text : List ℕ) (inputs : List (List ℕ)) (found : Bool)
@@ -228,23 +228,24 @@ pub prepared_by_driver : (F : Facts) (line : GccLine) (call : Call) (events : Li
     (λ s. IfTold s (IsFailure F line.request.now.calling.now.name driven.line line.request.now.seed))
     → MatchResult result (λ prepared. IsPrepared F line call events prepared) (λ s. IfTold s (IsUnplanned F line call events))
 prepared_by_driver F line call events worker driven (Ok prepared) works is planned =
-    inl (driven, subst (IsWorker F line.chain call line.given events) is works, planned)
+    (driven, subst (IsWorker F line.chain call line.given events) is works, planned)
 prepared_by_driver F line call events worker driven (Err stop) works is tells =
     told_as stop (IsFailure F line.request.now.calling.now.name driven.line line.request.now.seed) (IsUnplanned F line call events)
-    (λ text un. inr (driven, subst (IsWorker F line.chain call line.given events) is works, un)) tells
+    (λ text un. inr (inr (driven, subst (IsWorker F line.chain call line.given events) is works, un))) tells
 
--- For `prepare_line`: if the compiler carries the line out, then handing it on is prepared.
-pub prepared_by_compiler : (F : Facts) (line : GccLine) (call : Call) (events : List HostEvent) (worker : Worker) (options slice : List ℕ)
-    (prepared : Prepared)
-    → IsWorker F line.chain call line.given events worker → worker ≡ Compiler options → slice ≡ options
-    → prepared ≡ handed_on line.request.now.calling.now line.chain slice line.request.now.args.now line.given
-    → IsPrepared F line call events prepared
-prepared_by_compiler F line call events worker options slice prepared works is same hands =
-    inr (
+-- For `prepare_line`: if nobody carries the line out, then the text with its options says why nothing is prepared.
+pub unworded_plan : (F : Facts) (line : GccLine) (call : Call) (events : List HostEvent) (worker : Worker) (options slice : List ℕ)
+    (name specs text : List ℕ)
+    → IsWorker F line.chain call line.given events worker → worker ≡ Nobody options → slice ≡ options
+    → name ≡ line.request.now.calling.now.name → specs ≡ line.chain.specs → text ≡ unworded_text name specs slice
+    → IsUnplanned F line call events text
+unworded_plan F line call events worker options slice name specs text works is same named at told =
+    inr (inl (
       options,
       subst (IsWorker F line.chain call line.given events) is works,
-      hands ∙ ap (λ o. handed_on line.request.now.calling.now line.chain o line.request.now.args.now line.given) same,
-    )
+      told ∙ ap (λ n. unworded_text n specs slice) named ∙ ap (λ s. unworded_text line.request.now.calling.now.name s slice) at
+          ∙ ap (unworded_text line.request.now.calling.now.name line.chain.specs) same,
+    ))
 
 -- the whole
 

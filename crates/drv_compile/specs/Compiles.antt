@@ -9,17 +9,15 @@ use Rattle.drv_compile.specs.Opening.{opening}
 use Rattle.drv_compile.specs.Runs.{Stops, Works}
 use Rattle.drv_compile.specs.Tasks.{Declines, Leads}
 use Rattle.drv_compile.specs.TempFolder.{Chooses, IsSettled, Tries, folder_names}
-use Rattle.drv_compile.specs.Texts.{gone_text, handed_text, help_text, overwritten_text, version_text}
+use Rattle.drv_compile.specs.Texts.{gone_text, help_text, overwritten_text, unworded_text, version_text}
 use Rattle.drv_compile.specs.Words.{RefusesWords, Words}
 use Rattle.drv_compile.specs.Wrapper.{wrapper_of}
 use Rattle.drv_compile.specs.declared.calling.Calling.{Calling}
-use Rattle.drv_compile.specs.declared.calling.Front.TheVariants.{C99, Gcc}
-use Rattle.drv_compile.specs.declared.calling.Front.{Front}
 use Rattle.drv_compile.specs.declared.compiling.Outcome.TheVariants.{Done, OutOfMemory, Unnoted}
 use Rattle.drv_compile.specs.declared.compiling.Outcome.{Outcome}
 use Rattle.drv_compile.specs.declared.deciding.Decision.{Decision}
 use Rattle.drv_compile.specs.declared.driving.Driven.{Driven}
-use Rattle.drv_compile.specs.declared.driving.Worker.TheVariants.{Compiler, Driver}
+use Rattle.drv_compile.specs.declared.driving.Worker.TheVariants.{Driver, Nobody}
 use Rattle.drv_compile.specs.declared.host.HostEvent.TheVariants.{Set}
 use Rattle.drv_compile.specs.declared.host.HostEvent.{HostEvent}
 use Rattle.drv_compile.specs.declared.preparing.Prepared.{Prepared}
@@ -85,38 +83,16 @@ pub record IsPlanned (F : Facts) (calling : Calling) (chain : Toolchain) (driven
   pub hint : prepared.hint ≡ gone_text calling.name chain.specs calling.machine
   pub remark : prepared.remark ≡ []
 
--- What is done for a line of whose machine neither a row nor the compiler's answer has the words: the compiler gets it, with the same
--- words, those of c99 turned into gcc's. So no words are guessed, and a note says how they are added.
-
--- the words that the compiler gets then: the call's own, or those of c99 turned into gcc's
-abbrev pub words_for : Front → List (List ℕ) → Expanded → List (List ℕ)
-words_for Gcc args given = args
-words_for C99 args given = given.words
-
--- the compiler gets the line's words, and a note says how the words for its machine are added
-abbrev pub handed_on : Calling → Toolchain → List ℕ → List (List ℕ) → Expanded → Prepared
-handed_on calling chain options args given = record {
-  work = question chain.around.compiler (words_for calling.front args given);
-  children = [];
-  wrapper = [];
-  said = handed_text calling.name chain.specs options;
-  hint = gone_text calling.name chain.specs calling.machine;
-  remark = [];
-}
-
--- A line that is carried out: nothing speaks against it, its output is no input, and the items that the driver is called with denote work,
--- or the compiler gets it. The host was asked for the paths of its files, and then for a row.
-pub data Performs (F : Facts) (calling : Calling) (chain : Toolchain) (call : Call) (args : List (List ℕ)) (given : Expanded) (seed : ℕ)
+-- A line that is carried out: nothing speaks against it, its output is no input, and the items that the driver is called with denote work.
+-- The host was asked for the paths of its files, and then for a row.
+pub data Performs (F : Facts) (calling : Calling) (chain : Toolchain) (call : Call) (given : Expanded) (seed : ℕ)
     : List HostEvent → Prepared → Type 0 where
   drives : {driven : Driven} {read asked : List HostEvent} {prepared : Prepared} → objection F calling.name call.inputs ≡ Is []
       → Overwrites call.inputs call.output read false → IsWorker F chain call given asked (Driver driven)
-      → IsPlanned F calling chain driven seed prepared → Performs F calling chain call args given seed (read ++ asked) prepared
-  hands_on : {options : List ℕ} {read asked : List HostEvent} {prepared : Prepared} → objection F calling.name call.inputs ≡ Is []
-      → Overwrites call.inputs call.output read false → IsWorker F chain call given asked (Compiler options)
-      → prepared ≡ handed_on calling chain options args given → Performs F calling chain call args given seed (read ++ asked) prepared
+      → IsPlanned F calling chain driven seed prepared → Performs F calling chain call given seed (read ++ asked) prepared
 
--- why a line that could be carried out is refused, and the text that says it: an input is missing, the output is an input, no driver takes
--- the line, or the driver refuses its items
+-- why a line that could be carried out is refused, and the text that says it: an input is missing, the output is an input, the line can't be
+-- called, neither a row nor the compiler's answer has the words for its machine, or the driver refuses its items
 pub data Fails (F : Facts) (calling : Calling) (chain : Toolchain) (call : Call) (given : Expanded) (seed : ℕ) : List HostEvent → List ℕ
     → Type 0 where
   objected : {b : ℕ} {text : List ℕ} → objection F calling.name call.inputs ≡ Is (b ∷ text)
@@ -126,6 +102,9 @@ pub data Fails (F : Facts) (calling : Calling) (chain : Toolchain) (call : Call)
   undriven : {read asked : List HostEvent} {text : List ℕ} → objection F calling.name call.inputs ≡ Is []
       → Overwrites call.inputs call.output read false
       → Undriven F calling chain call given asked text → Fails F calling chain call given seed (read ++ asked) text
+  unworded : {read asked : List HostEvent} {options : List ℕ} → objection F calling.name call.inputs ≡ Is []
+      → Overwrites call.inputs call.output read false → IsWorker F chain call given asked (Nobody options)
+      → Fails F calling chain call given seed (read ++ asked) (unworded_text calling.name chain.specs options)
   stopped : {read asked : List HostEvent} {driven : Driven} {refusal : Refusal} {text : List ℕ}
       → objection F calling.name call.inputs ≡ Is [] → Overwrites call.inputs call.output read false
       → IsWorker F chain call given asked (Driver driven) → Stops F driven.line seed (Refused refusal)
@@ -149,7 +128,7 @@ pub data Comes (F : Facts) (calling : Calling) (own : Option (List ℕ)) (args :
   performs : {words : Expanded} {decision : Decision} {chain : Toolchain} {call : Call} {events : List HostEvent} {prepared : Prepared}
       → Words F calling args words
       → decide F own words.words ≡ Is decision → Leads decision (Compilation chain call)
-      → Performs F calling chain call args words seed events prepared → Comes F calling own args seed events prepared
+      → Performs F calling chain call words seed events prepared → Comes F calling own args seed events prepared
 
 -- why arguments are refused, with what the host was asked before: by their words, by what they ask for, or by the line
 pub data Refuses (F : Facts) (calling : Calling) (own : Option (List ℕ)) (args : List (List ℕ)) (seed : ℕ) : List HostEvent → List ℕ

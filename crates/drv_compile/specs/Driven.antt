@@ -20,7 +20,7 @@ use Rattle.drv_compile.specs.Texts.{damaged_text}
 use Rattle.drv_compile.specs.declared.calling.Calling.{Calling}
 use Rattle.drv_compile.specs.declared.driving.Driven.{Driven}
 use Rattle.drv_compile.specs.declared.driving.LineFiles.{LineFiles}
-use Rattle.drv_compile.specs.declared.driving.Worker.TheVariants.{Compiler, Driver}
+use Rattle.drv_compile.specs.declared.driving.Worker.TheVariants.{Driver, Nobody}
 use Rattle.drv_compile.specs.declared.driving.Worker.{Worker}
 use Rattle.drv_compile.specs.declared.host.HostEvent.{HostEvent}
 use Rattle.drv_compile.specs.declared.machines.LineRow.{LineRow}
@@ -36,8 +36,8 @@ use Rattle.drv_system.specs.Known.{Is, Known}
 use Rattle.std.specs.Prelude.{◌≡◌, List, [], ◌∷◌, ◌++◌, None, Ok, Err, Option, Some, codes, ℕ}
 
 -- Who carries out a line, over facts: the driver, with the file that has the line's texts and its items, with the options that its spec
--- files give it (GCC, "gcc.cc", set_up_specs, do_self_spec; GCC manual, "Overall Options", -specs=). Or it is the compiler of the spec
--- file, where no row has the words for the line's machine: another row's words would make another object.
+-- files give it (GCC, "gcc.cc", set_up_specs, do_self_spec; GCC manual, "Overall Options", -specs=). Or it is nobody, where no row has the
+-- words for the line's machine: another row's words would make another object.
 -- For clauses of src/driving.rt.
 
 -- The items of the driver's line: the spec file, that a front precedes it, and those of the front.
@@ -55,7 +55,7 @@ abbrev pub IsMade : List ℕ → Option (List ℕ) → MachineItems → Expanded
 IsMade path rows made given (Driver driven) =
     (items : List Item) × (children : List Variable) × (made ≡ Made items children)
     × (driven ≡ record { line = driver_line path (suffixed_by rows items) given; children = children })
-IsMade path rows made given (Compiler options) = made ≡ Lacks options
+IsMade path rows made given (Nobody options) = made ≡ Lacks options
 
 -- with the words for its machine, by its row in the file that names the compiler, or by that compiler's answer
 abbrev pub IsMachined : List ℕ → LineFiles → Call → Expanded → List HostEvent → Worker → Type 0
@@ -116,10 +116,10 @@ pub data IsUndrivenAfter (F : Facts) (calling : Calling) (chain : Toolchain) (gi
       → answer_of F chain given first ≡ Is (Ok answer) → Replaces answer (Some call) → IsUncalled F calling chain.specs call events text
       → IsUndrivenAfter F calling chain given first events text
 
--- who carries out a line: the compiler at once, or the driver unless the line's spec files give it another
+-- who carries out a line: nobody at once, or the driver unless the line's spec files give it another
 pub data IsChosen (F : Facts) (chain : Toolchain) (call : Call) (given : Expanded) : List HostEvent → Worker → Type 0 where
-  at_once : {options : List ℕ} {events : List HostEvent} → IsCalled F chain.specs call given events (Compiler options)
-      → IsChosen F chain call given events (Compiler options)
+  at_once : {options : List ℕ} {events : List HostEvent} → IsCalled F chain.specs call given events (Nobody options)
+      → IsChosen F chain call given events (Nobody options)
   later : {first : Driven} {worker : Worker} {events more : List HostEvent} → IsCalled F chain.specs call given events (Driver first)
       → IsWorkerAfter F chain given first more worker → IsChosen F chain call given (events ++ more) worker
 
@@ -131,10 +131,10 @@ Passes F driven made = (line : DriverLine) × (line_passed F driven.line ≡ Is 
 pub data IsWorker (F : Facts) (chain : Toolchain) (call : Call) (given : Expanded) : List HostEvent → Worker → Type 0 where
   drives : {driven made : Driven} {events : List HostEvent} → IsChosen F chain call given events (Driver driven) → Passes F driven made
       → IsWorker F chain call given events (Driver made)
-  compiles : {options : List ℕ} {events : List HostEvent} → IsChosen F chain call given events (Compiler options)
-      → IsWorker F chain call given events (Compiler options)
+  unworded : {options : List ℕ} {events : List HostEvent} → IsChosen F chain call given events (Nobody options)
+      → IsWorker F chain call given events (Nobody options)
 
--- nobody carries out the line: the text of the refusal
+-- the line can't be called, or what its spec files give it can't: the text of the refusal
 pub data Undriven (F : Facts) (calling : Calling) (chain : Toolchain) (call : Call) (given : Expanded)
     : List HostEvent → List ℕ → Type 0 where
   uncalled : {events : List HostEvent} {text : List ℕ} → IsUncalled F calling chain.specs call events text

@@ -183,16 +183,11 @@ no_compiler_text name specs machine = unwritten_text name (codes "no compiler is
 abbrev pub damaged_text : List ℕ → List ℕ → List ℕ → List ℕ → List ℕ
 damaged_text name path specs machine = unwritten_text name (codes "missing or damaged file '") path specs machine
 
--- a note on standard error: the program's name, what follows, and a newline
-abbrev pub note_line : List ℕ → List ℕ → List ℕ
-note_line name text = name ++ codes ": note: " ++ text ++ codes "\n"
-
 -- the command that asks the compiler for the words of a machine that no row beside the spec file has, for a message
 abbrev pub adding : List ℕ → List ℕ → List ℕ
-adding specs options = codes "'gdrv-write-specs --add " ++ specs ++ codes " " ++ options ++ codes "' asks it for them"
+adding specs options = codes "'gdrv-write-specs --add " ++ specs ++ codes " " ++ options ++ codes "' asks the compiler for them"
 
--- the note where the compiler gets a line because no row has the words for its machine
-abbrev pub handed_text : List ℕ → List ℕ → List ℕ → List ℕ
-handed_text name specs options =
-    note_line name (quoted (codes "the words for '") options (codes "' are not known, and the compiler gets the line as it is; ")
-    ++ adding specs options)
+-- the refusal of a line with options for a machine of which neither a row nor the compiler's answer has the words
+abbrev pub unworded_text : List ℕ → List ℕ → List ℕ → List ℕ
+unworded_text name specs options =
+    error_line name (quoted (codes "the words for '") options (codes "' are not known; ") ++ adding specs options)

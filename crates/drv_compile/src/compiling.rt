@@ -272,9 +272,9 @@ fn compile_settled<S: System, H: Host<S>>(
 /// arguments, and its status is the answer. Of a refused line the call says why, with the status 1.
 /// Any other line is carried out by the driver over the set of that spec file, with its variables
 /// set for the children. Where no row has the words for the line's machine, the host asks the
-/// compiler for them. If it gives none, the compiler gets the line as it is, after a note. Where the
-/// run does not find a program of a source, or the compiler of a question, the call says a hint. It
-/// says none about a linker or a wrapper, which the line may choose.
+/// compiler for them, and if it gives none, the line is refused. Where the run does not find a
+/// program of a source, or the compiler of a question, the call says a hint. It says none about a
+/// linker or a wrapper, which the line may choose.
 ///
 /// A refused call, and one that lacks memory, makes and starts nothing. No pipe is pending after a
 /// call.

@@ -49,8 +49,8 @@ pub(crate) struct Driven {
 pub(crate) enum Worker {
     /// The driver, which is called so.
     Driver(Driven),
-    /// The compiler of the spec file: no row has the words for these options of the line.
-    Compiler(Word),
+    /// Nobody: no row has the words for these options of the line.
+    Nobody(Word),
 }
 
 /// The items of the driver's line: the spec file, that a front precedes it, and those of the front.
@@ -98,7 +98,7 @@ fn made_call(
     ensures { IfOk result (λ worker. IsMade path (option_copied rows.entry) made given.now worker) }
 {
     match made {
-        MachineItems::Lacks(options) => Ok(Worker::Compiler(options)),
+        MachineItems::Lacks(options) => Ok(Worker::Nobody(options)),
         MachineItems::Made(items, children) => {
             let suffixed = suffixed_by(alloc, rows, items)?;
             let all = driver_items(alloc, path, suffixed)?;
@@ -275,7 +275,7 @@ fn chosen_worker<S: System, H: Host<S>>(
 {
     match driver_of_call(alloc, line, call, outside, host)? {
         Worker::Driver(first) => worker_after(alloc, line, first, outside, host),
-        Worker::Compiler(options) => Ok(Worker::Compiler(options)),
+        Worker::Nobody(options) => Ok(Worker::Nobody(options)),
     }
 }
 
@@ -320,6 +320,6 @@ pub(crate) fn worker_of<S: System, H: Host<S>>(
             let passed = with_libraries(alloc, driven, outside)?;
             Ok(Worker::Driver(passed))
         }
-        Worker::Compiler(options) => Ok(Worker::Compiler(options)),
+        Worker::Nobody(options) => Ok(Worker::Nobody(options)),
     }
 }

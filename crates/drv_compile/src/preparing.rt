@@ -4,7 +4,7 @@
 // and that the table has the answers. `Noted before after P` says that the host was asked, and that
 // P holds of these events. `IfTold stop P` says that P holds of the text of a stop, if it has one.
 ghost use Rattle.drv_compile.specs.Compiles.{Comes, IsPlanned, Refuses};
-ghost use Rattle.drv_compile.specs.Compiles.{handed_on, one_command, question, words_for};
+ghost use Rattle.drv_compile.specs.Compiles.{one_command, question};
 ghost use Rattle.drv_compile.specs.Inputs.{Noted, Overwrites};
 ghost use Rattle.drv_compile.specs.Code.Preparing.{IsDone, IsFailure, IsOverwriting, IsPrepared};
 ghost use Rattle.drv_compile.specs.Code.Preparing.{IsQuestion, IsUndone, IsUnplanned};
@@ -15,7 +15,6 @@ ghost use Rattle.drv_system.specs.Code.Asked.{Asked};
 ghost use Rattle.drv_system.specs.Facts.{Facts};
 ghost use Rattle.std.specs.Prelude.{◌≡◌, IfOk, MatchResult, false};
 
-use crate::calling::Front;
 use crate::deciding::decide;
 use crate::driving::{Driven, Worker, worker_of};
 use crate::expanding::line_words;
@@ -27,7 +26,7 @@ use crate::running::{DriverLine, work_of_items};
 use crate::speaking::opening;
 use crate::stop::Stop;
 use crate::tasks::{Task, task_of};
-use crate::wording::{gone_text, handed_text, help_text, overwrite_text, version_text};
+use crate::wording::{gone_text, help_text, overwrite_text, unworded_text, version_text};
 use crate::wrapping::wrapper_of;
 use drv_args::Expanded;
 use drv_cc::{Call, Variable};
@@ -182,40 +181,6 @@ fn prepare_plan<S: System>(
     })
 }
 
-/// The words that the compiler gets of a line that it carries out: those of c99 turned into gcc's.
-fn words_for<'w>(front: Front, args: &'w Listing<Word>, given: &'w Expanded) -> &'w Listing<Word>
-    ensures { result.now ≡ words_for front args.now given.now }
-{
-    match front {
-        Front::Gcc => args,
-        Front::C99 => &given.words,
-    }
-}
-
-/// What a call does for a line that the compiler carries out, since no row has the words for these
-/// options.
-fn handed_on(alloc: Global, line: &GccLine<'_>, options: &[u8]) -> Result<Prepared, AllocError>
-    ensures hands { IfOk result (λ prepared. prepared
-        ≡ handed_on line.now.request.now.calling.now line.now.chain options.now line.now.request.now.args.now line.now.given) }
-{
-    let calling = line.request.calling;
-    let name = calling.name.as_bytes();
-    let specs = line.chain.specs.as_bytes();
-    let hint = gone_text(alloc, calling, specs)?;
-    let said = handed_text(alloc, name, specs, options)?;
-    let compiler = line.chain.around.compiler.clone()?;
-    let words = words_for(calling.front, line.request.args, &line.given);
-    let work = question(alloc, compiler, words)?;
-    Ok(Prepared {
-        work,
-        children: Listing::new(alloc),
-        wrapper: Word::empty(alloc),
-        said,
-        hint,
-        remark: Word::empty(alloc),
-    })
-}
-
 /// What a call does for a line that nothing refuses.
 ///
 /// # Errors
@@ -237,9 +202,11 @@ fn prepare_line<S: System, H: Host<S>>(
 {
     match worker_of(alloc, line, call, outside, host)? {
         Worker::Driver(driven) => prepare_plan(alloc, line, driven, outside),
-        Worker::Compiler(options) => {
-            let prepared = handed_on(alloc, line, options.as_bytes())?;
-            Ok(prepared)
+        Worker::Nobody(options) => {
+            let name = line.request.calling.name.as_bytes();
+            let specs = line.chain.specs.as_bytes();
+            let text = unworded_text(alloc, name, specs, options.as_bytes())?;
+            Err(Stop::Told(text))
         }
     }
 }

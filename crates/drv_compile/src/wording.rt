@@ -5,7 +5,7 @@ ghost use Rattle.drv_compile.specs.Texts.{gone_text, help_text, if_only, lack_te
 ghost use Rattle.drv_compile.specs.Texts.{overwritten_text, quoted, version_text};
 ghost use Rattle.drv_compile.specs.Texts.{refusal_text};
 ghost use Rattle.drv_compile.specs.Texts.{takes_file, takes_goal, takes_macro, takes_path};
-ghost use Rattle.drv_compile.specs.Texts.{gcc_of, handed_text, is_for, unknown_text, unwritten_text, writing};
+ghost use Rattle.drv_compile.specs.Texts.{gcc_of, is_for, unknown_text, unwritten_text, unworded_text, writing};
 ghost use Rattle.drv_compile.specs.Texts.{damaged_text, no_compiler_text, no_place_text};
 ghost use Rattle.drv_compile.specs.Texts.{no_specs_text, unread_text, variable_text};
 ghost use Rattle.drv_compile.specs.Words.{told_refusal};
@@ -24,7 +24,7 @@ use std::alloc::{AllocError, Global};
 const NOT_SUPPORTED: &[u8] = b" is not supported: gdrv-cc compiles C and assembler";
 
 /// What is said of options of which no row has the words.
-const NOT_KNOWN: &[u8] = b"' are not known, and the compiler gets the line as it is; ";
+const NOT_KNOWN: &[u8] = b"' are not known; ";
 
 /// Adds three texts.
 fn add(text: &mut Word, before: &[u8], word: &[u8], after: &[u8]) -> Result<(), AllocError>
@@ -473,20 +473,20 @@ fn add_adding(text: &mut Word, specs: &[u8], options: &[u8]) -> Result<(), Alloc
 {
     add(text, b"'gdrv-write-specs --add ", specs, b" ")?;
     text.extend_from_slice(options)?;
-    text.extend_from_slice(b"' asks it for them")
+    text.extend_from_slice(b"' asks the compiler for them")
 }
 
-/// What is said before the compiler carries out a line, since no row has the words for these options.
-pub(crate) fn handed_text(
+/// The text of the refusal of a line, as no row has the words for these options.
+pub(crate) fn unworded_text(
     alloc: Global,
     name: &[u8],
     specs: &[u8],
     options: &[u8],
 ) -> Result<Word, AllocError>
-    ensures { IfOk result (λ line. line ≡ handed_text name.now specs.now options.now) }
+    ensures { IfOk result (λ line. line ≡ unworded_text name.now specs.now options.now) }
 {
     let mut line = Word::from_bytes(alloc, name)?;
-    line.extend_from_slice(b": note: ")?;
+    line.extend_from_slice(b": error: ")?;
     add(&mut line, b"the words for '", options, NOT_KNOWN)?;
     add_adding(&mut line, specs, options)?;
     line.push(b'\n')?;

@@ -1,13 +1,13 @@
 use Rattle.drv_cc.specs.declared.answer.Call.{Call}
-use Rattle.drv_compile.specs.Compiles.{Fails, IsPlanned, Performs, handed_on, question}
+use Rattle.drv_compile.specs.Compiles.{Fails, IsPlanned, Performs, question}
 use Rattle.drv_compile.specs.Driven.{IsWorker, Undriven}
 use Rattle.drv_compile.specs.Inputs.{Overwrites}
 use Rattle.drv_compile.specs.Notes.{IsSaid}
 use Rattle.drv_compile.specs.Runs.{Stops}
-use Rattle.drv_compile.specs.Texts.{gone_text, help_text, overwritten_text, version_text}
+use Rattle.drv_compile.specs.Texts.{gone_text, help_text, overwritten_text, unworded_text, version_text}
 use Rattle.drv_compile.specs.declared.calling.Calling.{Calling}
 use Rattle.drv_compile.specs.declared.driving.Driven.{Driven}
-use Rattle.drv_compile.specs.declared.driving.Worker.TheVariants.{Compiler, Driver}
+use Rattle.drv_compile.specs.declared.driving.Worker.TheVariants.{Driver, Nobody}
 use Rattle.drv_compile.specs.declared.host.HostEvent.{HostEvent}
 use Rattle.drv_compile.specs.declared.preparing.Prepared.{Prepared}
 use Rattle.drv_compile.specs.declared.request.GccLine.{GccLine}
@@ -32,25 +32,30 @@ abbrev pub IsOverwriting : List ℕ → Call → List HostEvent → List ℕ →
 IsOverwriting name call events text =
     (output : List ℕ) × (call.output ≡ Some output) × Overwrites call.inputs call.output events true × (text ≡ overwritten_text name output)
 
--- what is done for a line, by who carries it out
+-- what is done for a line that the driver carries out
 abbrev pub IsPrepared : Facts → GccLine → Call → List HostEvent → Prepared → Type 0
 IsPrepared F line call events prepared =
-    ((driven : Driven) × IsWorker F line.chain call line.given events (Driver driven)
-    × IsPlanned F line.request.now.calling.now line.chain driven line.request.now.seed prepared)
-    ⊎ ((options : List ℕ) × IsWorker F line.chain call line.given events (Compiler options)
-    × (prepared ≡ handed_on line.request.now.calling.now line.chain options line.request.now.args.now line.given))
+    (driven : Driven) × IsWorker F line.chain call line.given events (Driver driven)
+    × IsPlanned F line.request.now.calling.now line.chain driven line.request.now.seed prepared
 
--- why nothing is done for a line: no driver takes it, or the driver refuses its items
+-- nobody carries a line out, as the words for its machine are not known
+abbrev pub IsUnworded : Facts → GccLine → Call → List HostEvent → List ℕ → Type 0
+IsUnworded F line call events text =
+    (options : List ℕ) × IsWorker F line.chain call line.given events (Nobody options)
+    × (text ≡ unworded_text line.request.now.calling.now.name line.chain.specs options)
+
+-- why nothing is done for a line: it can't be called, nobody carries it out, or the driver refuses its items
 abbrev pub IsUnplanned : Facts → GccLine → Call → List HostEvent → List ℕ → Type 0
 IsUnplanned F line call events text =
     Undriven F line.request.now.calling.now line.chain call line.given events text
+    ⊎ IsUnworded F line call events text
     ⊎ ((driven : Driven) × IsWorker F line.chain call line.given events (Driver driven)
     × IsFailure F line.request.now.calling.now.name driven.line line.request.now.seed text)
 
 -- a line that is carried out, as `Performs` says
 abbrev pub IsDone : Facts → GccLine → Call → List HostEvent → Prepared → Type 0
 IsDone F line call events prepared =
-    Performs F line.request.now.calling.now line.chain call line.request.now.args.now line.given line.request.now.seed events prepared
+    Performs F line.request.now.calling.now line.chain call line.given line.request.now.seed events prepared
 
 -- why it is refused, as `Fails` says
 abbrev pub IsUndone : Facts → GccLine → Call → List HostEvent → List ℕ → Type 0

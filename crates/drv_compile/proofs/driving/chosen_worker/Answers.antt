@@ -6,7 +6,7 @@ use Rattle.drv_system.proofs.AskedCalls.{asked_further, extends_before}
 -- chosen_worker (src/driving.rt). Who carries out a line, with the options that its spec files give it.
 
 -- Names: `noted_as`: what was noted, said in other words. `undriven_texts`: `chosen_worker` refuses a line whose texts are damaged.
--- `worker_at_once`: `chosen_worker` gives a line to the compiler that the driver doesn't carry out.
+-- `worker_at_once`: `chosen_worker` says at once that nobody carries out a line of whose machine no row has the words.
 
 pub returns-in_err-first-clause-drives : goal.returns-in_err-first-clause-drives
 returns-in_err-first-clause-drives g c =
@@ -22,7 +22,7 @@ returns-in-Driver-clause-drives g c =
     c.worker_after.result (called F (extends_before c.worker_after.ensures.asks e)) c.in-Driver.is (gives F e))
     c.in_ok-first.ensures.calls c.worker_after.ensures.drives
 
-pub returns-in-Compiler-clause-drives : goal.returns-in-Compiler-clause-drives
-returns-in-Compiler-clause-drives g c =
-    noted_as _ _ _ _ (λ events called F e. worker_at_once F c.args.line.now c.args.call events _ c.in-Compiler.options
-    (called F e) c.in-Compiler.is) c.in_ok-first.ensures.calls
+pub returns-in-Nobody-clause-drives : goal.returns-in-Nobody-clause-drives
+returns-in-Nobody-clause-drives g c =
+    noted_as _ _ _ _ (λ events called F e. worker_at_once F c.args.line.now c.args.call events _ c.in-Nobody.options
+    (called F e) c.in-Nobody.is) c.in_ok-first.ensures.calls

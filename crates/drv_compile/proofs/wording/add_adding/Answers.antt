@@ -11,8 +11,8 @@ pub returns : goal.returns
 returns c =
     on_ok_weaker c.extend_from_slice-2.result
     (λ is.
-    is ∙ ap (λ text. text ++ codes "' asks it for them") c.in_ok-extend_from_slice.ensures.ok
-    ∙ ap (λ text. (text ++ c.args.options.now) ++ codes "' asks it for them") c.in_ok-add.ensures
+    is ∙ ap (λ text. text ++ codes "' asks the compiler for them") c.in_ok-extend_from_slice.ensures.ok
+    ∙ ap (λ text. (text ++ c.args.options.now) ++ codes "' asks the compiler for them") c.in_ok-add.ensures
     ∙ joined c.args.text.now (quoted (codes "'gdrv-write-specs --add ") c.args.specs.now (codes " ")) c.args.options.now
-    (codes "' asks it for them"))
+    (codes "' asks the compiler for them"))
     c.extend_from_slice-2.ensures.ok
