@@ -36,21 +36,35 @@ class Control(Enum):
 
 
 class Trial:
-    """The edits of a crate, each with its verdict once it was tried."""
+    """The edits of a crate, each with its verdict once it was tried, and the refusals that are kept of earlier runs."""
 
-    def __init__(self, crates, name):
-        self.crates, self.name, self.told = crates, name, {}
+    def __init__(self, crates, name, verdicts=None):
+        self.crates, self.name, self.verdicts, self.told = crates, name, verdicts, {}
         folder, crate = f"{crates.root}/tests/edits/{name}", crates.folder(name)
         self.edits = [Edit(f"{folder}/{it}", crate) for it in sorted(os.listdir(folder)) if it.endswith(".edit")]
         calls = public_calls(crate, name)
         bad = {it: it.why or misnamed(it, calls) for it in self.edits}
         self.told.update({it: Verdict(False, f"BAD EDIT: {why}") for it, why in bad.items() if why})
+        kept = {it: verdicts.known(name, it) for it in self.untried()} if verdicts else {}
+        self.kept = {it: Verdict(True, said) for it, said in kept.items() if said}
+        self.told.update(self.kept)
+
+    def untried(self):
+        """The edits that have no verdict yet."""
+        return [it for it in self.edits if it not in self.told]
+
+    def tell(self, found):
+        """Takes the verdicts of a check, and keeps those that refuse."""
+        self.told.update(found)
+        for it, verdict in found.items() if self.verdicts else []:
+            if verdict.is_refused:
+                self.verdicts.keep(self.name, it, verdict.text)
 
     def batches(self):
         """The edits such that no two of a batch are in one function, in functions that have one proof, or on one text. One outside of functions
         is alone."""
         made = []
-        for edit in sorted((it for it in self.edits if it not in self.told), key=lambda it: not it.is_inside):
+        for edit in sorted(self.untried(), key=lambda it: not it.is_inside):
             proofs = self.proofs(edit)
             place = next((it for it in made if it.takes(edit, proofs)), None)
             if place is None:
@@ -76,11 +90,13 @@ class Trial:
                 is_due = not room.was_accepted and (is_of_all or not batch.is_inside)
                 why = is_due and room.unaccepted(places if is_of_all else set())
                 if why:
-                    self.told.update({it: Verdict(False, f"NOT TRIED, since without it {why}") for it in self.edits if it not in self.told})
+                    self.tell({it: Verdict(False, f"NOT TRIED, since without it {why}") for it in self.untried()})
                     break
                 if len(batch.edits) > 1:
-                    self.told.update(beside(room, batch))
-                self.told.update({it: alone(room, it) for it in batch.edits if it not in self.told})
+                    self.tell(beside(room, batch))
+                for it in batch.edits:
+                    if it not in self.told:
+                        self.tell({it: alone(room, it)})
         return Proof("", room.seconds)
 
 
@@ -138,16 +154,20 @@ class Batch:
         self.proofs |= proofs
 
 
-def try_edits(root, names, since=math.inf, control=Control.WITNESS):
+def try_edits(root, names, since=math.inf, control=Control.WITNESS, verdicts=None):
     """Tries the edits of these crates, and gives each by its path, with whether it was refused and how. It first proves these and builds the
-    libraries below them, as far as they have changed, but for those that rt ci proved and built since a time."""
+    libraries below them, as far as they have changed, but for those that rt ci proved and built since a time. What `verdicts` keeps is not
+    tried again."""
     crates, clock = Crates(root), Clock()
-    trials, stamps, known = [Trial(crates, it) for it in crates.names if it in names], Stamps(crates), costs(crates)
-    needed = crates.with_below(it.name for it in trials)
+    trials, stamps, known = [Trial(crates, it, verdicts) for it in crates.names if it in names], Stamps(crates), costs(crates)
+    kept, due = sum(len(it.kept) for it in trials), [it for it in trials if it.untried()]
+    if kept:
+        clock.say(f"{kept} wrong bodies were refused by an earlier run on this machine, over the same texts; --anew tries them too")
+    needed = crates.with_below(it.name for it in due)
     built = [it for it in needed if not crates.was_built(it, since) and not stamps.is_proved(it)]
     tasks = [Task(it, set(crates.uses[it]) & set(built), known[it], lambda jobs, it=it: prove(crates, it, jobs)) for it in built]
-    for trial in trials:
-        seconds, after = SECONDS_OF_CRATE + SECONDS_OF_ONE * len(trial.edits), {*crates.below(trial.name), trial.name} & set(built)
+    for trial in due:
+        seconds, after = SECONDS_OF_CRATE + SECONDS_OF_ONE * len(trial.untried()), {*crates.below(trial.name), trial.name} & set(built)
         tasks.append(Task(f"{trial.name}: edits", after, seconds, lambda _, trial=trial: trial.attempt(control), most=1))
 
     def ended(task, given):
