@@ -4,7 +4,6 @@ use Rattle.drv_cc.specs.LineItems.{alone}
 use Rattle.drv_compile.specs.Reading.{specs_given}
 use Rattle.drv_compile.specs.Runs.{line_given}
 use Rattle.drv_compile.specs.SelfSpecs.{Ended, worked_of}
-use Rattle.drv_compile.specs.declared.passing.LinkLibraries.{LinkLibraries}
 use Rattle.drv_compile.specs.declared.running.DriverLine.{DriverLine}
 use Rattle.drv_compile.specs.declared.self_specs.Worked.TheVariants.{Gives, More, Nothing}
 use Rattle.drv_compile.specs.declared.self_specs.Worked.{Worked}
@@ -12,8 +11,7 @@ use Rattle.drv_system.specs.Facts.{Facts}
 use Rattle.drv_system.specs.Known.{Is, Known, Unasked}
 use Rattle.std.specs.Cmp.Lexicographic.{pointwise}
 use Rattle.std.specs.List.{ends_with, starts_with}
-use Rattle.std.specs.Prelude.{◌||◌, Bool, Err, List, [], ◌∷◌, ◌++◌, None, Ok, Option, Some, codes, if◌then◌else◌, length, map}
-use Rattle.std.specs.Prelude.{nat_eq, nat_lt, ℕ}
+use Rattle.std.specs.Prelude.{◌&&◌, ◌||◌, Bool, Err, List, [], ◌∷◌, ◌++◌, Ok, codes, if◌then◌else◌, length, map, nat_eq, nat_lt, not, ℕ}
 
 -- The libraries of a link, which the linker's plugin gets in other words: those of `link_gcc_c_sequence` as the line's spec files leave it,
 -- with the switches of the line (GCC, "gcc.cc", LINK_PLUGIN_SPEC, pass_through_libs_spec_func).
@@ -22,44 +20,24 @@ use Rattle.std.specs.Prelude.{nat_eq, nat_lt, ℕ}
 -- project's profile). It has the libraries of its own texts, so a line that names no other spec file needs no such words.
 -- For clauses of src/passing.rt. The texts of drv_gcc (specs/Fixed.antt) read these switches.
 
--- whether a word is a library, or an archive
-abbrev pub is_library : List ℕ → Bool
-is_library word = starts_with nat_eq word (codes "-l") || ends_with nat_eq word (codes ".a")
-
 -- whether a word is -l alone, whose library is the next word
 abbrev pub is_lone : List ℕ → Bool
 is_lone word = pointwise nat_eq word (codes "-l")
 
--- the library that a word is, if it is one
+-- whether a word by itself is a library, or an archive
+abbrev pub is_library : List ℕ → Bool
+is_library word = starts_with nat_eq word (codes "-l") && not (is_lone word) || ends_with nat_eq word (codes ".a")
+
+-- the library that a word is by itself, if it is one
 abbrev pub library_words : List ℕ → List (List ℕ)
 library_words word = if is_library word then word ∷ [] else []
 
--- no library is found
-abbrev pub no_libraries : LinkLibraries
-no_libraries = record { found = []; lone = None }
-
--- a word of its own: -l alone waits for the next word
-abbrev pub with_first : LinkLibraries → List ℕ → LinkLibraries
-with_first so_far word =
-    if is_lone word then record so_far { lone = Some word } else record so_far { found = so_far.found ++ library_words word }
-
--- a word, which belongs to the -l before it
-abbrev pub with_word_after : Option (List ℕ) → LinkLibraries → List ℕ → LinkLibraries
-with_word_after None so_far word = with_first so_far word
-with_word_after (Some lone) so_far word = record { found = so_far.found ++ (lone ++ word) ∷ []; lone = None }
-
--- one more word of a link
-abbrev pub with_word : LinkLibraries → List ℕ → LinkLibraries
-with_word so_far word = with_word_after so_far.lone so_far word
-
--- the libraries so far and those of these words; -l at their end is none
-abbrev pub libraries_from : LinkLibraries → List (List ℕ) → List (List ℕ)
-libraries_from so_far [] = so_far.found
-libraries_from so_far (word ∷ words) = libraries_from (with_word so_far word) words
-
--- the libraries among the words of a link
-abbrev pub libraries : List (List ℕ) → List (List ℕ)
-libraries words = libraries_from no_libraries words
+-- the libraries among the words of a link: -l takes the next word, and is none at the end
+pub libraries : List (List ℕ) → List (List ℕ)
+libraries [] = []
+libraries (word ∷ []) = library_words word
+libraries (word ∷ next ∷ words) =
+    if is_lone word then (word ++ next) ∷ libraries words else library_words word ++ libraries (next ∷ words)
 
 -- the switch by which the texts know a library
 unfoldable pub passed_switch : List ℕ → Item

@@ -6,7 +6,7 @@
 ghost use Rattle.drv_args.specs.declared.option_table.Effect.TheVariants as effect;
 ghost use Rattle.drv_cc.specs.LineItems.{alone};
 ghost use Rattle.drv_compile.specs.Passed.{is_library, is_lone, libraries, library_words, line_by, line_passed};
-ghost use Rattle.drv_compile.specs.Passed.{no_libraries, passed_items, passed_switch, with_first, with_word};
+ghost use Rattle.drv_compile.specs.Passed.{passed_items, passed_switch};
 ghost use Rattle.drv_compile.specs.SelfSpecs.{Ended};
 ghost use Rattle.drv_compile.specs.declared.self_specs.Worked.{Worked};
 ghost use Rattle.drv_run.specs.declared.ending.Ending.TheVariants as ending;
@@ -15,7 +15,7 @@ ghost use Rattle.drv_system.specs.Code.Asked.{Asked};
 ghost use Rattle.drv_system.specs.Facts.{Facts};
 ghost use Rattle.drv_system.specs.Gives.{GivesKnown};
 ghost use Rattle.drv_system.specs.Known.{Is};
-ghost use Rattle.std.specs.Prelude.{◌≡◌, ◌∷◌, ◌++◌, [], IfOk, Ok, OnOk, map};
+ghost use Rattle.std.specs.Prelude.{◌≡◌, ◌∷◌, ◌++◌, ◌≤◌, [], IfOk, Ok, OnOk, length, map};
 
 use crate::running::DriverLine;
 use crate::self_specs::{Worked, count_specs, text_worked};
@@ -25,13 +25,6 @@ use drv_system::{Outside, System};
 use drv_words::{Listing, Word};
 use std::alloc::{AllocError, Global};
 
-/// Whether a word is a library, or an archive.
-fn is_library(word: &[u8]) -> bool
-    ensures { result ≡ is_library word.now }
-{
-    word.starts_with(b"-l") || word.ends_with(b".a")
-}
-
 /// Whether a word is `-l` alone, whose library is the next word.
 fn is_lone(word: &[u8]) -> bool
     ensures { result ≡ is_lone word.now }
@@ -39,58 +32,50 @@ fn is_lone(word: &[u8]) -> bool
     word == b"-l".as_slice()
 }
 
-/// Adds a word, if it is a library.
-fn push_library(word: &Word, libraries: &mut Listing<Word>) -> Result<(), AllocError>
-    ensures { OnOk result (libraries.new ≡ libraries.old ++ library_words word.now) }
+/// Whether a word by itself is a library, or an archive.
+fn is_library(word: &[u8]) -> bool
+    ensures { result ≡ is_library word.now }
+{
+    word.starts_with(b"-l") && !is_lone(word) || word.ends_with(b".a")
+}
+
+/// Adds a word, if it is a library by itself.
+fn push_library(found: &mut Listing<Word>, word: &Word) -> Result<(), AllocError>
+    ensures { OnOk result (found.new ≡ found.old ++ library_words word.now) }
 {
     if is_library(word.as_bytes()) {
-        libraries.push(word.clone()?)?;
+        found.push(word.clone()?)?;
     }
     Ok(())
 }
 
-/// The libraries among the words so far.
-#[derive(Drop)]
-struct LinkLibraries {
-    /// The libraries.
-    found: Listing<Word>,
-    /// The last word, if that is `-l` alone.
-    lone: Option<Word>,
+/// Adds the library of an `-l` and the word after it.
+fn push_joined(found: &mut Listing<Word>, lone: &Word, word: &Word) -> Result<(), AllocError>
+    ensures { OnOk result (found.new ≡ found.old ++ (lone.now ++ word.now) ∷ []) }
+{
+    let mut library = lone.clone()?;
+    library.extend_from_slice(word.as_bytes())?;
+    found.push(library)
 }
 
-impl LinkLibraries {
-    /// No libraries.
-    fn new(alloc: Global) -> LinkLibraries
-        ensures { result ≡ no_libraries }
-    {
-        LinkLibraries {
-            found: Listing::new(alloc),
-            lone: None,
+/// Adds the library that begins with this word, if one does, and gives the words behind it.
+fn push_first<'w>(
+    found: &mut Listing<Word>,
+    word: &Word,
+    after: &'w [Word],
+) -> Result<&'w [Word], AllocError>
+    ensures { IfOk result (λ left. found.new ++ libraries left.now
+        ≡ found.old ++ libraries (word.now ∷ after.now)) }
+    ensures shorter { IfOk result (λ left. length left.now ≤ length after.now) }
+{
+    match after {
+        [next, left @ ..] if is_lone(word.as_bytes()) => {
+            push_joined(found, word, next)?;
+            Ok(left)
         }
-    }
-
-    /// Adds a word that no `-l` precedes.
-    fn push_first(&mut self, word: &Word) -> Result<(), AllocError>
-        ensures { OnOk result (self.new ≡ with_first self.old word.now) }
-    {
-        if is_lone(word.as_bytes()) {
-            self.lone = Some(word.clone()?);
-            return Ok(());
-        }
-        push_library(word, &mut self.found)
-    }
-
-    /// Adds a word.
-    fn push(&mut self, word: &Word) -> Result<(), AllocError>
-        ensures { OnOk result (self.new ≡ with_word self.old word.now) }
-    {
-        match self.lone.take() {
-            Some(mut library) => {
-                library.extend_from_slice(word.as_bytes())?;
-                self.found.push(library)?;
-                Ok(())
-            }
-            None => self.push_first(word),
+        _ => {
+            push_library(found, word)?;
+            Ok(after)
         }
     }
 }
@@ -99,11 +84,12 @@ impl LinkLibraries {
 fn libraries(alloc: Global, words: &[Word]) -> Result<Listing<Word>, AllocError>
     ensures { IfOk result (λ found. found ≡ libraries words.now) }
 {
-    let mut so_far = LinkLibraries::new(alloc);
-    for word in words {
-        so_far.push(word)?;
+    let mut found = Listing::new(alloc);
+    let mut left = words;
+    while let [word, after @ ..] = left {
+        left = push_first(&mut found, word, after)?;
     }
-    Ok(so_far.found)
+    Ok(found)
 }
 
 /// A switch of this name.

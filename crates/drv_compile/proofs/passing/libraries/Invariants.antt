@@ -1,8 +1,11 @@
 use Rattle.drv_compile.proofs.passing.libraries.Given as goal
-use Rattle.drv_compile.specs.Passed.{libraries, libraries_from}
-use Rattle.std.proofs.Common.{◌≡◌, drop}
+use Rattle.drv_compile.specs.Passed.{libraries}
+use Rattle.std.proofs.Common.{◌≡◌, ◌++◌, length}
 
 -- The loops of libraries (src/passing.rt). The libraries among the words of a link.
 
-abbrev pub invariant-loop-word : goal.invariant-loop-word
-invariant-loop-word l = libraries_from l.so_far (drop l.word-index l.words) ≡ libraries l.words
+abbrev pub invariant-loop-left : goal.invariant-loop-left
+invariant-loop-left l = l.found ++ libraries l.left ≡ libraries l.words
+
+abbrev pub decreases-loop-left : goal.decreases-loop-left
+decreases-loop-left l = length l.left
