@@ -91,8 +91,8 @@ pub data Performs (F : Facts) (calling : Calling) (chain : Toolchain) (call : Ca
       → Overwrites call.inputs call.output read false → IsWorker F chain call given asked (Driver driven)
       → IsPlanned F calling chain driven seed prepared → Performs F calling chain call given seed (read ++ asked) prepared
 
--- why a line that could be carried out is refused, and the text that says it: an input is missing, the output is an input, the line can't be
--- called, neither a row nor the compiler's answer has the words for its machine, or the driver refuses its items
+-- why a line that could be carried out is refused, and the text that says it: an input is missing, the output is an input, it can't be
+-- called, its machine has no words, or the driver refuses its items
 pub data Fails (F : Facts) (calling : Calling) (chain : Toolchain) (call : Call) (given : Expanded) (seed : ℕ) : List HostEvent → List ℕ
     → Type 0 where
   objected : {b : ℕ} {text : List ℕ} → objection F calling.name call.inputs ≡ Is (b ∷ text)
