@@ -13,7 +13,7 @@ use crate::{Surroundings, Variable};
 use drv_words::{Listing, Word};
 use std::alloc::{AllocError, Global};
 
-/// The words that the compiler is called again with.
+/// The words that the compiler is called again with, where these switches are left.
 fn collected_with(
     alloc: Global,
     items: &[Item],
@@ -27,7 +27,7 @@ fn collected_with(
     Ok(words)
 }
 
-/// The variables by which the compiler is called again.
+/// The variables by which the compiler is called again, where these switches are left.
 fn variables_with(
     alloc: Global,
     around: &Surroundings,

@@ -259,7 +259,8 @@ fn run_with(
     }))
 }
 
-/// The call of a line with these items, where these words of its switches are left.
+/// The call of a line with these items, where its self specs leave these words of its switches and
+/// add these items.
 fn run_left(
     alloc: Global,
     around: &Surroundings,

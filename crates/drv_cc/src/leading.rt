@@ -69,7 +69,7 @@ fn is_given(folder: Option<&[u8]>) -> bool
     folder.is_some()
 }
 
-/// The folder that options name, or the line's own.
+/// The folder that was given, or else the line's own.
 fn given_or<'a>(own: &'a [u8], given: Option<&'a [u8]>) -> &'a [u8]
     ensures { result.now ≡ given_or own.now (option_map (λ folder. folder.now) given.entry) }
 {

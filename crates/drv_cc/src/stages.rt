@@ -24,7 +24,7 @@ fn is_unlinked(item: &Item) -> bool
         || is(name, b"-fsyntax-only")
 }
 
-/// Whether an option leaves the link out.
+/// Whether one of the options leaves the link out.
 fn has_unlinked(items: &[Item]) -> bool
     ensures { result ≡ list_any is_unlinked items.now }
 {

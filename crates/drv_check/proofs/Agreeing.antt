@@ -367,7 +367,7 @@ module _ (F : Facts) (prefixes : Prefixes) where
   Loads before c (Is (Ok set)) = (faults_of c.findings ≡ before) × (c.set ≡ set)
   Loads before c (Is (Err fault)) = (more : List SpecsFault) × (faults_of c.findings ≡ before ++ fault ∷ more)
 
-  -- what is carried along while a file is read becomes the set that it makes
+  -- what is carried along while a file is read becomes the set that it makes (`set_in`), where check and driver agree so far (`Follows`)
   pub loads_set : (before : List SpecsFault) (c : Checking) (known : Known (Result Carried SpecsFault)) → Follows before c known
       → Loads before c (then_by known set_in)
   loads_set before c Unasked follows = follows

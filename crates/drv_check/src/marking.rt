@@ -475,7 +475,7 @@ fn push_own(
     push_text(alloc, parts, files.set, &text)
 }
 
-/// Adds the marked parts of the text of a piece, where it has this head.
+/// Adds the marked parts of the text of a piece, if it has a colon, and this head before it.
 #[tactic(auto, using(crate::proofs::MarkSteps::of_colon, crate::proofs::MarkSteps::of_none))]
 fn push_headed(
     alloc: Global,

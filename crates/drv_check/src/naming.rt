@@ -262,7 +262,8 @@ fn push_own(
     push_run(alloc, namings, files, head, text)
 }
 
-/// Adds the parts of the text of a piece that name switches, where it has this head.
+/// Adds the parts of the text of a piece that name switches, if it has a colon, and this head before
+/// it.
 #[tactic(auto, using(crate::proofs::Namings::of_colon, crate::proofs::Namings::of_none))]
 fn push_headed(
     alloc: Global,

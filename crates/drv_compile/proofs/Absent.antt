@@ -37,8 +37,8 @@ text_further : (done after line : List ℕ) (others : Known (List ℕ)) → afte
 text_further done after line Unasked is = refl
 text_further done after line (Is lines) is = rw (is, append_assoc) refl
 
--- For `absent_inputs_text`: if the line of input i was added, or none since that is there, then the text so far and what the inputs after it add are
--- still the whole.
+-- For `absent_inputs_text`: if the line of input i was added, or none since that is there, then the text so far and what the inputs after
+-- it add are still the whole.
 pub absent_more : (F : Facts) (name : List ℕ) (inputs : List (List ℕ)) (i : ℕ) (input : List ℕ) (kind : PathKind) (done after : List ℕ)
     → i < length inputs → input ≡ get_or inputs i input → kind_of F input ≡ Some kind → after ≡ done ++ absent_by name input kind
     → after_text done (absent_of F name (drop i inputs)) ≡ absent_of F name inputs

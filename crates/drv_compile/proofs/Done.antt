@@ -110,7 +110,8 @@ pub text_unclosed : (journal journal' : List Event) (text : List ℕ) (status : 
 text_unclosed journal journal' [] status some same = absurd (omega (arith, some))
 text_unclosed journal journal' (b ∷ text) status some same = ([], same ∙ sym (append-nil journal), unnoted)
 
--- For `say_hint_or_remark`: if the text is the hint or the remark, by what the work's events lack, and it was said, then the work was noted.
+-- For `say_hint_or_remark`: if the text is the hint or the remark, by what the work's events lack, and it was said, then the work was
+-- noted.
 pub closing_noted : (journal journal' : List Event) (before : ℕ) (prepared : Prepared) (lacks : Bool) (text : List ℕ) (status : ℕ)
     (outcome : Outcome)
     → lacks_program prepared (drop before journal) ≡ lacks → text ≡ closing prepared lacks → IsClosed journal journal' text status outcome
@@ -216,7 +217,8 @@ only_says_more silent journal journal' only = subst (λ j. OnlySays j journal') 
 only_says_more (spoken {b} {text} {told}) journal journal' (said, grown, are) =
     (Say (b ∷ text) told ∷ said, grown ∙ append_assoc journal (Say (b ∷ text) told ∷ []) said, are)
 
--- For `say_and_carry_out`: if the first text was said and then the work done, or memory lacked for it, then that is what a call says and does.
+-- For `say_and_carry_out`: if the first text was said and then the work done, or memory lacked for it, then that is what a call says and
+-- does.
 pub work_spoken : (name : List ℕ) (journal journal' journal'' : List Event) (prepared : Prepared) (said : List ℕ) (outcome : Outcome)
     → said ≡ prepared.said
     → IsOpened journal journal' said → Worked name journal' journal'' prepared outcome → Spoken name journal journal'' prepared outcome

@@ -11,8 +11,8 @@ use Rattle.drv_compile.specs.Code.Refusing.{IsEndSaid}
 use Rattle.drv_compile.specs.Compilers.{values}
 use Rattle.drv_compile.specs.Driven.{IsCalled, IsChosen, IsDenied, IsMachined, IsMade, IsUnanswered, IsUncalled, IsUndrivenAfter, IsWorker}
 use Rattle.drv_compile.specs.Driven.{IsWorkerAfter, Passes, Replaces, Undriven, answer_of, asks, at_once, denied, driver_items}
-use Rattle.drv_compile.specs.Driven.{driver_line, drives, in_place, later, not_answered, not_whole, refuses, rows_of, runs, stays, unchanged}
-use Rattle.drv_compile.specs.Driven.{uncalled, uncalled_after, undriven_after, unworded}
+use Rattle.drv_compile.specs.Driven.{driver_line, drives, in_place, later, not_answered, not_whole, refuses, rows_of, runs, stays}
+use Rattle.drv_compile.specs.Driven.{uncalled, uncalled_after, unchanged, undriven_after, unworded}
 use Rattle.drv_compile.specs.Inputs.{Noted}
 use Rattle.drv_compile.specs.Machines.{RowAsked, items_by, row_of}
 use Rattle.drv_compile.specs.Near.{AreTold}

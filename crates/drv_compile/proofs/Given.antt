@@ -66,7 +66,8 @@ pub text_worked : (found : Known (Result Outcome PlanFault)) (done : Outcome) (w
     → found ≡ Is (Ok done) → worked ≡ of_job done.job → of_outcome found ≡ Is (Ok worked)
 text_worked found done worked is job = ap of_outcome is ∙ ap (λ w. Is (Ok w)) (sym job)
 
--- For `worked_line`: if the context is the one of the line, the set and the prefixes, then the outcome of the text in it is the work along the line.
+-- For `worked_line`: if the context is the one of the line, the set and the prefixes, then the outcome of the text in it is the work along
+-- the line.
 pub context_made : (F : Facts) (set : Set) (text : List ℕ) (line : Line) (prefixes : Prefixes) (context : Context)
     → context ≡ context_of line set prefixes 0
     → worked_along F set text line prefixes ≡ of_outcome (of_text (outcome F context (tree_of text)))

@@ -47,8 +47,8 @@ passed_switch word = alone effect.Switch (codes "--gdrv-pass=" ++ word)
 abbrev pub passed_items : List (List ℕ) → List Item
 passed_items words = alone effect.Switch (codes "--gdrv-passed") ∷ map passed_switch (libraries words)
 
--- a line of the driver with the libraries of its link, if the text gave words; a line whose specs or texts are refused stays, and the driver
--- refuses it
+-- a line of the driver with the libraries of its link, if the text gave words; a line whose specs or texts are refused stays, and the
+-- driver refuses it
 abbrev pub line_by : DriverLine → Ended Worked → Known DriverLine
 line_by line Unasked = Unasked
 line_by line (Is (Err ending)) = Is line

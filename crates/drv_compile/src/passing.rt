@@ -55,7 +55,8 @@ fn push_joined(found: &mut Listing<Word>, lone: &Word, word: &Word) -> Result<()
 {
     let mut library = lone.clone()?;
     library.extend_from_slice(word.as_bytes())?;
-    found.push(library)
+    found.push(library)?;
+    Ok(())
 }
 
 /// Adds the library that begins with this word, if one does, and gives the words behind it.
@@ -64,7 +65,7 @@ fn push_first<'w>(
     word: &Word,
     after: &'w [Word],
 ) -> Result<&'w [Word], AllocError>
-    ensures { IfOk result (λ left. found.new ++ libraries left.now
+    ensures goes { IfOk result (λ left. found.new ++ libraries left.now
         ≡ found.old ++ libraries (word.now ∷ after.now)) }
     ensures shorter { IfOk result (λ left. length left.now ≤ length after.now) }
 {

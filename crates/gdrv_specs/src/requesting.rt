@@ -39,7 +39,7 @@ fn name_off(word: &[u8]) -> Option<&[u8]>
 }
 
 impl Request {
-    /// Without words.
+    /// What a call without words asks.
     fn new(alloc: Global) -> Request
         ensures { result ≡ no_request }
     {

@@ -10,7 +10,8 @@ use Rattle.gdrv_write_specs.specs.declared.calling.Manner.{Manner}
 use Rattle.gdrv_write_specs.specs.declared.calling.Order.{Order}
 use Rattle.std.specs.Cmp.Lexicographic.{pointwise}
 use Rattle.std.specs.List.{ends_with, list_all, starts_with}
-use Rattle.std.specs.Prelude.{◌&&◌, ◌++◌, Bool, Err, List, [], ◌∷◌, None, Ok, Option, Result, Some, codes, if◌then◌else◌, length, nat_eq, nat_lt, ℕ}
+use Rattle.std.specs.Prelude.{◌&&◌, ◌++◌, Bool, Err, List, [], ◌∷◌, None, Ok, Option, Result, Some, codes, if◌then◌else◌, length, nat_eq}
+use Rattle.std.specs.Prelude.{nat_lt, ℕ}
 
 -- What a call of the program asks for: [--force] [-o X.specs] GCC [OPTION..], or --add X.specs OPTION.., or --row X.specs OPTION.. (this
 -- project's profile).

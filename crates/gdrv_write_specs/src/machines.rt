@@ -321,7 +321,7 @@ fn places(
 }
 
 /// The value that a probe shows in commands.
-fn value_in(alloc: Global, commands: &[Listing<Word>]) -> Result<Word, Fault> {
+fn probed_value(alloc: Global, commands: &[Listing<Word>]) -> Result<Word, Fault> {
     let link = command_named(commands, b"PROBE-V").unwrap_or(&[]);
     let words = words_between(alloc, link, b"PROBE-V", b"PROBE-END")?;
     Ok(words_text(alloc, words.as_slice())?)
@@ -333,7 +333,7 @@ fn value_of(asked: Asked<'_>, probe: &Word) -> Result<Word, Fault> {
     let mut line = question_about(alloc, b"-### x.o -o x -specs=", probe.as_bytes())?;
     line.extend_from_slice(b" ")?;
     let planned = asked.plan(line.as_bytes())?;
-    value_in(alloc, planned.as_slice())
+    probed_value(alloc, planned.as_slice())
 }
 
 /// What the probes of a function show.
