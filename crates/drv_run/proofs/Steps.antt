@@ -5,9 +5,10 @@ use Rattle.drv_args.specs.declared.line.Expanded.{Expanded}
 use Rattle.drv_args.specs.declared.line.Line.{Line}
 use Rattle.drv_funcs.specs.declared.fault.FuncsFault.TheVariants as funcs_fault
 use Rattle.drv_machine.specs.declared.fault.MachineFault.TheVariants as machine_fault
+use Rattle.drv_plan.specs.Denoted.{denoted}
 use Rattle.drv_plan.specs.declared.fault.PlanFault.TheVariants as plan_fault
 use Rattle.drv_plan.specs.declared.fault.PlanFault.{PlanFault}
-use Rattle.drv_run.specs.Drives.{Comes, Refuses, Words, not_expanded, not_fronted, not_loaded, not_planned, not_read, planned}
+use Rattle.drv_run.specs.Drives.{Comes, Refuses, Words, not_expanded, not_fronted, not_loaded, not_planned, not_read}
 use Rattle.drv_run.specs.Drives.{specs_of, stopped_by_args, stopped_by_plan, stopped_by_specs, work_of, work_with, worked}
 use Rattle.drv_run.specs.Code.Deciding.{ComesOfSpecs}
 use Rattle.drv_run.specs.Code.Wording.{GivesWords}
@@ -181,13 +182,13 @@ work_dumped F line set seed text dumps is = rw dumps (ap (λ t. Is (Ok (Dump t))
 
 -- without -dumpspecs the work is that of the plan
 pub work_planned : (F : Facts) (line : Line) (set : Set) (seed : ℕ) (plan : Plan) (work : Work) → line.settings.dump ≡ false
-    → planned F line set seed ≡ Is (Ok plan)
+    → denoted F line set seed ≡ Is (Ok plan)
     → work ≡ work_with line.settings plan → work_of F line set seed ≡ Is (Ok work)
 work_planned F line set seed plan work dumps plans is = rw dumps (ap (worked line.settings) plans ∙ ap (λ w. Is (Ok w)) (sym is))
 
 -- without -dumpspecs the plan's refusal is the work's
 pub work_refused : (F : Facts) (line : Line) (set : Set) (seed : ℕ) (fault : PlanFault) → line.settings.dump ≡ false
-    → (fault ≡ plan_fault.Memory) ⊎ (planned F line set seed ≡ Is (Err fault))
+    → (fault ≡ plan_fault.Memory) ⊎ (denoted F line set seed ≡ Is (Err fault))
     → (fault ≡ plan_fault.Memory) ⊎ (work_of F line set seed ≡ Is (Err fault))
 work_refused F line set seed fault dumps (inl memory) = inl memory
 work_refused F line set seed fault dumps (inr refused) = inr (rw dumps (ap (worked line.settings) refused))

@@ -80,10 +80,6 @@ specs_over F set settings = prefixes_of F settings.prefixes >>= λ prefixes. fil
 abbrev pub specs_of : Facts → Settings → Known (Result Set SpecsFault)
 specs_of F settings = specs_over F builtin_specs settings
 
--- the plan of a line with these specs and this seed
-abbrev pub planned : Facts → Line → Set → ℕ → Known (Result Plan PlanFault)
-planned F line set seed = denoted F line set seed
-
 -- a line with other settings of the call itself: whether its plan is shown, whether it is said, whose codes count, and how many sources are
 -- under way at once. The plan sees none of them: the law `same_plan`.
 abbrev pub called_as : Bool → Bool → Bool → ℕ → Line → Line
@@ -114,7 +110,7 @@ worked settings (Is (Ok plan)) = Is (Ok (work_with settings plan))
 
 -- what is done for a line with these specs: with -dumpspecs they are dumped
 abbrev pub work_of : Facts → Line → Set → ℕ → Known (Result Work PlanFault)
-work_of F line set seed = if line.settings.dump then Is (Ok (Dump (dumped set))) else worked line.settings (planned F line set seed)
+work_of F line set seed = if line.settings.dump then Is (Ok (Dump (dumped set))) else worked line.settings (denoted F line set seed)
 
 -- What arguments ask for. What words expand to is a relation, of which the law `one_expansion` says that it has one value or one refusal,
 -- and never both; what follows are functions. So arguments ask for one work, or have one refusal, and never both: the law `one_ending`.

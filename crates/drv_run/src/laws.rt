@@ -3,8 +3,9 @@
 // In clauses: `Refuses` says why arguments are refused. The names of temporaries contain the
 // `seed`.
 ghost use Rattle.drv_args.specs.declared.line.Line.{Line};
+ghost use Rattle.drv_plan.specs.Denoted.{denoted};
 ghost use Rattle.drv_run.specs.Calls.{Does, Drove, OnlyAsked};
-ghost use Rattle.drv_run.specs.Drives.{Drives, Refuses, called_as, planned};
+ghost use Rattle.drv_run.specs.Drives.{Drives, Refuses, called_as};
 ghost use Rattle.drv_run.specs.declared.ending.Ending.TheVariants.{Refused};
 ghost use Rattle.drv_run.specs.declared.ending.Refusal.{Refusal};
 ghost use Rattle.drv_run.specs.declared.work.Work.TheVariants.{Show};
@@ -32,8 +33,8 @@ pub fn one_ending()
 pub fn same_plan()
     ensures { (F : Facts) (line : Line) (set : Set) (seed : ℕ)
         (dry verbose pass_codes : Bool) (jobs : ℕ)
-        → planned F (called_as dry verbose pass_codes jobs line) set seed
-        ≡ planned F line set seed }
+        → denoted F (called_as dry verbose pass_codes jobs line) set seed
+        ≡ denoted F line set seed }
 {}
 
 /// A law: a call that is refused has asked, and nothing else: it has said and written nothing, and
