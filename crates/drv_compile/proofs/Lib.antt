@@ -8,6 +8,7 @@ pub mod Files
 pub mod Given
 pub mod Joined
 pub mod Leading
+pub mod LinkLibraries
 pub mod MachineRows
 pub mod Names
 pub mod Noting

@@ -33,7 +33,7 @@ abbrev pub library_words : List ℕ → List (List ℕ)
 library_words word = if is_library word then word ∷ [] else []
 
 -- the libraries among the words of a link: -l takes the next word, and is none at the end
-pub libraries : List (List ℕ) → List (List ℕ)
+unfoldable pub libraries : List (List ℕ) → List (List ℕ)
 libraries [] = []
 libraries (word ∷ []) = library_words word
 libraries (word ∷ next ∷ words) =

@@ -69,16 +69,16 @@ fn push_first<'w>(
         ≡ found.old ++ libraries (word.now ∷ after.now)) }
     ensures shorter { IfOk result (λ left. length left.now ≤ length after.now) }
 {
-    match after {
-        [next, left @ ..] if is_lone(word.as_bytes()) => {
-            push_joined(found, word, next)?;
-            Ok(left)
-        }
-        _ => {
-            push_library(found, word)?;
-            Ok(after)
-        }
+    let [next, left @ ..] = after else {
+        push_library(found, word)?;
+        return Ok(after);
+    };
+    if is_lone(word.as_bytes()) {
+        push_joined(found, word, next)?;
+        return Ok(left);
     }
+    push_library(found, word)?;
+    Ok(after)
 }
 
 /// The libraries among the words of a link.
