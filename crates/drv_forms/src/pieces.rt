@@ -10,7 +10,9 @@ use std::alloc::AllocError;
 pub enum Piece {
     /// The head of the script: its functions, and what is removed at its end. The positional
     /// parameters are those files; 4 is standard output, which a pipe's last command gets back.
-    /// A signal is noted, and the script ends outside of functions, which have other parameters.
+    /// A command is a program, looked for along PATH as `exec` does, and no word, function or
+    /// utility of the shell's own. A signal is noted, and the script ends outside of functions,
+    /// which have other parameters.
     Opening,
     /// The stem of temporaries is.
     Stem,
@@ -56,14 +58,20 @@ pub enum Piece {
 
 const OPENING: &[u8] = b"#!/bin/sh
 set -e
-exec 4>&1
+{ command exec 4>&1; } 2>/dev/null || exec 4>/dev/null
 set --
 gdrv_failed= gdrv_started= gdrv_stopped= gdrv_pipe= gdrv_file= gdrv_folder= gdrv_stem=
 remove() { for gdrv_file; do if test -f \"$gdrv_file\" && ! test -L \"$gdrv_file\"; then rm -f -- \"$gdrv_file\"; fi; done; }
 claim() { (umask 077; set -C; printf %s \"$2\" >\"$1\"); }
-starts() { test -z \"$gdrv_stopped\" && command -v -- \"$1\" >/dev/null && gdrv_started=yes; }
-run() { starts \"$1\" && command -- \"$@\" 4>&- && test -z \"$gdrv_stopped\"; }
-member() { command -- \"$@\" 3>&- 4>&- || echo failed >&3; }
+is_program() { test -f \"$1\" && test -x \"$1\"; }
+is_found() (
+case $1 in -*) exit 1 ;; */*) is_program \"$1\" && exit 0 || exit 1 ;; esac
+set -f; IFS=:; gdrv_file=$PATH:
+for gdrv_file in $gdrv_file; do if is_program \"${gdrv_file:-.}/$1\"; then exit 0; fi; done; exit 1
+)
+starts() { test -z \"$gdrv_stopped\" && is_found \"$1\" && gdrv_started=yes; }
+run() { starts \"$1\" && (exec \"$@\" 4>&-) && test -z \"$gdrv_stopped\"; }
+member() { (exec \"$@\" 3>&- 4>&-) || echo failed >&3; }
 trap 'remove \"$@\" || :; test -z \"$gdrv_folder\" || rmdir -- \"$gdrv_folder\" || :' EXIT
 trap gdrv_stopped=yes HUP INT TERM
 ";
