@@ -12,6 +12,7 @@ use Rattle.drv_compile.specs.declared.machines.LineRow.{LineRow}
 use Rattle.drv_compile.specs.declared.machines.MachineItems.TheVariants.{Lacks, Made}
 use Rattle.drv_compile.specs.declared.machines.MachineItems.{MachineItems}
 use Rattle.drv_words.specs.Bytes as byte
+use Rattle.drv_words.specs.Response.{marked}
 use Rattle.std.specs.Cmp.Lexicographic.{pointwise}
 use Rattle.std.specs.List.{flat_map, slice_split, starts_with}
 use Rattle.std.specs.Prelude.{◌≡◌, ◌==◌, ◌||◌, Bool, List, [], ◌∷◌, ◌++◌, None, Option, Some, codes, drop, if◌then◌else◌, length}
@@ -30,9 +31,10 @@ abbrev pub is_machine : List ℕ → Bool
 is_machine option =
     starts_with nat_eq option (codes "-m") || pointwise nat_eq option (codes "-EB") || pointwise nat_eq option (codes "-EL")
 
--- the options of a line for its machine
+-- an option of a line for its machine, as a key has it: white space, quotes and backslashes inside it have a backslash before them, so that
+-- it is no other option of a row
 abbrev pub key_word : Item → List ℕ
-key_word i = if is_machine i.option then byte.space ∷ i.option ++ i.argument else []
+key_word i = if is_machine i.option then byte.space ∷ marked i.option ++ marked i.argument else []
 
 -- what follows an option on a line of the file, if that is a blank and a word
 abbrev pub word_after : List ℕ → List ℕ

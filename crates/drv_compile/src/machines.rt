@@ -6,6 +6,7 @@ ghost use Rattle.drv_compile.specs.Machines.{found_or_missing, items_by, plain_i
 ghost use Rattle.drv_compile.specs.Machines.{row_beginning, row_in, row_items, row_of, word_item};
 ghost use Rattle.drv_compile.specs.Machines.{word_items};
 ghost use Rattle.drv_compile.specs.Suffixes.{suffixed_by};
+ghost use Rattle.drv_words.specs.Response.{is_marked, marked};
 ghost use Rattle.drv_compile.specs.declared.machines.LineRow.TheVariants.{Found};
 ghost use Rattle.drv_args.specs.declared.items.Item.{Item};
 ghost use Rattle.drv_cc.specs.declared.answer.Variable.{Variable};
@@ -48,14 +49,34 @@ pub(crate) fn is_machine(option: &[u8]) -> bool
     option.starts_with(b"-m") || option == b"-EB".as_slice() || option == b"-EL".as_slice()
 }
 
+/// Whether a byte has a backslash before it in a key.
+fn is_marked_byte(byte: u8) -> bool
+    ensures { result ≡ is_marked byte }
+{
+    matches!(byte, 9..=13 | b' ' | b'\'' | b'"' | b'\\')
+}
+
+/// Adds the bytes of an option, with a backslash before those that need one.
+fn push_marked(key: &mut Word, option: &[u8]) -> Result<(), AllocError>
+    ensures { OnOk result (key.new ≡ key.old ++ marked option.now) }
+{
+    for &byte in option {
+        if is_marked_byte(byte) {
+            key.push(b'\\')?;
+        }
+        key.push(byte)?;
+    }
+    Ok(())
+}
+
 /// Adds an option that chooses a machine.
 fn push_key(key: &mut Word, item: &Item) -> Result<(), AllocError>
     ensures { OnOk result (key.new ≡ key.old ++ key_word item.now) }
 {
     if is_machine(item.option.as_bytes()) {
         key.push(b' ')?;
-        key.extend_from_slice(item.option.as_bytes())?;
-        key.extend_from_slice(item.argument.as_bytes())?;
+        push_marked(key, item.option.as_bytes())?;
+        push_marked(key, item.argument.as_bytes())?;
     }
     Ok(())
 }
