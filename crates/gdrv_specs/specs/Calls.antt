@@ -15,6 +15,7 @@ use Rattle.gdrv_specs.specs.Requests.{no_request, requested_from}
 use Rattle.gdrv_specs.specs.declared.requesting.Request.{Request}
 use Rattle.gdrv_specs.specs.declared.views.Scope.TheVariants as scope
 use Rattle.std.specs.Cmp.Lexicographic.{pointwise}
+use Rattle.std.specs.List.{starts_with}
 use Rattle.std.specs.Prelude.{Bool, Err, List, [], ◌∷◌, ◌++◌, None, Ok, Option, Result, Some, codes, drop, false, if◌then◌else◌, length}
 use Rattle.std.specs.Prelude.{nat_eq, nat_lt, true, ℕ}
 
@@ -75,18 +76,31 @@ asks_database (word ∷ words) = pointwise nat_eq word (codes "--compdb")
 abbrev pub plan_asked : List (List ℕ) → Call
 plan_asked words = if asks_database words then Database (drop 1 words) else Plan (form_of words) (line_of words)
 
--- Answers that are given ahead: each word --fail takes the word after it for one, and the line is what is left.
+-- Answers that are given ahead: each word --fail takes the word after it for one, --fail=ANSWER has it, and the line is what is left.
 
 -- before the first word: no line and no answers
 abbrev pub no_words : Cut
 no_words = record { line = []; given = []; awaits = false }
+
+-- how a word begins that has its answer
+abbrev pub answer_beginning : List ℕ
+answer_beginning = codes "--fail="
+
+-- the answer that a word has, if it has one
+abbrev pub joined_answer : List ℕ → Option (List ℕ)
+joined_answer word = if starts_with nat_eq word answer_beginning then Some (drop (length answer_beginning) word) else None
+
+-- a word for which no --fail waits: it has its answer, or it is one of the line
+abbrev pub taken_alone : Cut → List ℕ → Option (List ℕ) → Cut
+taken_alone cut word None = record cut { line = cut.line ++ word ∷ [] }
+taken_alone cut word (Some answer) = record cut { given = cut.given ++ answer ∷ [] }
 
 -- what is known of the words of after, with one more word
 abbrev pub taken : Cut → List ℕ → Cut
 taken cut word =
     if cut.awaits then record cut { given = cut.given ++ word ∷ []; awaits = false }
     else if pointwise nat_eq word (codes "--fail") then record cut { awaits = true }
-    else record cut { line = cut.line ++ word ∷ [] }
+    else taken_alone cut word (joined_answer word)
 
 -- what is known of the words of after, once all were read
 abbrev pub cut_from : Cut → List (List ℕ) → Cut

@@ -1,6 +1,7 @@
 //! Words of a call: answers that are given ahead, and the line.
 
-ghost use Rattle.gdrv_specs.specs.Calls.{cut_from, no_words, taken};
+ghost use Rattle.gdrv_specs.specs.Calls.{cut_from, joined_answer, no_words, taken, taken_alone};
+ghost use Rattle.std.specs.Option.{option_copied};
 ghost use Rattle.std.specs.Prelude.{◌≡◌, IfOk, OnOk};
 
 use drv_words::{Listing, Word};
@@ -17,6 +18,13 @@ pub struct Cut {
     pub awaits: bool,
 }
 
+/// The answer that a word has, if it has one.
+fn joined_answer(word: &[u8]) -> Option<&[u8]>
+    ensures { option_copied result ≡ joined_answer word.now }
+{
+    word.strip_prefix(b"--fail=".as_slice())
+}
+
 impl Cut {
     /// No words.
     fn new(alloc: Global) -> Cut
@@ -29,19 +37,35 @@ impl Cut {
         }
     }
 
+    /// Takes one more word, for which no `--fail` waits.
+    fn take_alone(&mut self, alloc: Global, word: &Word) -> Result<(), AllocError>
+        ensures { OnOk result (self.new ≡ taken_alone self.old word.now (joined_answer word.now)) }
+    {
+        match joined_answer(word.as_bytes()) {
+            Some(answer) => {
+                self.given.push(Word::from_bytes(alloc, answer)?)?;
+            }
+            None => {
+                self.line.push(word.clone()?)?;
+            }
+        }
+        Ok(())
+    }
+
     /// Takes one more word.
-    fn take(&mut self, word: &Word) -> Result<(), AllocError>
+    fn take(&mut self, alloc: Global, word: &Word) -> Result<(), AllocError>
         ensures { OnOk result (self.new ≡ taken self.old word.now) }
     {
         if self.awaits {
             self.given.push(word.clone()?)?;
             self.awaits = false;
-        } else if word.as_bytes() == b"--fail".as_slice() {
-            self.awaits = true;
-        } else {
-            self.line.push(word.clone()?)?;
+            return Ok(());
         }
-        Ok(())
+        if word.as_bytes() == b"--fail".as_slice() {
+            self.awaits = true;
+            return Ok(());
+        }
+        self.take_alone(alloc, word)
     }
 }
 
@@ -51,7 +75,7 @@ pub fn cut_words(alloc: Global, words: &[Word]) -> Result<Cut, AllocError>
 {
     let mut cut = Cut::new(alloc);
     for word in words {
-        cut.take(word)?;
+        cut.take(alloc, word)?;
     }
     Ok(cut)
 }
