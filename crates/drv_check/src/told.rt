@@ -1,6 +1,6 @@
 //! What a check prints of findings, as text.
 
-ghost use Rattle.drv_check.specs.Shown.{pad_byte, padding, shown};
+ghost use Rattle.drv_check.specs.Shown.{is_continuing, pad_byte, padding, shown, takes_no_column};
 ghost use Rattle.drv_check.specs.Told.{excerpt, from_text, head_text, kind_text, place_text, report_text};
 ghost use Rattle.drv_check.specs.Told.{told_text};
 ghost use Rattle.std.specs.List.{flat_map};
@@ -92,12 +92,31 @@ fn pad_byte(byte: u8) -> u8
     if byte == b'\t' { b'\t' } else { b' ' }
 }
 
+/// The first byte that goes on a character of UTF-8.
+const FIRST_CONTINUING: u8 = 0x80;
+/// The last one.
+const LAST_CONTINUING: u8 = 0xBF;
+
+/// Whether a byte goes on a character.
+fn is_continuing(byte: u8) -> bool
+    ensures { result ≡ is_continuing byte }
+{
+    FIRST_CONTINUING <= byte && byte <= LAST_CONTINUING
+}
+
+/// Whether a byte takes no column.
+fn takes_no_column(byte: u8) -> bool
+    ensures { result ≡ takes_no_column byte }
+{
+    byte == b'\r' || is_continuing(byte)
+}
+
 /// Adds the bytes that those of a line before the caret have below them.
 fn push_padding(text: &mut Word, line: &[u8]) -> Result<(), AllocError>
     ensures { OnOk result (text.new ≡ text.old ++ padding line.now) }
 {
     for &byte in line {
-        if byte != b'\r' {
+        if !takes_no_column(byte) {
             text.push(pad_byte(byte))?;
         }
     }
