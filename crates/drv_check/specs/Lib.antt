@@ -3,6 +3,7 @@ pub mod Branches
 pub mod Checked
 pub mod Checks
 pub mod Code
+pub mod Compared
 pub mod Coverage
 pub mod Differing
 pub mod FaultNotes

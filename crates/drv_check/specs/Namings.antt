@@ -1,3 +1,4 @@
+use Rattle.drv_check.specs.Compared.{asks_switch, is_call, prefix_of}
 use Rattle.drv_check.specs.Origins.{files_from, head_in, spot_at, text_spots}
 use Rattle.drv_check.specs.OwnTexts.{is_run, own_text, own_tree}
 use Rattle.drv_check.specs.Pieces.{pieces_of}
@@ -17,31 +18,40 @@ use Rattle.drv_syntax.specs.declared.token.Token.{Token}
 use Rattle.drv_syntax.specs.declared.token.TokenKind.TheVariants as kinds
 use Rattle.drv_syntax.specs.declared.token.TokenKind.{TokenKind}
 use Rattle.std.specs.List.{flat_map}
-use Rattle.std.specs.Prelude.{◌+◌, ◌-◌, List, [], ◌∷◌, ◌++◌, None, Option, Some, drop, if◌then◌else◌, length, take, ℕ}
+use Rattle.std.specs.Prelude.{◌+◌, ◌-◌, ◌||◌, Bool, List, [], ◌∷◌, ◌++◌, None, Option, Some, drop, if◌then◌else◌, length, take, ℕ}
 
--- The parts of a set's texts that name switches (GCC manual, "Spec Files", %{S}, %{S:X} and %<S), each with its place in a file, if a file
+-- The parts of a set's texts that name switches (GCC manual, "Spec Files", %{S}, %{S:X}, %<S and %:version-compare), each with its place in a file, if a file
 -- put its text.
 -- For clauses of src/naming.rt. gdrv_specs cites it too.
 
 -- what a part does with the switches that its pattern names
 
--- what a test does with switches: only one of a switch asks for any
-abbrev pub test_deed : TestKind → Option Deed
-test_deed asking.Switch = Some Tests
-test_deed asking.Suffix = None
-test_deed asking.Language = None
-test_deed asking.Result = None
+-- what a call of the function with this name does with switches
+abbrev pub call_deed : List ℕ → Option Deed
+call_deed name = if asks_switch name then Some Tests else None
 
--- what a part does with switches, if it names any: it passes them on, hides them, or asks for them
-abbrev pub deed_of : TokenKind → TestKind → Option Deed
-deed_of kinds.Pattern asks = Some Passes
-deed_of kinds.Hide asks = Some Hides
-deed_of kinds.Test asks = test_deed asks
-deed_of kind asks = None
+-- what a test with this word does with switches: one of a switch asks for it, and one of a result does what the call does
+abbrev pub test_deed : TestKind → List ℕ → Option Deed
+test_deed asking.Switch word = Some Tests
+test_deed asking.Suffix word = None
+test_deed asking.Language word = None
+test_deed asking.Result word = call_deed word
+
+-- what a part with this word does with switches, if it names any: it passes them on, hides them, or asks for them
+abbrev pub deed_of : TokenKind → TestKind → List ℕ → Option Deed
+deed_of kinds.Pattern asks word = Some Passes
+deed_of kinds.Hide asks word = Some Hides
+deed_of kinds.Test asks word = test_deed asks word
+deed_of kinds.Function asks word = call_deed word
+deed_of kind asks word = None
 
 -- a part of a text with this head, as it is written
 abbrev pub written_part : List ℕ → Token → List ℕ
 written_part text token = take (token.end - token.start) (drop token.start text)
+
+-- the word that a part names switches by: a call does so by a prefix
+abbrev pub naming_word : Bool → List ℕ → List ℕ → List ℕ
+naming_word calls written word = if calls then prefix_of written else word
 
 -- the naming of a token that has a deed
 abbrev pub naming_if : List ℕ → List ℕ → List Spot → Token → Label → Option Deed → List Naming
@@ -49,15 +59,15 @@ naming_if head text spots token label None = []
 naming_if head text spots token label (Some deed) = record {
   head = head;
   deed = deed;
-  word = label.word;
-  starred = label.starred;
+  word = naming_word (is_call token.kind label.asks) (written_part text token) label.word;
+  starred = is_call token.kind label.asks || label.starred;
   written = written_part text token;
   spot = spot_at spots (length text) token.start;
 } ∷ []
 
 -- the naming of a token, or none
 abbrev pub token_namings : List ℕ → List ℕ → List Spot → Token → Label → List Naming
-token_namings head text spots token label = naming_if head text spots token label (deed_of token.kind label.asks)
+token_namings head text spots token label = naming_if head text spots token label (deed_of token.kind label.asks label.word)
 
 -- of tokens, the first of which has the place n
 abbrev pub tokens_namings : List ℕ → List ℕ → List Spot → Items → ℕ → List Token → List Naming

@@ -4,6 +4,7 @@
 mod branches;
 mod bytes;
 mod checking;
+mod compared;
 mod differing;
 mod fault_notes;
 mod findings;

@@ -1,7 +1,7 @@
 //! The parts of a set's texts that name switches.
 
-ghost use Rattle.drv_check.specs.Namings.{deed_of, headed_namings, naming_if, namings_of, piece_namings};
-ghost use Rattle.drv_check.specs.Namings.{test_deed, token_namings, tree_namings, written_part};
+ghost use Rattle.drv_check.specs.Namings.{call_deed, deed_of, headed_namings, naming_if, naming_word, namings_of};
+ghost use Rattle.drv_check.specs.Namings.{piece_namings, test_deed, token_namings, tree_namings, written_part};
 ghost use Rattle.drv_check.specs.Origins.{text_spots};
 ghost use Rattle.drv_check.specs.OwnTexts.{own_text, own_tree};
 ghost use Rattle.drv_syntax.specs.Labels.{label_at};
@@ -10,6 +10,7 @@ ghost use Rattle.drv_syntax.specs.Tokens.{tokens_of};
 ghost use Rattle.std.specs.List.{flat_map};
 ghost use Rattle.std.specs.Prelude.{◌≡◌, ◌<◌, ◌++◌, IfOk, OnOk, Some, length};
 
+use crate::compared::{asks_switch, is_call, prefix_of};
 use crate::findings::{Source, Spot};
 use crate::known_trees::known_tree;
 use crate::origins::{Files, head_in, open_all, spot_at, text_spots};
@@ -27,7 +28,7 @@ use std::alloc::{AllocError, Global};
 pub enum Deed {
     /// `%{S}` passes them on.
     Passes,
-    /// `%{S:X}` tests whether there are any.
+    /// `%{S:X}` or `%:version-compare` tests whether there are any.
     Tests,
     /// `%<S` hides them.
     Hides,
@@ -40,7 +41,7 @@ pub struct Naming {
     pub head: Word,
     /// What it does with the switches.
     pub deed: Deed,
-    /// The word of its pattern.
+    /// The word of its pattern. A call has the prefix that it asks for, with a star.
     pub word: Word,
     /// Whether a star follows the word.
     pub starred: bool,
@@ -50,24 +51,36 @@ pub struct Naming {
     pub spot: Option<Spot>,
 }
 
-/// What a test does with switches.
-fn test_deed(asks: TestKind) -> Option<Deed>
-    ensures { result ≡ test_deed asks }
+/// What a call of the function with this name does with switches.
+fn call_deed(name: &[u8]) -> Option<Deed>
+    ensures { result ≡ call_deed name.now }
+{
+    if asks_switch(name) {
+        return Some(Deed::Tests);
+    }
+    None
+}
+
+/// What a test with this word does with switches.
+fn test_deed(asks: TestKind, word: &[u8]) -> Option<Deed>
+    ensures { result ≡ test_deed asks word.now }
 {
     match asks {
         TestKind::Switch => Some(Deed::Tests),
-        TestKind::Suffix | TestKind::Language | TestKind::Result => None,
+        TestKind::Suffix | TestKind::Language => None,
+        TestKind::Result => call_deed(word),
     }
 }
 
-/// What a part does with switches.
-fn deed_of(kind: TokenKind, asks: TestKind) -> Option<Deed>
-    ensures { result ≡ deed_of kind asks }
+/// What a part with this word does with switches.
+fn deed_of(kind: TokenKind, asks: TestKind, word: &[u8]) -> Option<Deed>
+    ensures { result ≡ deed_of kind asks word.now }
 {
     match kind {
         TokenKind::Pattern => Some(Deed::Passes),
         TokenKind::Hide => Some(Deed::Hides),
-        TokenKind::Test => test_deed(asks),
+        TokenKind::Test => test_deed(asks, word),
+        TokenKind::Function => call_deed(word),
         _ => None,
     }
 }
@@ -80,6 +93,16 @@ fn written_part(text: &[u8], token: Token) -> &[u8]
     let size = (token.end as usize).saturating_sub(start);
     let rest = text.get(start..).unwrap_or(&[]);
     rest.get(..size).unwrap_or(rest)
+}
+
+/// The word that a part names switches by.
+fn naming_word(alloc: Global, calls: bool, written: &[u8], word: &[u8]) -> Result<Word, AllocError>
+    ensures { IfOk result (λ named. named ≡ naming_word calls written.now word.now) }
+{
+    if calls {
+        return prefix_of(alloc, written);
+    }
+    Word::from_bytes(alloc, word)
 }
 
 /// A text of a set, with the spots of its last bytes.
@@ -113,12 +136,15 @@ fn push_naming(
         (label_at (tree_of text.now.tree.now) part.place) (Some part.deed)) }
 {
     let bytes = text.tree.text();
+    let written = written_part(bytes, part.token);
+    let calls = is_call(part.token.kind, text.tree.asks(part.place));
+    let word = text.tree.word(part.place);
     namings.push(Naming {
         head: Word::from_bytes(alloc, text.head)?,
         deed: part.deed,
-        word: Word::from_bytes(alloc, text.tree.word(part.place))?,
-        starred: text.tree.is_starred(part.place),
-        written: Word::from_bytes(alloc, written_part(bytes, part.token))?,
+        word: naming_word(alloc, calls, written, word)?,
+        starred: calls || text.tree.is_starred(part.place),
+        written: Word::from_bytes(alloc, written)?,
         spot: spot_at(text.spots, bytes.len(), part.token.start as usize),
     })?;
     Ok(())
@@ -138,7 +164,7 @@ fn push_token(
         ++ token_namings text.now.head.now text.now.tree.now text.now.spots.now token
         (label_at (tree_of text.now.tree.now) place)) }
 {
-    match deed_of(token.kind, text.tree.asks(place)) {
+    match deed_of(token.kind, text.tree.asks(place), text.tree.word(place)) {
         Some(deed) => {
             let part = Doing { place, token, deed };
             push_naming(alloc, namings, text, part)
