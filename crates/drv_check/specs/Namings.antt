@@ -20,8 +20,8 @@ use Rattle.drv_syntax.specs.declared.token.TokenKind.{TokenKind}
 use Rattle.std.specs.List.{flat_map}
 use Rattle.std.specs.Prelude.{◌+◌, ◌-◌, ◌||◌, Bool, List, [], ◌∷◌, ◌++◌, None, Option, Some, drop, if◌then◌else◌, length, take, ℕ}
 
--- The parts of a set's texts that name switches (GCC manual, "Spec Files", %{S}, %{S:X}, %<S and %:version-compare), each with its place in a file, if a file
--- put its text.
+-- The parts of a set's texts that name switches (GCC manual, "Spec Files", %{S}, %{S:X}, %<S and %:version-compare), each with its place in
+-- a file, if a file put its text.
 -- For clauses of src/naming.rt. gdrv_specs cites it too.
 
 -- what a part does with the switches that its pattern names

@@ -1,5 +1,7 @@
+use Rattle.drv_check.specs.Compared.{asks_switch, prefix_of}
 use Rattle.drv_check.specs.Coverage.{pattern_of}
-use Rattle.drv_check.specs.OwnTexts.{own_tree}
+use Rattle.drv_check.specs.Namings.{written_part}
+use Rattle.drv_check.specs.OwnTexts.{own_text, own_tree}
 use Rattle.drv_check.specs.Pieces.{pieces_of}
 use Rattle.drv_check.specs.declared.pieces.Piece.{Piece}
 use Rattle.drv_match.specs.Matching.{is_named}
@@ -14,36 +16,44 @@ use Rattle.drv_syntax.specs.declared.token.TestKind.{TestKind}
 use Rattle.drv_syntax.specs.declared.token.Token.{Token}
 use Rattle.drv_syntax.specs.declared.token.TokenKind.TheVariants as kinds
 use Rattle.drv_syntax.specs.declared.token.TokenKind.{TokenKind}
-use Rattle.std.specs.List.{list_any}
-use Rattle.std.specs.Prelude.{◌+◌, ◌||◌, Bool, List, [], ◌∷◌, false, ℕ}
+use Rattle.std.specs.List.{list_any, starts_with}
+use Rattle.std.specs.Prelude.{◌&&◌, ◌+◌, ◌||◌, Bool, List, [], ◌∷◌, false, nat_eq, ℕ}
 
--- Whether a text of a set names a switch (GCC manual, "Spec Files"): by a pattern of %{S} or %W{S}, of a test as in %{S:X}, or of %<S.
+-- Whether a text of a set names a switch (GCC manual, "Spec Files"): by a pattern of %{S} or %W{S}, of a test as in %{S:X}, or of %<S, or
+-- by the prefix that %:version-compare has.
 -- For clauses of src/switch_names.rt. gdrv cites it too.
 
--- whether a test names a switch
-abbrev pub test_names : TestKind → Label → List ℕ → Bool
-test_names asking.Switch label name = is_named (pattern_of label) name
-test_names asks label name = false
+-- whether a call as it is written names a switch, where the function has this name
+abbrev pub call_names : List ℕ → List ℕ → List ℕ → Bool
+call_names written function name = asks_switch function && starts_with nat_eq name (prefix_of written)
 
--- whether a part of a text names a switch, by its pattern
-abbrev pub part_names : TokenKind → Label → List ℕ → Bool
-part_names kinds.Pattern label name = is_named (pattern_of label) name
-part_names kinds.Hide label name = is_named (pattern_of label) name
-part_names kinds.Test label name = test_names label.asks label name
-part_names kind label name = false
+-- whether a test as it is written names a switch
+abbrev pub test_names : List ℕ → TestKind → Label → List ℕ → Bool
+test_names written asking.Switch label name = is_named (pattern_of label) name
+test_names written asking.Result label name = call_names written label.word name
+test_names written asks label name = false
 
--- by parts, the first of which has the place n
-abbrev pub parts_name : List ℕ → Items → ℕ → List Token → Bool
-parts_name name items n [] = false
-parts_name name items n (token ∷ tokens) = part_names token.kind (label_at items n) name || parts_name name items (n + 1) tokens
+-- whether a part of a text as it is written names a switch, by its pattern or its prefix
+abbrev pub part_names : List ℕ → TokenKind → Label → List ℕ → Bool
+part_names written kinds.Pattern label name = is_named (pattern_of label) name
+part_names written kinds.Hide label name = is_named (pattern_of label) name
+part_names written kinds.Test label name = test_names written label.asks label name
+part_names written kinds.Function label name = call_names written label.word name
+part_names written kind label name = false
 
--- whether the tree of a text names a switch
-abbrev pub tree_names : List ℕ → Items → Bool
-tree_names name items = parts_name name items 0 (tokens_of items)
+-- by parts of a text, the first of which has the place n
+abbrev pub parts_name : List ℕ → List ℕ → Items → ℕ → List Token → Bool
+parts_name name text items n [] = false
+parts_name name text items n (token ∷ tokens) =
+    part_names (written_part text token) token.kind (label_at items n) name || parts_name name text items (n + 1) tokens
+
+-- whether a text with this tree names a switch
+abbrev pub tree_names : List ℕ → List ℕ → Items → Bool
+tree_names name text items = parts_name name text items 0 (tokens_of items)
 
 -- whether the text of a directive names a switch
 abbrev pub piece_names : List ℕ → Piece → Bool
-piece_names name piece = tree_names name (own_tree piece.text)
+piece_names name piece = tree_names name (own_text piece.text) (own_tree piece.text)
 
 -- the texts are those of the dump of the set
 unfoldable pub names_switch : Set → List ℕ → Bool

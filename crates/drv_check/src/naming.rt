@@ -86,7 +86,7 @@ fn deed_of(kind: TokenKind, asks: TestKind, word: &[u8]) -> Option<Deed>
 }
 
 /// A part of a text as it is written.
-fn written_part(text: &[u8], token: Token) -> &[u8]
+pub(crate) fn written_part(text: &[u8], token: Token) -> &[u8]
     ensures { result.now ≡ written_part text.now token }
 {
     let start = token.start as usize;

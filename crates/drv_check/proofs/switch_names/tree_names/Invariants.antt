@@ -8,7 +8,8 @@ use Rattle.std.proofs.Common.{◌≡◌, ◌-◌, drop, length}
 
 abbrev pub invariant-loop-place : goal.invariant-loop-place
 invariant-loop-place l =
-    parts_name l.name (tree_of l.tree) l.place (drop l.place (tokens_of (tree_of l.tree))) ≡ tree_names l.name (tree_of l.tree)
+    parts_name l.name l.tree (tree_of l.tree) l.place (drop l.place (tokens_of (tree_of l.tree)))
+    ≡ tree_names l.name l.tree (tree_of l.tree)
 
 abbrev pub decreases-loop-place : goal.decreases-loop-place
 decreases-loop-place l = length (tokens_of (tree_of l.tree)) - l.place
