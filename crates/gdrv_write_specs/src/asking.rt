@@ -24,11 +24,31 @@ pub fn text(word: &[u8]) -> io::Result<&str> {
     str::from_utf8(word).map_err(|_| Error::from(ErrorKind::InvalidInput))
 }
 
+/// Variables that lead a gcc to other programs, folders, files or plans than its own. An empty one
+/// is not as one that isn't there: an empty path names the folder of the call.
+const LEADING: [&str; 11] = [
+    "COMPILER_PATH",
+    "LIBRARY_PATH",
+    "GCC_EXEC_PREFIX",
+    "GCC_COMPARE_DEBUG",
+    "CPATH",
+    "C_INCLUDE_PATH",
+    "CPLUS_INCLUDE_PATH",
+    "OBJC_INCLUDE_PATH",
+    "DEPENDENCIES_OUTPUT",
+    "SUNPRO_DEPENDENCIES",
+    "GCC_EXTRA_DIAGNOSTIC_OUTPUT",
+];
+
 /// Gives a command its words, and has it run in a folder, with messages in English. The spec file
-/// that the caller names for drivers is not that of a driver that is tried.
+/// that the caller names for drivers is not that of a driver that is tried, and no variable of the
+/// caller leads a driver elsewhere.
 fn prepare(made: &mut Command, at: &Word, words: &[Word]) -> io::Result<()> {
     for word in words {
         made.arg(text(word.as_bytes())?)?;
+    }
+    for name in LEADING {
+        made.env_remove(name)?;
     }
     made.env("LC_ALL", "C")?;
     made.env("GDRV_CC_SPECS", "")?;
