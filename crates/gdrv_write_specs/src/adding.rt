@@ -3,7 +3,7 @@
 use crate::alike::FolderName;
 use crate::asking::{question_about, text};
 use crate::checking::Pair;
-use crate::choosing::key_by;
+use crate::choosing::{key_by, misfit_in};
 use crate::fault::Fault;
 use crate::names::sort_lines;
 use crate::natives::with_natives;
@@ -163,6 +163,9 @@ fn question_of(rt: &HostRuntime, specs: &Word, options: &[Word]) -> Result<Quest
     let lines = lines_of(rt, &path)?;
     let gcc = gcc_with_rows(rt.alloc(), &path, lines.as_slice())?;
     let whole = joined_lines(rt.alloc(), lines.as_slice())?;
+    if let Some(misfit) = misfit_in(rt.alloc(), whole.as_bytes(), options)? {
+        return Err(Fault::NotMachine(misfit));
+    }
     let key = key_by(rt.alloc(), whole.as_bytes(), options)?;
     Ok(Question {
         stem,

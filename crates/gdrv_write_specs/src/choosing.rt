@@ -107,6 +107,44 @@ pub fn keys_with(key: &Word, choosers: &[Chooser], alloc: Global) -> Result<List
     Ok(keys)
 }
 
+/// Whether a row can be for an option by the lines of a text: one for a machine, as gdrv-cc reads a
+/// line, or one by which the gcc chooses words.
+fn fits(alloc: Global, text: &[u8], option: &[u8]) -> Result<bool, Fault> {
+    let is_machine = option.starts_with(b"-m")
+        || option == b"-EB".as_slice()
+        || option == b"-EL".as_slice();
+    if is_machine {
+        return Ok(true);
+    }
+    let mut line = Word::from_bytes(alloc, option)?;
+    line.push(b' ')?;
+    let keys = values(alloc, b"key ", text)?;
+    Ok(
+        is_chooser(option)
+            && keys
+                .as_slice()
+                .iter()
+                .any(|key| key.as_bytes().starts_with(line.as_bytes())),
+    )
+}
+
+/// The first of these options for which no row can be, by the lines of a text. A word without one is
+/// such, too.
+pub fn misfit_in(alloc: Global, text: &[u8], options: &[Word]) -> Result<Option<Word>, Fault> {
+    for word in options {
+        let parts = split(alloc, word.as_bytes())?;
+        if parts.is_empty() {
+            return Ok(Some(word.clone()?));
+        }
+        for option in parts.as_slice() {
+            if !fits(alloc, text, option.as_bytes())? {
+                return Ok(Some(option.clone()?));
+            }
+        }
+    }
+    Ok(None)
+}
+
 /// The key of these options by the lines of a text: the words that it has for some options come last,
 /// and other options that could choose words are left out.
 pub fn key_by(alloc: Global, text: &[u8], options: &[Word]) -> Result<Word, Fault> {

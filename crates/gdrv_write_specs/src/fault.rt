@@ -31,6 +31,8 @@ pub enum Fault {
     NoRows(Word),
     /// The gcc refuses these options, or the spec file would make something else of them.
     NoRow(Word),
+    /// This is no option by which the gcc of a spec file chooses a machine.
+    NotMachine(Word),
     /// This gcc refuses these options.
     Refuses(Word, Word),
     /// The plans differ; what they are is in the text.
@@ -104,7 +106,14 @@ impl Fault {
                 alloc,
                 b"'",
                 path.as_bytes(),
-                b"' has no rows: its spec file takes options for a machine as they are",
+                b"' has no rows, so no words can be added: \
+'gdrv-write-specs -o X.specs GCC OPTION..' writes a file that serves these options, if it can",
+            ),
+            Fault::NotMachine(option) => line(
+                alloc,
+                b"no words for '",
+                option.as_bytes(),
+                b"': it is no option for a machine of this gcc",
             ),
             Fault::NoRow(key) => line(
                 alloc,
