@@ -82,6 +82,45 @@ const NAMED: [&[u8]; 15] = [
     b"-shared-libgcc",
 ];
 
+/// Options for some machines alone, or for one C library, that gdrv-cc knows by itself, as they are or
+/// by another name (`-msse5` is `-mavx`). A gcc whose words for its machine are in rows has none.
+const FOREIGN: [&[u8]; 34] = [
+    b"-m32",
+    b"-m64",
+    b"-mx32",
+    b"-m16",
+    b"-mlong-double-64",
+    b"-mlong-double-80",
+    b"-mlong-double-128",
+    b"-mglibc",
+    b"-mred-zone",
+    b"-mno-red-zone",
+    b"-mhard-float",
+    b"-msse4",
+    b"-mno-sse4",
+    b"-mavx",
+    b"-mno-avx",
+    b"-mfancy-math-387",
+    b"-mno-fancy-math-387",
+    b"-mpc32",
+    b"-mpc64",
+    b"-mpc80",
+    b"-mgeneral-regs-only",
+    b"-mno-push-args",
+    b"-m96bit-long-double",
+    b"-m128bit-long-double",
+    b"-malign-stringops",
+    b"-mno-align-stringops",
+    b"-mno-default",
+    b"-mdispatch-scheduler",
+    b"-mdump-tune-features",
+    b"-msseregparm",
+    b"-march=",
+    b"-mtune=",
+    b"-masm=",
+    b"-mprefer-vector-width=",
+];
+
 /// Options other than `-m..` by which a gcc may choose other words for its machine: a line with one
 /// has its plan, or is refused.
 const OTHERS: [&[u8]; 18] = [
@@ -289,16 +328,26 @@ impl<'a> Pair<'a> {
         Ok(said.is_done && has_bytes(said.err.as_bytes(), b"is no longer supported"))
     }
 
-    /// The options that the gcc lacks because its texts don't name them.
-    pub fn unnamed_options(self) -> Result<Listing<Word>, Fault> {
-        let mut unnamed = Listing::new(self.rt.alloc());
-        for option in NAMED {
+    /// Those of these options that the gcc lacks.
+    fn lacking_of(self, options: &[&[u8]]) -> Result<Listing<Word>, Fault> {
+        let mut lacking = Listing::new(self.rt.alloc());
+        for option in options {
             let word = Word::from_bytes(self.rt.alloc(), option)?;
             if let Answer::Lacks = answer_to(self, &word)? {
-                unnamed.push(word)?;
+                lacking.push(word)?;
             }
         }
-        Ok(unnamed)
+        Ok(lacking)
+    }
+
+    /// The options that the gcc lacks because its texts don't name them.
+    pub fn unnamed_options(self) -> Result<Listing<Word>, Fault> {
+        self.lacking_of(&NAMED)
+    }
+
+    /// The options for other machines that the gcc lacks, and gdrv-cc would take.
+    pub fn foreign_options(self) -> Result<Listing<Word>, Fault> {
+        self.lacking_of(&FOREIGN)
     }
 
     /// The options for a machine that a gcc lists, each with a value if it takes one.

@@ -384,6 +384,13 @@ fn put_gathered(
     )?;
     put_beside(pair, gathered)?;
     refuse(gathered, pair.unnamed_options()?.as_slice())?;
+    if let Ways::Texts = gathered.ways {
+        refuse_all(
+            pair.rt.alloc(),
+            gathered,
+            pair.foreign_options()?.as_slice(),
+        )?;
+    }
     put_specs(pair, gathered)?;
     check(pair, manner, gathered)?;
     check_options(pair, manner, options)
