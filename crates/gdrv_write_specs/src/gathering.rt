@@ -121,6 +121,8 @@ pub struct Gathered {
     pub choosers: Listing<Chooser>,
     /// Where its words for its machines are.
     pub ways: Ways,
+    /// Lines for the user about what its spec file leaves out.
+    pub notes: Word,
 }
 
 /// The texts of a dump in this driver's language, and of it what they lack.
@@ -555,5 +557,6 @@ pub fn gather(pair: Pair<'_>, ways: Ways) -> Result<Gathered, Fault> {
         rows: Listing::new(alloc),
         choosers: Listing::new(alloc),
         ways,
+        notes: Word::empty(alloc),
     })
 }

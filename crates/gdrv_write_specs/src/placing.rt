@@ -149,18 +149,25 @@ fn put_gcc(pair: Pair<'_>, gathered: &Gathered) -> Result<(), Fault> {
     pair.work.put(pair.rt, b".gcc", &text)
 }
 
-/// Names some words to the user, on one line.
-fn tell(rt: &HostRuntime, before: &[u8], names: &[Word]) -> Result<(), Fault> {
-    let mut line = question_about(rt.alloc(), b"gdrv-write-specs: ", before)?;
+/// Notes a line that names some words to the user.
+fn note(notes: &mut Word, before: &[u8], names: &[Word]) -> Result<(), Fault> {
+    if names.is_empty() {
+        return Ok(());
+    }
+    notes.extend_from_slice(b"gdrv-write-specs: ")?;
+    notes.extend_from_slice(before)?;
     for name in names {
-        line.push(b' ')?;
-        line.extend_from_slice(name.as_bytes())?;
+        notes.push(b' ')?;
+        notes.extend_from_slice(name.as_bytes())?;
     }
-    line.push(b'\n')?;
-    if !names.is_empty() {
-        complain(rt, line.as_bytes());
+    Ok(notes.push(b'\n')?)
+}
+
+/// Shows what was noted for the user.
+fn show_notes(rt: &HostRuntime, gathered: &Gathered) {
+    if !gathered.notes.is_empty() {
+        complain(rt, gathered.notes.as_bytes());
     }
-    Ok(())
 }
 
 /// The refusal for lines whose plans differ.
@@ -193,10 +200,10 @@ fn put_specs(pair: Pair<'_>, gathered: &Gathered) -> Result<(), Fault> {
 const MACHINES: usize = 16;
 
 /// The lines whose plans differ, whatever the user said of them.
-fn judge(pair: Pair<'_>, manner: Manner, lines: &[Word]) -> Result<(), Fault> {
+fn judge(pair: Pair<'_>, manner: Manner, lines: &[Word], notes: &mut Word) -> Result<(), Fault> {
     match manner {
         Manner::Compared if !lines.is_empty() => Err(differ(pair.rt, pair.gcc, lines)?),
-        _ => tell(pair.rt, b"lines that have another plan than gcc's:", lines),
+        _ => note(notes, b"lines that have another plan than gcc's:", lines),
     }
 }
 
@@ -286,8 +293,8 @@ fn check_rows(pair: Pair<'_>, gathered: &mut Gathered) -> Result<(), Fault> {
         gathered.toolchain.is_rooted = false;
         put_specs(pair, gathered)?;
     }
-    tell(
-        pair.rt,
+    note(
+        &mut gathered.notes,
         b"no row, since it would make something else:",
         others.as_slice(),
     )?;
@@ -320,8 +327,8 @@ fn check_copies(pair: Pair<'_>, gathered: &mut Gathered) -> Result<(), Fault> {
         }
     }
     gathered.copies = same;
-    tell(
-        pair.rt,
+    note(
+        &mut gathered.notes,
         b"no copy, since it would make something else:",
         others.as_slice(),
     )?;
@@ -331,14 +338,15 @@ fn check_copies(pair: Pair<'_>, gathered: &mut Gathered) -> Result<(), Fault> {
 /// Compares the plans by texts alone, and has the options refused that would give others.
 fn check_texts(pair: Pair<'_>, manner: Manner, gathered: &mut Gathered) -> Result<(), Fault> {
     let refused = check_machines(pair, gathered)?;
-    judge(pair, manner, pair.others(refused.as_slice())?.as_slice())?;
-    tell_refused(pair.rt, refused.as_slice())
+    let others = pair.others(refused.as_slice())?;
+    judge(pair, manner, others.as_slice(), &mut gathered.notes)?;
+    note_refused(&mut gathered.notes, refused.as_slice())
 }
 
-/// Names the options that are refused by name.
-fn tell_refused(rt: &HostRuntime, options: &[Word]) -> Result<(), Fault> {
-    tell(
-        rt,
+/// Notes the options that are refused by name.
+fn note_refused(notes: &mut Word, options: &[Word]) -> Result<(), Fault> {
+    note(
+        notes,
         b"refused by name, since they would make something else:",
         options,
     )
@@ -347,8 +355,13 @@ fn tell_refused(rt: &HostRuntime, options: &[Word]) -> Result<(), Fault> {
 /// Compares the plans, and has the options refused that would give others.
 fn check(pair: Pair<'_>, manner: Manner, gathered: &mut Gathered) -> Result<(), Fault> {
     let others = refuse_others(pair, gathered)?;
-    judge(pair, manner, pair.differences()?.as_slice())?;
-    tell_refused(pair.rt, others.as_slice())?;
+    judge(
+        pair,
+        manner,
+        pair.differences()?.as_slice(),
+        &mut gathered.notes,
+    )?;
+    note_refused(&mut gathered.notes, others.as_slice())?;
     if !gathered.copies.is_empty() {
         check_copies(pair, gathered)?;
     }
@@ -359,11 +372,17 @@ fn check(pair: Pair<'_>, manner: Manner, gathered: &mut Gathered) -> Result<(), 
 }
 
 /// Compares the plans of lines with the options that the user names, if there are some.
-fn check_options(pair: Pair<'_>, manner: Manner, options: &Word) -> Result<(), Fault> {
+fn check_options(
+    pair: Pair<'_>,
+    manner: Manner,
+    options: &Word,
+    gathered: &mut Gathered,
+) -> Result<(), Fault> {
     if options.is_empty() {
         return Ok(());
     }
-    judge(pair, manner, pair.differences_with(options)?.as_slice())
+    let others = pair.differences_with(options)?;
+    judge(pair, manner, others.as_slice(), &mut gathered.notes)
 }
 
 /// Makes the files of a gcc, of which this is known, and tries them, also with these options.
@@ -377,8 +396,8 @@ fn put_gathered(
         return Err(Fault::Refuses(pair.gcc.clone()?, options.clone()?));
     }
     gathered.choose(pair.rt.alloc())?;
-    tell(
-        pair.rt,
+    note(
+        &mut gathered.notes,
         b"texts that cannot be translated, so lines that use them are refused:",
         gathered.lacking.as_slice(),
     )?;
@@ -393,7 +412,7 @@ fn put_gathered(
     }
     put_specs(pair, gathered)?;
     check(pair, manner, gathered)?;
-    check_options(pair, manner, options)
+    check_options(pair, manner, options, gathered)
 }
 
 /// Whether there is a row of a key. That of no options is there by itself.
@@ -411,7 +430,9 @@ fn put_with_rows(pair: Pair<'_>, order: &Order) -> Result<(), Fault> {
     let options = options_text(pair.rt.alloc(), order.options.as_slice())?;
     let mut gathered = gather(pair, Ways::Rows)?;
     let key = gathered.add_rows(pair, order.options.as_slice())?;
-    put_gathered(pair, order.manner, &options, &mut gathered)?;
+    let done = put_gathered(pair, order.manner, &options, &mut gathered);
+    show_notes(pair.rt, &gathered);
+    done?;
     match order.manner {
         Manner::Compared if !has_row(&gathered, &key) => Err(Fault::NoRow(key)),
         _ => Ok(()),
@@ -419,7 +440,7 @@ fn put_with_rows(pair: Pair<'_>, order: &Order) -> Result<(), Fault> {
 }
 
 /// Makes the files of a gcc, and tries them. If the texts alone give other plans, or devices have
-/// spec files, rows do the work.
+/// spec files, rows do the work, and what was noted of the texts isn't so.
 fn put_whole(pair: Pair<'_>, order: &Order) -> Result<(), Fault> {
     if has_devices(pair)? {
         return put_with_rows(pair, order);
@@ -428,7 +449,10 @@ fn put_whole(pair: Pair<'_>, order: &Order) -> Result<(), Fault> {
     let mut gathered = gather(pair, Ways::Texts)?;
     match put_gathered(pair, Manner::Compared, &options, &mut gathered) {
         Err(Fault::Differs(_)) => put_with_rows(pair, order),
-        done => done,
+        done => {
+            show_notes(pair.rt, &gathered);
+            done
+        }
     }
 }
 
