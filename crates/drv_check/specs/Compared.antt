@@ -20,7 +20,7 @@ is_call kind asks = false
 abbrev pub asks_switch : List ℕ → Bool
 asks_switch name = pointwise nat_eq name (codes "version-compare")
 
--- what stands between the words of a call
+-- what is between the words of a call
 abbrev pub is_between : ℕ → Bool
 is_between b = is_white b || b == opening_parenthesis || b == closing_parenthesis
 

@@ -27,7 +27,7 @@ pub(crate) fn asks_switch(name: &[u8]) -> bool
     name == b"version-compare".as_slice()
 }
 
-/// Whether a byte stands between the words of a call.
+/// Whether a byte is between the words of a call.
 fn is_between(byte: u8) -> bool
     ensures { result ≡ is_between byte }
 {
