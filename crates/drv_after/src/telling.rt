@@ -167,7 +167,7 @@ fn push_start(
 }
 
 /// Adds a word and the name of what is at a place.
-fn push_named(
+fn push_act(
     alloc: Global,
     text: &mut Word,
     what: &[u8],
@@ -190,7 +190,7 @@ fn push_end(
     ensures { OnOk result (text.new ≡ text.old ++ end_text (option_copied name.entry) what.now) }
 {
     if what.is_some() {
-        push_named(alloc, text, b"end", name)?;
+        push_act(alloc, text, b"end", name)?;
         return push_trouble(text, what);
     }
     Ok(())
@@ -208,7 +208,7 @@ fn push_step(
 {
     match step {
         Step::Claim(place) => {
-            push_named(alloc, text, b"claim", name_at(plan, place))?;
+            push_act(alloc, text, b"claim", name_at(plan, place))?;
             push_trouble(text, what)
         }
         Step::Start { place, to_pipe, .. } => {
@@ -217,7 +217,7 @@ fn push_step(
         }
         Step::Wait { place, .. } => push_end(alloc, text, name_at(plan, place), what),
         Step::Remove(place) => {
-            push_named(alloc, text, b"remove", name_at(plan, place))?;
+            push_act(alloc, text, b"remove", name_at(plan, place))?;
             push_trouble(text, what)
         }
         Step::ClosePipe | Step::Report(_) => Ok(()),

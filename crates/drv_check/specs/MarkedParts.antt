@@ -172,12 +172,12 @@ parts_from text reading (token ∷ tokens) =
     part_if (joint_of reading token) token tokens ++ parts_from text (read_by text reading token) tokens
 
 -- whether a text with this head is one that others name: that of the link is run by itself, as those of pairs are
-abbrev pub is_named : List ℕ → Bool
-is_named head = is_star (slice_get head 0) && not (pointwise nat_eq head (codes "*link_command"))
+abbrev pub heads_named_text : List ℕ → Bool
+heads_named_text head = is_star (slice_get head 0) && not (pointwise nat_eq head (codes "*link_command"))
 
 -- what precedes the first token of a text with this head: words of a command may, where others name it
 abbrev pub first_in : List ℕ → Before
-first_in head = if is_named head then Loops else Opens
+first_in head = if heads_named_text head then Loops else Opens
 
 -- before a text's tokens
 abbrev pub at_start : Before → Reading

@@ -75,14 +75,15 @@ is_addition text = false
 
 -- The place in the file of a byte of the whole text, of a body with these bytes at these places. An addition follows a text of this
 -- length, or is alone, with one space in place of its white space.
-abbrev pub in_addition : Option ℕ → List ℕ → List ℕ → ℕ → Option ℕ
-in_addition None body places n = if nat_lt 0 n then slice_get (drop (front_length is_white (drop 1 body)) (drop 1 places)) (n - 1) else None
-in_addition (Some size) body places n = if nat_lt n size then None else slice_get (drop 1 places) (n - size)
+abbrev pub place_in_addition : Option ℕ → List ℕ → List ℕ → ℕ → Option ℕ
+place_in_addition None body places n =
+    if nat_lt 0 n then slice_get (drop (front_length is_white (drop 1 body)) (drop 1 places)) (n - 1) else None
+place_in_addition (Some size) body places n = if nat_lt n size then None else slice_get (drop 1 places) (n - size)
 
 -- the place in the file of the n-th byte of the whole text, which a body makes or adds to
 abbrev pub in_body : Option (Option ℕ) → List ℕ → List ℕ → ℕ → Option ℕ
 in_body None body places n = slice_get places n
-in_body (Some old) body places n = if is_addition body then in_addition old body places n else slice_get places n
+in_body (Some old) body places n = if is_addition body then place_in_addition old body places n else slice_get places n
 
 -- the length of the text that a name has; none where the piece has no name
 abbrev pub old_length : Set → Option (List ℕ) → Option (Option ℕ)

@@ -28,16 +28,16 @@ abbrev pub call_names : List ℕ → List ℕ → List ℕ → Bool
 call_names written function name = asks_switch function && starts_with nat_eq name (prefix_of written)
 
 -- whether a test as it is written names a switch
-abbrev pub test_names : List ℕ → TestKind → Label → List ℕ → Bool
-test_names written asking.Switch label name = is_named (pattern_of label) name
-test_names written asking.Result label name = call_names written label.word name
-test_names written asks label name = false
+abbrev pub test_names_switch : List ℕ → TestKind → Label → List ℕ → Bool
+test_names_switch written asking.Switch label name = is_named (pattern_of label) name
+test_names_switch written asking.Result label name = call_names written label.word name
+test_names_switch written asks label name = false
 
 -- whether a part of a text as it is written names a switch, by its pattern or its prefix
 abbrev pub part_names : List ℕ → TokenKind → Label → List ℕ → Bool
 part_names written kinds.Pattern label name = is_named (pattern_of label) name
 part_names written kinds.Hide label name = is_named (pattern_of label) name
-part_names written kinds.Test label name = test_names written label.asks label name
+part_names written kinds.Test label name = test_names_switch written label.asks label name
 part_names written kinds.Function label name = call_names written label.word name
 part_names written kind label name = false
 

@@ -37,14 +37,14 @@ append_marks set text =
 -- a line of a body that would begin a directive, were the line before it empty
 
 -- whether what precedes a colon is a name that a directive may have
-abbrev pub is_named : Option ℕ → List ℕ → Bool
-is_named None line = false
-is_named (Some at) line = is_name (take at line)
+abbrev pub name_precedes : Option ℕ → List ℕ → Bool
+name_precedes None line = false
+name_precedes (Some at) line = is_name (take at line)
 
 -- whether a line begins as a directive of a name: *NAME:
 abbrev pub begins_name : List ℕ → Bool
 begins_name [] = false
-begins_name (b ∷ line) = b == asterisk && is_named (position is_colon line) line
+begins_name (b ∷ line) = b == asterisk && name_precedes (position is_colon line) line
 
 -- whether a line's first word is that of a directive of %
 abbrev pub is_keyword : List (List ℕ) → Bool

@@ -98,7 +98,7 @@ fn test_at(tree: &SpecTree, place: usize) -> Ask<'_>
 }
 
 /// Adds the part at this place, if it is a test and inside no other part.
-fn push_test<'a>(
+fn push_outer_test<'a>(
     tests: &mut Vec<Ask<'a>>,
     tree: &'a SpecTree,
     next: usize,
@@ -137,7 +137,7 @@ fn tests_of<'a>(
     let mut place = branch.inside;
     while place < branch.end && place < tokens.len() {
         let token = tokens[place];
-        push_test(&mut tests, tree, next, place, token)?;
+        push_outer_test(&mut tests, tree, next, place, token)?;
         next = beyond(next, place, token);
         place += 1;
     }

@@ -4,7 +4,8 @@
 //! words show which part gave them (`drv_why`).
 
 ghost use Rattle.drv_check.specs.MarkedParts.{after_blank, after_role, after_test, before_at, ends_starred, first_in, goes_on, has_left};
-ghost use Rattle.drv_check.specs.MarkedParts.{inside_until, is_entered, is_item, is_named, is_nested, is_passed, joint_after, joint_of};
+ghost use Rattle.drv_check.specs.MarkedParts.{heads_named_text, inside_until, is_entered, is_item};
+ghost use Rattle.drv_check.specs.MarkedParts.{is_nested, is_passed, joint_after, joint_of};
 ghost use Rattle.drv_check.specs.MarkedParts.{part_at, part_end, part_if, parts_from, parts_of, read_by, read_token};
 ghost use Rattle.drv_check.specs.MarkedParts.{read_until, role_of};
 ghost use Rattle.drv_check.specs.Markings.{headed_parts, marked_part, marked_parts, piece_parts, tree_parts};
@@ -318,8 +319,8 @@ fn push_extent(
 }
 
 /// Whether a text with this head is one that others name.
-fn is_named(head: &[u8]) -> bool
-    ensures { result ≡ is_named head.now }
+fn heads_named_text(head: &[u8]) -> bool
+    ensures { result ≡ heads_named_text head.now }
 {
     matches!(head, [b'*', ..]) && head != b"*link_command".as_slice()
 }
@@ -328,7 +329,7 @@ fn is_named(head: &[u8]) -> bool
 fn first_in(head: &[u8]) -> Before
     ensures { result ≡ first_in head.now }
 {
-    if is_named(head) {
+    if heads_named_text(head) {
         Before::Loops
     } else {
         Before::Opens

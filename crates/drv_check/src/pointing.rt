@@ -1,6 +1,7 @@
 //! Where in a piece a fault is.
 
-ghost use Rattle.drv_check.specs.Points.{body_start, in_addition, in_body, is_addition, name_in};
+ghost use Rattle.drv_check.specs.Points.{body_start, in_body, is_addition, name_in};
+ghost use Rattle.drv_check.specs.Points.{place_in_addition};
 ghost use Rattle.drv_check.specs.Points.{old_length, percent_of, percent_place, place_of, point};
 ghost use Rattle.drv_specs.specs.Directives.{is_colon};
 ghost use Rattle.std.specs.List.{position};
@@ -84,8 +85,13 @@ pub(crate) fn is_addition(body: &[u8]) -> bool
 }
 
 /// The place in the file of a byte of the whole text, where an addition has this body.
-fn in_addition(old: Option<usize>, body: &[u8], places: &[usize], number: usize) -> Option<usize>
-    ensures { result ≡ in_addition old body.now places.now number }
+fn place_in_addition(
+    old: Option<usize>,
+    body: &[u8],
+    places: &[usize],
+    number: usize,
+) -> Option<usize>
+    ensures { result ≡ place_in_addition old body.now places.now number }
 {
     let rest = following(places, 1);
     match old {
@@ -109,7 +115,7 @@ fn in_body(
     ensures { result ≡ in_body old body.now places.now number }
 {
     match old {
-        Some(old) if is_addition(body) => in_addition(old, body, places, number),
+        Some(old) if is_addition(body) => place_in_addition(old, body, places, number),
         _ => places.get(number).copied(),
     }
 }

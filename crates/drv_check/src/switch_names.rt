@@ -2,7 +2,8 @@
 
 ghost use Rattle.drv_check.specs.Coverage.{pattern_of};
 ghost use Rattle.drv_check.specs.Namings.{written_part};
-ghost use Rattle.drv_check.specs.SwitchNames.{call_names, names_switch, part_names, piece_names, test_names};
+ghost use Rattle.drv_check.specs.SwitchNames.{call_names, names_switch, part_names, piece_names};
+ghost use Rattle.drv_check.specs.SwitchNames.{test_names_switch};
 ghost use Rattle.drv_check.specs.SwitchNames.{tree_names};
 ghost use Rattle.drv_match.specs.Matching.{is_named};
 ghost use Rattle.drv_syntax.specs.Labels.{label_at};
@@ -21,7 +22,7 @@ use drv_syntax::{SpecTree, TestKind, Token, TokenKind};
 use std::alloc::{AllocError, Global};
 
 /// Whether the pattern at this place names a switch.
-fn is_named(tree: &SpecTree, place: usize, name: &[u8]) -> bool
+fn pattern_names_switch(tree: &SpecTree, place: usize, name: &[u8]) -> bool
     requires { place < length (tokens_of (tree_of tree.now)) }
     ensures { result ≡ is_named (pattern_of (label_at (tree_of tree.now) place)) name.now }
 {
@@ -50,7 +51,7 @@ fn call_names(
 }
 
 /// Whether the test at this place, as it is written, names a switch.
-fn test_names(
+fn test_names_switch(
     alloc: Global,
     tree: &SpecTree,
     place: usize,
@@ -59,11 +60,11 @@ fn test_names(
 ) -> Result<bool, AllocError>
     requires { place < length (tokens_of (tree_of tree.now)) }
     ensures { IfOk result
-        (λ is. is ≡ test_names written.now (label_at (tree_of tree.now) place).asks
+        (λ is. is ≡ test_names_switch written.now (label_at (tree_of tree.now) place).asks
         (label_at (tree_of tree.now) place) name.now) }
 {
     match tree.asks(place) {
-        TestKind::Switch => Ok(is_named(tree, place, name)),
+        TestKind::Switch => Ok(pattern_names_switch(tree, place, name)),
         TestKind::Result => call_names(alloc, written, tree.word(place), name),
         TestKind::Suffix | TestKind::Language => Ok(false),
     }
@@ -84,8 +85,8 @@ fn part_names(
 {
     let written = written_part(tree.text(), token);
     match token.kind {
-        TokenKind::Pattern | TokenKind::Hide => Ok(is_named(tree, place, name)),
-        TokenKind::Test => test_names(alloc, tree, place, written, name),
+        TokenKind::Pattern | TokenKind::Hide => Ok(pattern_names_switch(tree, place, name)),
+        TokenKind::Test => test_names_switch(alloc, tree, place, written, name),
         TokenKind::Function => call_names(alloc, written, tree.word(place), name),
         _ => Ok(false),
     }

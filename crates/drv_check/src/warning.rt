@@ -1,7 +1,8 @@
 //! What is legal in a piece and surely not meant.
 
 ghost use Rattle.drv_check.specs.Warnings.{adds_to_nothing, append_marks, begins_directive, begins_name};
-ghost use Rattle.drv_check.specs.Warnings.{body_marks, is_keyword, is_named, is_self_spec, line_marks, marks_of};
+ghost use Rattle.drv_check.specs.Warnings.{body_marks, is_keyword, is_self_spec, line_marks};
+ghost use Rattle.drv_check.specs.Warnings.{marks_of, name_precedes};
 ghost use Rattle.drv_specs.specs.Lines.{lines_of, words_of};
 ghost use Rattle.drv_specs.specs.Sets.{is_name, is_name_byte, is_sized};
 ghost use Rattle.std.specs.List.{list_all};
@@ -87,8 +88,8 @@ fn push_append(marks: &mut Vec<Mark>, set: &SpecSet, text: &[u8]) -> Result<(), 
 }
 
 /// Whether what precedes a place is a name.
-fn is_named(at: Option<usize>, line: &[u8]) -> bool
-    ensures { result ≡ is_named at line.now }
+fn name_precedes(at: Option<usize>, line: &[u8]) -> bool
+    ensures { result ≡ name_precedes at line.now }
 {
     match at {
         Some(at) if at <= line.len() => is_name(&line[..at]),
@@ -102,7 +103,7 @@ fn begins_name(line: &[u8]) -> bool
     ensures { result ≡ begins_name line.now }
 {
     match line {
-        [b'*', rest @ ..] => is_named(colon_in(rest), rest),
+        [b'*', rest @ ..] => name_precedes(colon_in(rest), rest),
         _ => false,
     }
 }

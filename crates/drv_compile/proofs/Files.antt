@@ -1,4 +1,4 @@
-use Rattle.drv_compile.specs.Beside.{bytes_read, file_of_variable, if_plain, is_written, or_own, plain_at, spec_file, written_lines}
+use Rattle.drv_compile.specs.Beside.{bytes_read, file_of_variable, is_written, or_own, path_if_plain, plain_at, spec_file, written_lines}
 use Rattle.drv_compile.specs.Written.{whole_lines}
 use Rattle.drv_search.specs.Search.{is_plain}
 use Rattle.drv_system.specs.Facts.{Facts, kind_of, read_of}
@@ -15,7 +15,7 @@ use Rattle.std.specs.Option.{is_some, option_and_then}
 
 -- For `plain_at`: if the kind of the given path was asked for, then what was found there is that path if it is a plain file.
 pub plain_asked : (F : Facts) (given : Option (List ℕ)) (path : List ℕ) (kind : PathKind) (found : Option (List ℕ))
-    → given ≡ Some path → kind_of F path ≡ Some kind → found ≡ if_plain path kind → plain_at F given ≡ Is found
+    → given ≡ Some path → kind_of F path ≡ Some kind → found ≡ path_if_plain path kind → plain_at F given ≡ Is found
 plain_asked F given path kind found some known is = rw (some, known, is) refl
 
 -- For `written_lines`: if the path is a plain file and was read, then the result is its lines, if it is whole.

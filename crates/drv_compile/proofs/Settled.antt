@@ -42,7 +42,7 @@ use Rattle.std.specs.Prelude.{◌≢◌, get_or, if◌then◌else◌, is_some}
 
 -- the names
 
--- For `push_named`: if the value of a variable was added where it is set, then its names were added.
+-- For `push_variable`: if the value of a variable was added where it is set, then its names were added.
 pub name_pushed : {X E : Type 0} (F : Facts) (variable : List ℕ) (value : Option (List ℕ)) (before after : List (List ℕ))
     (result : Result X E)
     → asked (variable_of F variable) ≡ Is value → OnOk result (after ≡ before ++ if_set value)

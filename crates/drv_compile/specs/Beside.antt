@@ -44,13 +44,13 @@ known_names F specs = written_beside F specs (codes ".options")
 -- none where that is no plain file.
 
 -- a path, if a plain file is there
-abbrev pub if_plain : List ℕ → PathKind → Option (List ℕ)
-if_plain path kind = if is_plain kind then Some path else None
+abbrev pub path_if_plain : List ℕ → PathKind → Option (List ℕ)
+path_if_plain path kind = if is_plain kind then Some path else None
 
 -- a path, if a plain file is there
 abbrev pub plain_at : Facts → Option (List ℕ) → Known (Option (List ℕ))
 plain_at F None = Is None
-plain_at F (Some path) = asked (kind_of F path) >>= λ kind. Is (if_plain path kind)
+plain_at F (Some path) = asked (kind_of F path) >>= λ kind. Is (path_if_plain path kind)
 
 -- the path that a variable's value names; an empty value names none
 abbrev pub given_by : Option (List ℕ) → Option (List ℕ)

@@ -2,7 +2,8 @@
 
 // In clauses: `Asked` says that a call only asked, and that the table has the answers. `Tells` says
 // that a result is that of a definition, by any facts that extend what is known.
-ghost use Rattle.drv_compile.specs.Beside.{bytes_read, given_by, if_plain, is_written, known_names};
+ghost use Rattle.drv_compile.specs.Beside.{bytes_read, given_by, is_written, known_names};
+ghost use Rattle.drv_compile.specs.Beside.{path_if_plain};
 ghost use Rattle.drv_compile.specs.Beside.{file_of_variable, or_own, plain_at, spec_file};
 ghost use Rattle.drv_compile.specs.Beside.{written_beside, written_lines};
 ghost use Rattle.drv_compile.specs.Written.{whole_lines};
@@ -109,8 +110,8 @@ pub(crate) fn known_names<S: System>(
 }
 
 /// The path, if it is that of a plain file.
-fn if_plain(path: Word, kind: PathKind) -> Option<Word>
-    ensures { result ≡ if_plain path kind }
+fn path_if_plain(path: Word, kind: PathKind) -> Option<Word>
+    ensures { result ≡ path_if_plain path kind }
 {
     if is_plain(kind) { Some(path) } else { None }
 }
@@ -127,7 +128,7 @@ fn plain_at<S: System>(
         return Ok(None);
     };
     let kind = outside.facts.kind(outside.sys, &path)?;
-    Ok(if_plain(path, kind))
+    Ok(path_if_plain(path, kind))
 }
 
 /// The path that a variable gives, if it is set and not empty.

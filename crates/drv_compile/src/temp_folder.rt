@@ -32,7 +32,7 @@ fn push_if_set(names: &mut Listing<Word>, value: Option<Word>) -> Result<(), All
 }
 
 /// Adds the value of a variable, if it is set.
-fn push_named<S: System>(
+fn push_variable<S: System>(
     alloc: Global,
     names: &mut Listing<Word>,
     variable_name: &[u8],
@@ -65,9 +65,9 @@ fn push_names<S: System>(
     ensures asks { Asked S.events outside.old outside.new }
     ensures names { TellsMore outside.new result folder_names names.old names.new }
 {
-    push_named(alloc, names, b"TMPDIR", outside)?;
-    push_named(alloc, names, b"TMP", outside)?;
-    push_named(alloc, names, b"TEMP", outside)?;
+    push_variable(alloc, names, b"TMPDIR", outside)?;
+    push_variable(alloc, names, b"TMP", outside)?;
+    push_variable(alloc, names, b"TEMP", outside)?;
     push_folders_of_all(alloc, names)
 }
 

@@ -158,8 +158,8 @@ abbrev pub negated_turn : ℕ → ℕ → Turn
 negated_turn depth b = if is_white b then reads First kind.Blank place.Negated depth else asked_turn Negated depth b
 
 -- where a test begins, perhaps with a !
-abbrev pub test_turn : ℕ → ℕ → Turn
-test_turn depth b =
+abbrev pub turn_before_test : ℕ → ℕ → Turn
+turn_before_test depth b =
     if is_white b then reads First kind.Blank place.BeforeTest depth
     else if b == byte.exclamation_mark then reads First kind.Negation place.Negated depth
     else asked_turn AmongTests depth b
@@ -169,7 +169,7 @@ abbrev pub choice_turn : ℕ → ℕ → Turn
 choice_turn depth b =
     if is_white b then reads First kind.Blank place.BeforeChoice depth
     else if b == byte.colon then reads First kind.Then place.Ready depth
-    else test_turn depth b
+    else turn_before_test depth b
 
 -- after the % of a test, which is a function
 abbrev pub percent_test_turn : Side → ℕ → ℕ → Turn
@@ -188,7 +188,7 @@ turn place.WantsBrace depth b = brace_turn depth b
 turn place.WantsOption depth b = option_turn depth b
 turn (place.Function side) depth b = function_turn side depth b
 turn (place.Arguments side inside) depth b = argument_turn side inside depth b
-turn place.BeforeTest depth b = test_turn depth b
+turn place.BeforeTest depth b = turn_before_test depth b
 turn place.BeforeChoice depth b = choice_turn depth b
 turn place.Negated depth b = negated_turn depth b
 turn (place.TestPercent side) depth b = percent_test_turn side depth b

@@ -4,7 +4,8 @@ ghost use Rattle.drv_dump.specs.Grammar as grammar;
 ghost use Rattle.std.specs.Prelude.{◌≡◌};
 
 use crate::turns_of_tests::{
-    after_test_turn, choice_turn, inner_test_turn, negated_turn, percent_test_turn, test_turn,
+    after_test_turn, choice_turn, inner_test_turn, negated_turn, percent_test_turn,
+    turn_before_test,
 };
 use crate::{Kind, Misfit};
 
@@ -350,7 +351,7 @@ pub(crate) fn turn_at(place: Place, depth: usize, byte: u8) -> Turn
         Place::WantsOption => option_turn(depth, byte),
         Place::Function(side) => function_turn(side, depth, byte),
         Place::Arguments(side, inside) => argument_turn(side, inside, depth, byte),
-        Place::BeforeTest => test_turn(depth, byte),
+        Place::BeforeTest => turn_before_test(depth, byte),
         Place::BeforeChoice => choice_turn(depth, byte),
         Place::Negated => negated_turn(depth, byte),
         Place::TestPercent(side) => percent_test_turn(side, depth, byte),

@@ -50,8 +50,8 @@ pub(crate) fn negated_turn(depth: usize, byte: u8) -> Turn
 }
 
 /// A byte before a test.
-pub(crate) fn test_turn(depth: usize, byte: u8) -> Turn
-    ensures { result ≡ grammar.test_turn depth byte }
+pub(crate) fn turn_before_test(depth: usize, byte: u8) -> Turn
+    ensures { result ≡ grammar.turn_before_test depth byte }
 {
     if is_white(byte) {
         reads(InPiece::First, Kind::Blank, Place::BeforeTest, depth)
@@ -71,7 +71,7 @@ pub(crate) fn choice_turn(depth: usize, byte: u8) -> Turn
     } else if byte == b':' {
         reads(InPiece::First, Kind::Then, Place::Ready, depth)
     } else {
-        test_turn(depth, byte)
+        turn_before_test(depth, byte)
     }
 }
 

@@ -12,7 +12,7 @@ use json::{Pretty, Token};
 use std::alloc::AllocError;
 
 /// Writes a line as an object.
-fn put_line(out: &mut Pretty, line: &PlanLine) -> Result<(), AllocError>
+fn put_plan_line(out: &mut Pretty, line: &PlanLine) -> Result<(), AllocError>
     ensures { OnOk result (out.new ≡ out.old ++ json_tokens (line_json line.now)) }
 {
     out.token(Token::BeginObject)?;
@@ -28,7 +28,7 @@ fn put_side(out: &mut Pretty, side: &Option<PlanLine>) -> Result<(), AllocError>
     ensures { OnOk result (out.new ≡ out.old ++ json_tokens (option_json line_json side.now)) }
 {
     match side {
-        Some(line) => put_line(out, line),
+        Some(line) => put_plan_line(out, line),
         None => out.token(Token::Null),
     }
 }

@@ -105,7 +105,7 @@ fn push_pipe(text: &mut Vec<u8>, node: &Node<'_>) -> Result<(), AllocError>
 }
 
 /// Adds commands after the first of a group.
-fn push_piped(
+fn push_later_commands(
     alloc: Global,
     text: &mut Vec<u8>,
     job: &[u8],
@@ -143,7 +143,7 @@ fn push_group(
                 number: 0,
             };
             push_node(alloc, text, &first, command)?;
-            push_piped(alloc, text, job, number, commands)
+            push_later_commands(alloc, text, job, number, commands)
         }
     }
 }

@@ -34,7 +34,7 @@ pub(crate) fn push_entry(text: &mut Word, name: &[u8], body: &[u8]) -> Result<()
 
 /// Adds a named text.
 #[tactic(auto, unfolding(crate::specs::SpecFile::named_text))]
-fn push_named(alloc: Global, text: &mut Word, it: &NamedText) -> Result<(), AllocError>
+fn push_named_text(alloc: Global, text: &mut Word, it: &NamedText) -> Result<(), AllocError>
     ensures { OnOk result (text.new ≡ text.old ++ named_text it.now) }
 {
     let mut body = Word::empty(alloc);
@@ -378,7 +378,7 @@ fn push_all_named(alloc: Global, text: &mut Word, named: &[NamedText]) -> Result
     ensures { OnOk result (text.new ≡ text.old ++ flat_map named_text named.now) }
 {
     for it in named {
-        push_named(alloc, text, it)?;
+        push_named_text(alloc, text, it)?;
     }
     Ok(())
 }

@@ -22,7 +22,7 @@ use Rattle.std.proofs.Common.{true, ℕ}
 use Rattle.std.proofs.lemmas.Bool.Decides.{nat_tests}
 use Rattle.std.proofs.lemmas.Option.{slice_get_within}
 
--- For `open_text` (named.rt): a named text of plain bytes alone, put at once, is the text opened, a turn for each byte, and its end.
+-- For `open_named_text` (named.rt): a named text of plain bytes alone, put at once, is the text opened, a turn for each byte, and its end.
 -- Names: `s`, `t`: the machine (what has been cut, and the world) before, between and after steps. `w`: the walk over the text: its place
 -- and the open parts. `at`: a place in the text's list of parts. `F`: what is known of the outside. `C`: what the text is run for
 -- (switches, texts). `given`: what the walk gives in the end. `after_run`: the state after a turn for each of these plain bytes. `tree_of`:

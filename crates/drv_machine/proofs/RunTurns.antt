@@ -26,7 +26,7 @@ use Rattle.std.proofs.Common.{slice_get, subst, sym, true, ℕ}
 use Rattle.std.proofs.lemmas.Bool.{lt-ltb, ltb-true}
 use Rattle.std.specs.Prelude.{if◌then◌else◌, nat_lt}
 
--- For `work_run` (turns.rt) and `open_text` (named.rt): plain bytes that follow one another, worked as one slice, are so many
+-- For `work_run` (turns.rt) and `open_named_text` (named.rt): plain bytes that follow one another, worked as one slice, are so many
 -- turns, each of which works one byte.
 -- Names: `s`, `t`, `u`: the machine (what has been cut, and the world) before, between and after steps. `w`: the walk over the text: its
 -- place and the open parts. `b`: a byte. `F`: what is known of the outside. `C`: what the text is run for (switches, texts). `given`: what

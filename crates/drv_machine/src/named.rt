@@ -19,7 +19,7 @@ use drv_syntax::{SpecTree, TokenKind};
 ///
 /// # Errors
 /// `SpecTooDeep` where 64 parts are open.
-fn enter_text<'w>(text: &'w SpecTree, walk: &mut Walk<'w>) -> Result<(), MachineFault>
+fn enter_named_text<'w>(text: &'w SpecTree, walk: &mut Walk<'w>) -> Result<(), MachineFault>
     ensures { (F : Facts) (C : specs.Context) (s : running.Machine)
         (given : Answer (Unit {0} × running.Machine))
         → Following F C walk.old.text.now walk.old walk.old.at
@@ -47,7 +47,7 @@ fn enter_text<'w>(text: &'w SpecTree, walk: &mut Walk<'w>) -> Result<(), Machine
 ///
 /// # Errors
 /// `SpecTooDeep` where 64 parts are open.
-pub(crate) fn open_text<'w>(
+pub(crate) fn open_named_text<'w>(
     context: &'w Context<'_>,
     name: &[u8],
     walk: &mut Walk<'w>,
@@ -67,12 +67,12 @@ pub(crate) fn open_text<'w>(
     let tokens = text.tokens();
     if let [first, ..] = tokens {
         if !matches!(first.kind, TokenKind::Plain) {
-            return enter_text(text, walk);
+            return enter_named_text(text, walk);
         }
     }
     let bytes = text.plain_bytes(0, tally.left());
     if bytes.len() < tokens.len() || walk.frames.is_full() {
-        return enter_text(text, walk);
+        return enter_named_text(text, walk);
     }
     if bytes.is_empty() {
         return Ok(());

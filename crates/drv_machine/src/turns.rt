@@ -31,7 +31,7 @@ use crate::filing::work_filed;
 use crate::hits::close_hit;
 use crate::items::{Item, work_item};
 use crate::machine::{Cutter, Machine, Tally};
-use crate::named::open_text;
+use crate::named::open_named_text;
 use crate::tokens_at::token_at;
 use crate::walk::{Asking, Frame, Hit, Opened, Parts, Walk};
 use crate::{Context, MachineFault};
@@ -235,11 +235,11 @@ fn turn<'w, S: System>(
         TokenKind::Choose => choose(context, inside.start, next, walk, &mut tally.machine),
         TokenKind::NamedText => {
             walk.at = next;
-            open_text(context, text.word(at), walk, tally)
+            open_named_text(context, text.word(at), walk, tally)
         }
         TokenKind::BuiltinText => {
             walk.at = next;
-            open_text(context, text.word(at), walk, tally)
+            open_named_text(context, text.word(at), walk, tally)
         }
         TokenKind::Function => open_call(at, next, walk, &mut tally.machine),
         TokenKind::FailureFile => {

@@ -1,4 +1,4 @@
-use Rattle.drv_search.specs.Search.{as_prefix, candidates, candidates_under, found, is_plain, given_of, is_prefix, library_folders}
+use Rattle.drv_search.specs.Search.{candidates, candidates_under, found, given_of, is_plain, is_prefix, library_folders, prefix_for}
 use Rattle.drv_search.specs.Search.{machine_folder, prefix_of, prefixes_of, program_folders}
 use Rattle.drv_system.specs.Facts.{Facts, kind_of}
 use Rattle.drv_system.specs.Known.{◌>>=◌, Is, Known, Unasked, asked}
@@ -20,7 +20,7 @@ use Rattle.std.specs.Prelude.{get_or}
 
 -- the prefix of an argument whose kind was asked for
 pub prefix_asked : (F : Facts) (dir prefix : List ℕ) (kind : PathKind) → is_prefix dir ≡ false → kind_of F dir ≡ Some kind
-    → prefix ≡ as_prefix dir kind → prefix_of F dir ≡ Is prefix
+    → prefix ≡ prefix_for dir kind → prefix_of F dir ≡ Is prefix
 prefix_asked F dir prefix kind bare known is = rw (bare, known, is) refl
 
 -- the prefixes so far, followed by others
@@ -80,7 +80,7 @@ found_later F paths others is = found-append F paths others ∙ ap (λ known. kn
 
 -- the prefix of -B, by the kind that the code asked
 pub prefix_given : {E : Type 0} (F : Facts) (dir : List ℕ) (kind : PathKind) (result : Result (List ℕ) E)
-    → is_prefix dir ≡ false → kind_of F dir ≡ Some kind → IfOk result (λ prefix. prefix ≡ as_prefix dir kind)
+    → is_prefix dir ≡ false → kind_of F dir ≡ Some kind → IfOk result (λ prefix. prefix ≡ prefix_for dir kind)
     → IfOk result (λ prefix. prefix_of F dir ≡ Is prefix)
 prefix_given F dir kind (Ok prefix) bare known is = prefix_asked F dir prefix kind bare known is
 prefix_given F dir kind (Err e) bare known is = tt

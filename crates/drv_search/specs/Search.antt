@@ -24,11 +24,11 @@ machine_folder = codes "generic-elf/13/"
 -- The prefixes of -B.
 
 -- a folder gets a slash at its end if it lacks one
-abbrev pub as_prefix : List ℕ → PathKind → List ℕ
-as_prefix dir Dir = dir ++ slash ∷ []
-as_prefix dir Plain = dir
-as_prefix dir Other = dir
-as_prefix dir Missing = dir
+abbrev pub prefix_for : List ℕ → PathKind → List ℕ
+prefix_for dir Dir = dir ++ slash ∷ []
+prefix_for dir Plain = dir
+prefix_for dir Other = dir
+prefix_for dir Missing = dir
 
 -- an argument that is empty or ends with a slash is a prefix already
 abbrev pub is_prefix : List ℕ → Bool
@@ -36,7 +36,7 @@ is_prefix dir = length dir == 0 || ends_with_slash dir
 
 -- the prefix of -B's argument: as it is if it has the form of one, else by the kind of the path
 abbrev pub prefix_of : Facts → List ℕ → Known (List ℕ)
-prefix_of F dir = if is_prefix dir then Is dir else (asked (kind_of F dir) >>= λ kind. Is (as_prefix dir kind))
+prefix_of F dir = if is_prefix dir then Is dir else (asked (kind_of F dir) >>= λ kind. Is (prefix_for dir kind))
 
 -- the prefixes of all -B, in order
 abbrev pub given_of : Facts → List (List ℕ) → Known (List (List ℕ))

@@ -2,7 +2,7 @@
 
 // In clauses: `Tells` says that a result is that of a definition, by any facts that extend what is
 // known. `Asked` says that a call only asked, and that the table has the answers.
-ghost use Rattle.drv_search.specs.Search.{as_prefix, ends_with_slash, given_of, is_prefix};
+ghost use Rattle.drv_search.specs.Search.{ends_with_slash, given_of, is_prefix, prefix_for};
 ghost use Rattle.drv_search.specs.Search.{library_folders, machine_folder, prefix_of, prefixes_of};
 ghost use Rattle.drv_search.specs.Search.{program_folders};
 ghost use Rattle.drv_search.specs.Code.Telling.{Tells};
@@ -54,8 +54,8 @@ fn is_prefix(dir: &[u8]) -> bool
 }
 
 /// The prefix for a path of this kind: a folder gets a slash at its end if it lacks one.
-fn as_prefix(dir: &Word, kind: PathKind) -> Result<Word, AllocError>
-    ensures { IfOk result (λ prefix. prefix ≡ as_prefix dir.now kind) }
+fn prefix_for(dir: &Word, kind: PathKind) -> Result<Word, AllocError>
+    ensures { IfOk result (λ prefix. prefix ≡ prefix_for dir.now kind) }
 {
     let mut prefix = dir.clone()?;
     match kind {
@@ -75,7 +75,7 @@ fn prefix_of<S: System>(dir: &Word, outside: &mut Outside<'_, S>) -> Result<Word
         return dir.clone();
     }
     let kind = outside.facts.kind(outside.sys, dir)?;
-    as_prefix(dir, kind)
+    prefix_for(dir, kind)
 }
 
 /// The prefixes for the arguments of `-B`.

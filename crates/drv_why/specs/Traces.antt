@@ -114,10 +114,10 @@ are_words (t ∷ ts) [] = false
 are_words (t ∷ ts) (word ∷ words) = is_found word t.word && are_words ts words
 
 -- the words of a command of the plan with their parts, by the marked command, if that has the same words
-abbrev pub traces_if : List Trace → Command → Option (List Trace)
-traces_if ts command = if are_words ts (words_of command) then Some ts else None
+abbrev pub command_traces : List Trace → Command → Option (List Trace)
+command_traces ts command = if are_words ts (words_of command) then Some ts else None
 
 -- the same by the line of the marked plan in its place, if there is one
 abbrev pub traces_by : Command → Option PlanLine → Option (List Trace)
 traces_by command None = None
-traces_by command (Some marked) = traces_if (traces_of marked.command) command
+traces_by command (Some marked) = command_traces (traces_of marked.command) command

@@ -2,7 +2,8 @@
 
 ghost use Rattle.drv_forms.specs.Difference.{words_of};
 ghost use Rattle.drv_why.specs.Traces.{are_words, at_word, before_name, in_mark, is_found, is_marks, no_traces, outside_marks, read, taken};
-ghost use Rattle.drv_why.specs.Traces.{traces_by, traces_if, traces_of, with_byte, with_digit, with_trace, with_word, words_read};
+ghost use Rattle.drv_why.specs.Traces.{command_traces, traces_by, traces_of, with_byte, with_digit};
+ghost use Rattle.drv_why.specs.Traces.{with_trace, with_word, words_read};
 ghost use Rattle.std.specs.Prelude.{◌≡◌, IfOk, OnOk, slice_get};
 
 use drv_words::{Command, Listing, PlanLine, Word};
@@ -238,8 +239,8 @@ fn are_of(traces: &[Trace], command: &Command) -> bool
 }
 
 /// Words with their parts, if they are those of a command.
-fn traces_if(traces: Listing<Trace>, command: &Command) -> Option<Listing<Trace>>
-    ensures { result ≡ traces_if traces command.now }
+fn command_traces(traces: Listing<Trace>, command: &Command) -> Option<Listing<Trace>>
+    ensures { result ≡ command_traces traces command.now }
 {
     if are_of(traces.as_slice(), command) {
         Some(traces)
@@ -261,7 +262,7 @@ pub(crate) fn traces_at(
     match lines.get(place) {
         Some(line) => {
             let traces = traces_of(alloc, &line.command)?;
-            Ok(traces_if(traces, command))
+            Ok(command_traces(traces, command))
         }
         None => Ok(None),
     }

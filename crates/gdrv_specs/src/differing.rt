@@ -220,7 +220,7 @@ fn tell_text<S: System>(sys: &mut S, text: &Word) -> Outcome
 
 /// Prints the difference of two works, if they can be compared.
 #[tactic(auto, using(crate::proofs::Differences::tells_nothing, crate::proofs::Differences::tells_unmade))]
-fn tell_works<S: System>(alloc: Global, sys: &mut S, work: &Work, other: &Work) -> Outcome
+fn compare_works<S: System>(alloc: Global, sys: &mut S, work: &Work, other: &Work) -> Outcome
     ensures { TellsWorks (S.events sys.old) (S.events sys.new) work.now other.now result }
 {
     match difference_in(alloc, work, other) {
@@ -244,7 +244,7 @@ pub fn tell_difference<S: System>(
 {
     let facts = &mut FactTable::new(alloc);
     match works_of(alloc, comparison, seed, &mut Outside { sys, facts }) {
-        Ok((work, other)) => tell_works(alloc, sys, &work, &other),
+        Ok((work, other)) => compare_works(alloc, sys, &work, &other),
         Err(ending) => Outcome::Ended(ending),
     }
 }

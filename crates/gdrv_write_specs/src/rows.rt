@@ -253,7 +253,7 @@ fn place_after(text: &[u8], bytes: &[u8]) -> Option<usize> {
 
 /// Adds an option with each value that gcc names, and the same for `-mtune=` where it names
 /// processors.
-fn add_named(asked: Asked<'_>, name: &[u8], keys: &mut Listing<Word>) -> Result<(), Fault> {
+fn add_with_values(asked: Asked<'_>, name: &[u8], keys: &mut Listing<Word>) -> Result<(), Fault> {
     let alloc = asked.alloc();
     for value in values_named(asked, name)?.as_slice() {
         add_key(keys, question_about(alloc, name, value.as_bytes())?)?;
@@ -291,7 +291,7 @@ fn keys_of(asked: Asked<'_>) -> Result<Listing<Word>, Fault> {
     add_devices(asked, &mut keys)?;
     for name in MACHINES {
         add_listed(asked, name, &mut keys)?;
-        add_named(asked, name, &mut keys)?;
+        add_with_values(asked, name, &mut keys)?;
     }
     Ok(keys)
 }

@@ -9,8 +9,10 @@ use Rattle.drv_system.proofs.AskedCalls.{extends_before}
 
 pub returns-clause-names : goal.returns-clause-names
 returns-clause-names g c F e =
-    names_pushed F c.args.names.now c.push_named.new.names c.push_named-2.new.names c.push_named-3.new.names c.push_folders_of_all.new.names
+    names_pushed F c.args.names.now c.push_variable.new.names c.push_variable-2.new.names c.push_variable-3.new.names
+    c.push_folders_of_all.new.names
     c.push_folders_of_all.result
-    (c.in_ok-push_named.ensures.names F (extends_before c.push_named-2.ensures.asks (extends_before c.push_named-3.ensures.asks e)))
-    (c.in_ok-push_named-2.ensures.names F (extends_before c.push_named-3.ensures.asks e))
-    (c.in_ok-push_named-3.ensures.names F e) c.push_folders_of_all.ensures
+    (c.in_ok-push_variable.ensures.names F (extends_before c.push_variable-2.ensures.asks (extends_before c.push_variable-3.ensures.asks
+    e)))
+    (c.in_ok-push_variable-2.ensures.names F (extends_before c.push_variable-3.ensures.asks e))
+    (c.in_ok-push_variable-3.ensures.names F e) c.push_folders_of_all.ensures

@@ -125,7 +125,7 @@ returns-in_ok-put_item-in-Plain-clause-does g c F e given left =
 -- a named text
 pub returns-in-NamedText-clause-does : goal.returns-in-NamedText-clause-does
 returns-in-NamedText-clause-does g c F e given left =
-    c.open_text.ensures.does F given
+    c.open_named_text.ensures.does F given
     (turn_text c.args.walk.now.text.now c.args.walk.now c.requires.at_item c.token_at-token.result c.token_at-token.ensures F
     c.args.context.now (state c.args.tally.now) given left (state c.count.new.self)
     (c.in_ok-count.ensures.does F c.args.context.now) c.in-NamedText.is c.word.result.now c.word.ensures)
@@ -133,7 +133,7 @@ returns-in-NamedText-clause-does g c F e given left =
 -- a text that a letter such as %a denotes
 pub returns-in-BuiltinText-clause-does : goal.returns-in-BuiltinText-clause-does
 returns-in-BuiltinText-clause-does g c F e given left =
-    c.open_text-in-BuiltinText.ensures.does F given
+    c.open_named_text-in-BuiltinText.ensures.does F given
     (turn_builtin c.args.walk.now.text.now c.args.walk.now c.requires.at_item c.token_at-token.result c.token_at-token.ensures F
     c.args.context.now (state c.args.tally.now) given left (state c.count.new.self)
     (c.in_ok-count.ensures.does F c.args.context.now) c.in-BuiltinText.is c.word-in-BuiltinText.result.now c.word-in-BuiltinText.ensures)

@@ -10,6 +10,6 @@ use Rattle.std.proofs.Common.{◌∙◌, ap, sym}
 
 -- the prefix ends with a slash where the argument is a folder
 pub returns-clause-prefix : goal.returns-clause-prefix
-returns-clause-prefix g c F e = prefix_given F c.args.dir.now c.in_ok-kind.kind c.as_prefix.result (ap is_prefix (sym c.as_bytes.ensures)
+returns-clause-prefix g c F e = prefix_given F c.args.dir.now c.in_ok-kind.kind c.prefix_for.result (ap is_prefix (sym c.as_bytes.ensures)
     ∙ sym c.is_prefix.ensures ∙ c.if-is_prefix.false) (e.kinds c.args.dir.now c.in_ok-kind.kind c.in_ok-kind.ensures.known)
-    c.as_prefix.ensures
+    c.prefix_for.ensures

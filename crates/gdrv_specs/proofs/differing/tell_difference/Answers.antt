@@ -11,8 +11,8 @@ use Rattle.std.proofs.Common.{rules}
 pub returns-in-Ok : goal.returns-in-Ok
 returns-in-Ok g c =
     let asks = c.works_of.ensures.asks.asks in
-    compares_after c.args.comparison.now c.args.seed c.in-Ok.work c.in-Ok.other c.tell_works.result c.new.ensures (search rules)
-    c.in-Ok.ensures.comes c.tell_works.ensures
+    compares_after c.args.comparison.now c.args.seed c.in-Ok.work c.in-Ok.other c.compare_works.result c.new.ensures (search rules)
+    c.in-Ok.ensures.comes c.compare_works.ensures
 
 pub returns : goal.returns
 returns g c =

@@ -1,8 +1,8 @@
-use Rattle.drv_forms.proofs.drawing.push_piped.Given as goal
+use Rattle.drv_forms.proofs.drawing.push_later_commands.Given as goal
 use Rattle.drv_forms.specs.Picture.{piped_text}
 use Rattle.std.proofs.Common.{◌≡◌, ◌++◌, drop}
 
--- The loops of push_piped (src/drawing.rt). Adds commands after the first of a group.
+-- The loops of push_later_commands (src/drawing.rt). Adds commands after the first of a group.
 
 abbrev pub invariant-loop-command : goal.invariant-loop-command
 invariant-loop-command l = record {

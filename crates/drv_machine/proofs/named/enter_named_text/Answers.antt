@@ -1,10 +1,10 @@
 use Rattle.drv_machine.proofs.NamedTexts.{text_opened}
 use Rattle.drv_machine.proofs.Onward.{too_deep}
-use Rattle.drv_machine.proofs.named.enter_text.Goals as goal
+use Rattle.drv_machine.proofs.named.enter_named_text.Goals as goal
 use Rattle.drv_machine.specs.Code.Opening.{opening_lifted}
 use Rattle.std.proofs.Common.{ap, length, refl, rules}
 
--- enter_text (src/named.rt). A text is opened.
+-- enter_named_text (src/named.rt). A text is opened.
 
 -- Names: `F`: what is known of the outside. `s`: the machine: what has been cut, and the world. `given`: what the walk gives in the end.
 -- `b`: the clause's condition `Following`. `text_opened`: the walk enters the whole text, and goes on after the item at its end.

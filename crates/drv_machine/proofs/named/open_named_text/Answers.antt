@@ -1,7 +1,7 @@
 use Rattle.drv_machine.proofs.NamedTexts.{none_named, some_named}
 use Rattle.drv_machine.proofs.Onward.{leaf, same_step}
 use Rattle.drv_machine.proofs.PlainTexts.{none_counted, text_counted, text_put}
-use Rattle.drv_machine.proofs.named.open_text.Goals as goal
+use Rattle.drv_machine.proofs.named.open_named_text.Goals as goal
 use Rattle.drv_machine.specs.Atoms.{named, tree_named}
 use Rattle.drv_machine.specs.Code.Counting.{state}
 use Rattle.drv_machine.specs.Code.Running.{run}
@@ -10,7 +10,7 @@ use Rattle.drv_syntax.specs.Parsed.{tree_of}
 use Rattle.std.proofs.Common.{Ok, ap, arith, length, refl}
 use Rattle.std.specs.Prelude.{Some, option_map}
 
--- open_text (src/named.rt). The text of a name is opened; one that isn't there gives nothing.
+-- open_named_text (src/named.rt). The text of a name is opened; one that isn't there gives nothing.
 
 -- Names: `F`: what is known of the outside. `given`: what the walk gives in the end. `b`: the clause's condition `Following`. `state`: the
 -- state of a machine and its count. `named`: a named text is run in one more open part. `tree_of`: the tree of a text. `tree_named`: the
