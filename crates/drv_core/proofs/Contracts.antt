@@ -2,5 +2,5 @@
 pub mod Chosen
 pub mod Courses
 pub mod Matches
+pub mod OnCourse
 pub mod Runs
-pub mod Stands

@@ -1,6 +1,6 @@
 //! The run of a plan: the next step for every answer, and the result.
 
-// In clauses: `IfMake` holds of the next step, if there is one. `Stands` is what is known of every
+// In clauses: `IfMake` holds of the next step, if there is one. `KeptWork` is what is known of every
 // run. `run_state_of` is what definitions see of a run. `needed` is the most events of a plan's
 // run. `run_of` is the events of a run among those of a journal. `Windowed` says that events are a
 // whole run with these answers.
@@ -12,7 +12,7 @@ ghost use Rattle.drv_core.specs.Code.RunState.{moved, next_of};
 ghost use Rattle.drv_core.specs.Code.RunStateView.{run_state_of};
 ghost use Rattle.drv_core.specs.Code.Reached.{choosing};
 ghost use Rattle.drv_core.specs.Run.{IfDone, IfMake, step_in};
-ghost use Rattle.drv_core.specs.Code.RunView.{Stands, run_of};
+ghost use Rattle.drv_core.specs.Code.RunView.{KeptWork, run_of};
 ghost use Rattle.drv_core.specs.Story.{event};
 ghost use Rattle.drv_core.specs.Windowed.{IsBeginning, IsWhole, Windowed};
 ghost use Rattle.drv_core.specs.declared.action.Action.TheVariants as action;
@@ -46,11 +46,11 @@ impl<'a> Model for Run<'a> {
 
     ghost Value = { specs.Run };
 
-    ghost use Rattle.drv_core.specs.Code.RunView.{Stands, run_of};
+    ghost use Rattle.drv_core.specs.Code.RunView.{KeptWork, run_of};
 
     ghost view = { λ r. run_of r.plan.now r.pass_codes r.work };
 
-    ghost invariant = { λ r. Stands r.plan.now r.work };
+    ghost invariant = { λ r. KeptWork r.plan.now r.work };
 }
 
 /// The status if this is the greatest code.
@@ -67,7 +67,7 @@ fn status_code(pass_codes: FailureStatus, code: u8) -> u8
 /// The next step, or the status if there is none.
 #[tactic(auto, using(crate::proofs::Contracts::Runs::is_ready))]
 fn look(plan: &Plan, pass_codes: FailureStatus, work: &RunState) -> Action
-    requires { Stands plan.now work.now }
+    requires { KeptWork plan.now work.now }
     ensures { result ≡ (run_of plan.now pass_codes work.now).action }
 {
     match work.asks(plan) {
@@ -78,10 +78,10 @@ fn look(plan: &Plan, pass_codes: FailureStatus, work: &RunState) -> Action
 
 /// Takes the answer to the next step.
 fn advance(plan: &Plan, work: &mut RunState, answer: Answer)
-    requires stands { Stands plan.now work.old }
+    requires kept { KeptWork plan.now work.old }
     requires kind { (s : Step) → next_of plan.now (run_state_of work.old) ≡ Some s
         → is_kind s answer ≡ true }
-    ensures stands { Stands plan.now work.new }
+    ensures kept { KeptWork plan.now work.new }
     ensures moved { (s : Step) → next_of plan.now (run_state_of work.old) ≡ Some s
         → run_state_of work.new ≡ moved plan.now (run_state_of work.old) s answer }
     ensures window { work.new.fleet.window ≡ work.old.fleet.window }
@@ -94,9 +94,9 @@ fn advance(plan: &Plan, work: &mut RunState, answer: Answer)
 
 /// Goes on with the chosen source.
 fn turn(plan: &Plan, work: &mut RunState, choice: usize)
-    requires stands { Stands plan.now work.old }
+    requires kept { KeptWork plan.now work.old }
     requires choice { IsChoice plan.now work.old.fleet.window work.old.events.items choice }
-    ensures stands { Stands plan.now work.new }
+    ensures kept { KeptWork plan.now work.new }
     ensures chosen { run_state_of work.new ≡ choosing plan.now (run_state_of work.old) choice }
     ensures window { work.new.fleet.window ≡ work.old.fleet.window }
 {

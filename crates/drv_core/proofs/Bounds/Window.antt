@@ -1,4 +1,4 @@
-use Rattle.drv_core.proofs.Contracts.Stands.{answer_kept, choice_kept, fresh_kept}
+use Rattle.drv_core.proofs.Contracts.OnCourse.{answer_kept, choice_kept, fresh_kept}
 use Rattle.drv_core.specs.Code.Course.{Done, Link, Phase, Removals, Report, Sources, link_of}
 use Rattle.drv_core.specs.Filled.{AllFilled, Filled}
 use Rattle.drv_core.specs.Code.Fleet.{Fleet, closed, ended, first_busy, opened, selected, settled, stage_in, taken, turned, worked}

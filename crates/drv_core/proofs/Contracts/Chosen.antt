@@ -12,7 +12,7 @@ use Rattle.drv_core.proofs.Stories.Order.{clash, count_some, is_less, less}
 use Rattle.drv_core.proofs.WholeRuns.Progress.{count_same}
 use Rattle.drv_core.proofs.Bounds.Rooms.{first_cost}
 use Rattle.drv_core.proofs.WholeRuns.Standing.{Path, begins, path_ends, path_even, path_more, pending, waits_next}
-use Rattle.drv_core.proofs.Contracts.Stands.{Stands, filled_plan, stands}
+use Rattle.drv_core.proofs.Contracts.OnCourse.{OnCourse, filled_plan, on_course}
 use Rattle.drv_core.proofs.Answering.Steps.{all_out, asked, open_out}
 use Rattle.drv_core.proofs.Stories.Tells.{ToldStory, tells}
 use Rattle.drv_core.specs.Choices.{BetweenBlocks, ChoicesAre, GoesOn, HasEnded, IsChoice, IsNextOf, IsOfFirst, SoFar, is_step_of}
@@ -186,13 +186,13 @@ filled_at plan N p k = filled_plan plan k.jobs k.link
 
 -- a run is between blocks of the sources, or it isn't
 where_is : (plan : Plan) (N : ℕ) (p : RunState) → Kept plan N p → IsOpen plan N p ⊎ IsClosed plan N p
-where_is plan N p k = at (stands plan N p.room p k.some (filled_at plan N p k) k.reached)
+where_is plan N p k = at (on_course plan N p.room p k.some (filled_at plan N p k) k.reached)
   where
     -- Plan: by the phase: in that of the sources, by whether a block is open; in the others the sources have ended.
     filled : FilledPlan plan
     filled = filled_at plan N p k
 
-    sources : (t : Stands plan N p.room p) → p.phase ≡ Sources → Going plan.jobs N p.fleet p.events → (u : Bool)
+    sources : (t : OnCourse plan N p.room p) → p.phase ≡ Sources → Going plan.jobs N p.fleet p.events → (u : Bool)
         → inside (stage_in p.fleet p.fleet.current) ≡ u → IsOpen plan N p ⊎ IsClosed plan N p
     sources t phase g true e = inr (record {
       test_is = ap (λ q. between_blocks q p.fleet) phase
@@ -202,7 +202,7 @@ where_is plan N p k = at (stands plan N p.room p k.some (filled_at plan N p k) k
     sources t phase g false e = inl (record { phase = phase; going = g; out = e })
 
     -- behind the sources nothing may be chosen: the run goes on as one whose choice is closed
-    following : (t : Stands plan N p.room p) (q : Phase) → p.phase ≡ q → between_blocks q p.fleet ≡ false → Following plan N t.c.events
+    following : (t : OnCourse plan N p.room p) (q : Phase) → p.phase ≡ q → between_blocks q p.fleet ≡ false → Following plan N t.c.events
         → IsOpen plan N p ⊎ IsClosed plan N p
     following t q phase e z = inr (record {
       test_is = ap (λ r. between_blocks r p.fleet) phase ∙ e;
@@ -210,7 +210,7 @@ where_is plan N p k = at (stands plan N p.room p k.some (filled_at plan N p k) k
           filled (subst (λ E. Following plan N E) (sym t.match.alike.events) z) b;
     })
 
-    by : (t : Stands plan N p.room p) (q : Phase) → p.phase ≡ q → HoldsAt plan N q t.c → IsOpen plan N p ⊎ IsClosed plan N p
+    by : (t : OnCourse plan N p.room p) (q : Phase) → p.phase ≡ q → HoldsAt plan N q t.c → IsOpen plan N p ⊎ IsClosed plan N p
     by t Sources phase held = sources t phase (subst (λ f. Going plan.jobs N f p.events) (sym t.match.alike.fleet)
         (subst (λ E. Going plan.jobs N t.c.fleet E) (sym t.match.alike.events) held.going)) (inside (stage_in p.fleet p.fleet.current)) refl
     by t Link phase held = following t Link phase refl (after_linking plan N (most_of plan + first_cost held.job) held.job t.c.link
@@ -219,7 +219,7 @@ where_is plan N p k = at (stands plan N p.room p k.some (filled_at plan N p k) k
     by t Report phase held = following t Report phase refl (after_ending plan N held.i true t.c.events held.ending held.some)
     by t Done phase held = following t Done phase refl (after_done plan N held.i t.c.events held.ending)
 
-    at : Stands plan N p.room p → IsOpen plan N p ⊎ IsClosed plan N p
+    at : OnCourse plan N p.room p → IsOpen plan N p ⊎ IsClosed plan N p
     at t = by t t.c.phase t.match.phase t.holds
 
 -- the code's test for being between blocks passes

@@ -1,7 +1,7 @@
 use Rattle.drv_core.proofs.Contracts.Chosen.{choice_below, choices_are, chosen_elsewhere, chosen_next, first_next}
 use Rattle.drv_core.proofs.Choosing.First.{WorksFirst, fresh_first, moved_first}
-use Rattle.drv_core.proofs.Contracts.Stands.{begins, bound, closed, few, fewer, fits_kind, makes, ready, room_left, status_for, unfinished}
-use Rattle.drv_core.proofs.Contracts.Stands.{whole}
+use Rattle.drv_core.proofs.Contracts.OnCourse.{begins, bound, closed, few, fewer, fits_kind, makes, ready, room_left, status_for, unfinished}
+use Rattle.drv_core.proofs.Contracts.OnCourse.{whole}
 use Rattle.drv_core.proofs.Bounds.Window.{answer_stands, choice_stands, choosing_events, fresh_events, fresh_stands, moved_events}
 use Rattle.drv_core.specs.Choices.{BetweenBlocks, ChoicesAre, IsChoice, IsNextOf, IsOfFirst}
 use Rattle.drv_core.specs.Code.Course.{link_of}
@@ -13,7 +13,7 @@ use Rattle.drv_core.specs.Code.RunState.{RunState, Ready, moved, next_of}
 use Rattle.drv_core.specs.Code.RunStateView.{run_state_of}
 use Rattle.drv_core.specs.Code.Reached.{Kept, choices_at, choosing}
 use Rattle.drv_core.specs.Run.{IfDone, IfMake, Run, action_of, step_in}
-use Rattle.drv_core.specs.Code.RunView.{Stands, run_at, run_of}
+use Rattle.drv_core.specs.Code.RunView.{KeptWork, run_at, run_of}
 use Rattle.drv_core.specs.Code.Starting.{fresh_run}
 use Rattle.drv_core.specs.Story.{event}
 use Rattle.drv_core.specs.Windowed.{IsBeginning, IsWhole, Windowed}
@@ -28,7 +28,7 @@ use Rattle.drv_words.specs.declared.steps.Step.{Step}
 use Rattle.std.proofs.Common.{◌≡◌, ◌<◌, ◌≤◌, ◌∙◌, [], ◌∷◌, ◌++◌, None, Option, Some, ap, false, get_or, length, refl, subst, sym, true, ℕ}
 use Rattle.std.specs.Vec.{vec_capacity}
 
--- For the clauses of `Run`: each follows from what is known of the run (`Stands`). A `CodeRun` is the type of the code, `Run` what a caller
+-- For the clauses of `Run`: each follows from what is known of the run (`KeptWork`). A `CodeRun` is the type of the code, `Run` what a caller
 -- sees of it.
 -- Names: `plan` is the plan of the run: the jobs of its sources, and perhaps a link. `N` is the window: at most so many sources have begun
 -- and not ended. `a` is the answer to the step. `w` is the run of the code before, `v` after. `r` is what a caller sees of it. `s` is a
@@ -38,27 +38,27 @@ use Rattle.std.specs.Vec.{vec_capacity}
 -- status for the greatest code of a run. `IfDone`: what holds of the status. `action_of`: the next step, or else the status.
 
 -- what the code relies on: each index is in its list
-pub is_ready : (plan : Plan) (w : CodeRun) → Stands plan w → Ready plan (run_state_of w)
+pub is_ready : (plan : Plan) (w : CodeRun) → KeptWork plan w → Ready plan (run_state_of w)
 is_ready plan w k = ready plan w.fleet.window (run_state_of w) k
 
 -- while a step is left, there is room for an event
-pub room_at : (plan : Plan) (w : CodeRun) (s : Step) → Stands plan w → next_of plan (run_state_of w) ≡ Some s
+pub room_at : (plan : Plan) (w : CodeRun) (s : Step) → KeptWork plan w → next_of plan (run_state_of w) ≡ Some s
     → length w.events.items < vec_capacity w.events
 room_at plan w s k is = room_left plan w.fleet.window (run_state_of w) s k is
 
 -- no count of claims is greater than the number of events
-pub few_at : (plan : Plan) (w : CodeRun) → Stands plan w → (i : ℕ) → get_or w.leftovers.claimed.items i 0 ≤ length w.events.items
+pub few_at : (plan : Plan) (w : CodeRun) → KeptWork plan w → (i : ℕ) → get_or w.leftovers.claimed.items i 0 ≤ length w.events.items
 few_at plan w k i = few plan w.fleet.window (run_state_of w) k i
 
 -- after an answer
 
 -- after an answer that fits, what is known of the run still holds
-pub advanced : (plan : Plan) (w v : CodeRun) (s : Step) (a : Answer) → Stands plan w → next_of plan (run_state_of w) ≡ Some s
-    → is_kind s a ≡ true → run_state_of v ≡ moved plan (run_state_of w) s a → Stands plan v
+pub advanced : (plan : Plan) (w v : CodeRun) (s : Step) (a : Answer) → KeptWork plan w → next_of plan (run_state_of w) ≡ Some s
+    → is_kind s a ≡ true → run_state_of v ≡ moved plan (run_state_of w) s a → KeptWork plan v
 advanced plan w v s a k is kind e = (answer_stands plan (run_state_of w) (run_state_of v) s a k is kind e).0
 
 -- after an answer that fits, the window is the same
-pub window_kept : (plan : Plan) (w v : CodeRun) (s : Step) (a : Answer) → Stands plan w → next_of plan (run_state_of w) ≡ Some s
+pub window_kept : (plan : Plan) (w v : CodeRun) (s : Step) (a : Answer) → KeptWork plan w → next_of plan (run_state_of w) ≡ Some s
     → is_kind s a ≡ true → run_state_of v ≡ moved plan (run_state_of w) s a → v.fleet.window ≡ w.fleet.window
 window_kept plan w v s a k is kind e = (answer_stands plan (run_state_of w) (run_state_of v) s a k is kind e).1
 
@@ -83,7 +83,7 @@ no_step plan w v a is t at = absurd (let clash : None ≡ Some t = sym is ∙ at
 -- at the beginning the same is known, and the window is the one given
 pub begun : (plan : Plan) (w : CodeRun) (N : ℕ) → 1 ≤ N → AllFilled plan.jobs × Filled (link_of plan.link)
     → needed plan ≤ vec_capacity w.events → run_state_of w ≡ fresh_run plan N (vec_capacity w.events)
-    → (Stands plan w) × (w.fleet.window ≡ N)
+    → (KeptWork plan w) × (w.fleet.window ≡ N)
 begun plan w N some filled fits e = fresh_stands plan N (vec_capacity w.events) (run_state_of w) some filled.0 filled.1 fits e
 
 -- at the beginning there is no event
@@ -141,7 +141,7 @@ known_at plan pass_codes p k = by (next_of plan p) refl
         })
 
 -- the clauses of `next`, of a run of the code that a caller sees as r
-pub knows : (plan : Plan) (pass_codes : FailureStatus) (w : CodeRun) (r : Run) (a : Action) → Stands plan w → run_of plan pass_codes w ≡ r
+pub knows : (plan : Plan) (pass_codes : FailureStatus) (w : CodeRun) (r : Run) (a : Action) → KeptWork plan w → run_of plan pass_codes w ≡ r
     → a ≡ (run_of plan pass_codes w).action → Known r a
 knows plan pass_codes w r a k e is = subst (λ x. Known x a) e (subst (λ x. Known (run_of plan pass_codes w) x) (sym is)
     (known_at plan pass_codes (run_state_of w) k))
@@ -182,14 +182,14 @@ step_back None n = refl
 step_back (Some s) n = refl
 
 -- the clause about the first source, as a caller sees the run
-works_first : (plan : Plan) (pass_codes : FailureStatus) (w : CodeRun) → Stands plan w → WorksFirst plan (run_state_of w)
+works_first : (plan : Plan) (pass_codes : FailureStatus) (w : CodeRun) → KeptWork plan w → WorksFirst plan (run_state_of w)
     → IsOfFirst plan w.fleet.window w.events.items (step_in (run_of plan pass_codes w).action)
 works_first plan pass_codes w k first = subst (λ o. IsOfFirst plan w.fleet.window w.events.items o)
     (sym (step_back (next_of plan (run_state_of w)) (status_from pass_codes w.code)))
     (first_next plan w.fleet.window (run_state_of w) k first)
 
 -- at the beginning of a run, without a choice, the next step is of the first source that may go on
-pub begun_first : (plan : Plan) (pass_codes : FailureStatus) (w : CodeRun) (N : ℕ) → Stands plan w
+pub begun_first : (plan : Plan) (pass_codes : FailureStatus) (w : CodeRun) (N : ℕ) → KeptWork plan w
     → run_state_of w ≡ fresh_run plan N (vec_capacity w.events)
     → IsOfFirst plan w.fleet.window w.events.items (step_in (run_of plan pass_codes w).action)
 begun_first plan pass_codes w N k e = works_first plan pass_codes w k
@@ -200,7 +200,7 @@ pub answered_first : (plan : Plan) (pass_codes : FailureStatus) (old new : CodeR
     → run_of plan pass_codes old ≡ run
     → IfDone run.action (λ status. ⊥) → ((s : Step) → next_of plan (run_state_of old) ≡ Some s
     → run_state_of new ≡ moved plan (run_state_of old) s reply)
-    → Stands plan new → IsOfFirst plan new.fleet.window new.events.items (step_in (run_of plan pass_codes new).action)
+    → KeptWork plan new → IsOfFirst plan new.fleet.window new.events.items (step_in (run_of plan pass_codes new).action)
 answered_first plan pass_codes old new run reply e more moves k =
     works_first plan pass_codes new k (by (next_of plan (run_state_of old)) refl)
   where
@@ -228,7 +228,7 @@ status_there plan pass_codes w r n e done is = subst (λ x. x.action ≡ action.
     by (Some s) at = absurd (subst (λ o. IfMake (action_of o (status_from pass_codes w.code)) (λ step. ⊥)) at over)
 
 -- the status is that of any answers with which the events are a whole run
-pub status_right : (plan : Plan) (pass_codes : FailureStatus) (w : CodeRun) (r : Run) (n : ℕ) → Stands plan w → run_of plan pass_codes w ≡ r
+pub status_right : (plan : Plan) (pass_codes : FailureStatus) (w : CodeRun) (r : Run) (n : ℕ) → KeptWork plan w → run_of plan pass_codes w ≡ r
     → n ≡ status_from pass_codes w.code → (o : Answers) → Windowed r.plan r.window o r.events → n ≡ status_of r.pass_codes o
 status_right plan pass_codes w r n k e is = subst (λ x. (o : Answers) → Windowed x.plan x.window o x.events → n ≡ status_of x.pass_codes o)
     e (λ o h. is ∙ status_for plan w.fleet.window (run_state_of w) pass_codes o k h)
@@ -236,7 +236,7 @@ status_right plan pass_codes w r n k e is = subst (λ x. (o : Answers) → Windo
 -- choices
 
 -- the number of choices is the one of the rule
-pub choices_told : (plan : Plan) (pass_codes : FailureStatus) (w : CodeRun) (r : Run) (n : ℕ) → Stands plan w → run_of plan pass_codes w ≡ r
+pub choices_told : (plan : Plan) (pass_codes : FailureStatus) (w : CodeRun) (r : Run) (n : ℕ) → KeptWork plan w → run_of plan pass_codes w ≡ r
     → n ≡ choices_at plan (run_state_of w) → ChoicesAre r.plan r.window r.events n
 choices_told plan pass_codes w r n k e is = subst (λ x. ChoicesAre x.plan x.window x.events n) e
     (subst (λ m. ChoicesAre plan w.fleet.window w.events.items m) (sym is) (choices_are plan w.fleet.window (run_state_of w) k))
@@ -247,19 +247,19 @@ pub choice_of : (plan : Plan) (pass_codes : FailureStatus) (w : CodeRun) (r : Ru
 choice_of plan pass_codes w r i e h = subst (λ x. IsChoice x.plan x.window x.events i) (sym e) h
 
 -- after a choice, what is known of the run still holds
-pub turned_stands : (plan : Plan) (w v : CodeRun) (i : ℕ) → Stands plan w → IsChoice plan w.fleet.window w.events.items i
-    → run_state_of v ≡ choosing plan (run_state_of w) i → Stands plan v
-turned_stands plan w v i k h e = (choice_stands plan (run_state_of w) (run_state_of v) i k
+pub turned_kept : (plan : Plan) (w v : CodeRun) (i : ℕ) → KeptWork plan w → IsChoice plan w.fleet.window w.events.items i
+    → run_state_of v ≡ choosing plan (run_state_of w) i → KeptWork plan v
+turned_kept plan w v i k h e = (choice_stands plan (run_state_of w) (run_state_of v) i k
     (choice_below plan w.fleet.window (run_state_of w) i k h) e).0
 
 -- after a choice, the window is the same
-pub turned_window : (plan : Plan) (w v : CodeRun) (i : ℕ) → Stands plan w → IsChoice plan w.fleet.window w.events.items i
+pub turned_window : (plan : Plan) (w v : CodeRun) (i : ℕ) → KeptWork plan w → IsChoice plan w.fleet.window w.events.items i
     → run_state_of v ≡ choosing plan (run_state_of w) i → v.fleet.window ≡ w.fleet.window
 turned_window plan w v i k h e = (choice_stands plan (run_state_of w) (run_state_of v) i k
     (choice_below plan w.fleet.window (run_state_of w) i k h) e).1
 
 -- between blocks the next step is of the chosen source
-pub turned_next : (plan : Plan) (pass_codes : FailureStatus) (old new : CodeRun) (run : Run) (i : ℕ) → Stands plan old
+pub turned_next : (plan : Plan) (pass_codes : FailureStatus) (old new : CodeRun) (run : Run) (i : ℕ) → KeptWork plan old
     → run_of plan pass_codes old ≡ run → IsChoice run.plan run.window run.events i → run_state_of new ≡ choosing plan (run_state_of old) i
     → (between : BetweenBlocks run.plan run.window run.events)
     → IsNextOf run.plan run.window run.events between i (step_in (run_of plan pass_codes new).action)
@@ -271,7 +271,7 @@ turned_next plan pass_codes old new run i k e h is = subst (λ x. (between : Bet
     (choice_of plan pass_codes old run i e h)) between))
 
 -- the clause of `choose`: elsewhere than between blocks a choice changes nothing
-pub turned_elsewhere : (plan : Plan) (pass_codes : FailureStatus) (w v : CodeRun) (r : Run) (i : ℕ) → Stands plan w
+pub turned_elsewhere : (plan : Plan) (pass_codes : FailureStatus) (w v : CodeRun) (r : Run) (i : ℕ) → KeptWork plan w
     → run_of plan pass_codes w ≡ r → run_state_of v ≡ choosing plan (run_state_of w) i → (BetweenBlocks r.plan r.window r.events → ⊥)
     → run_of plan pass_codes v ≡ r
 turned_elsewhere plan pass_codes w v r i k e is none = ap (λ p. run_at plan pass_codes p) (is ∙ chosen_elsewhere plan w.fleet.window

@@ -24,5 +24,5 @@ abbrev pub run_of : Plan → FailureStatus → CodeRun → Run
 run_of plan pass_codes w = run_at plan pass_codes (run_state_of w)
 
 -- what holds of every run of the code
-abbrev pub Stands : Plan → CodeRun → Type 0
-Stands plan w = Kept plan w.fleet.window (run_state_of w)
+abbrev pub KeptWork : Plan → CodeRun → Type 0
+KeptWork plan w = Kept plan w.fleet.window (run_state_of w)

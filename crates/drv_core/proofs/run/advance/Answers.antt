@@ -9,26 +9,26 @@ use Rattle.std.proofs.Common.{◌∙◌, sym}
 
 -- what is known of the run is what the code relies on
 pub asks-requires : goal.asks-requires
-asks-requires c = is_ready c.args.plan.now c.args.work.now c.requires.stands
+asks-requires c = is_ready c.args.plan.now c.args.work.now c.requires.kept
 
 -- the same for the answer
 pub take-requires-clause-ready : goal.take-requires-clause-ready
-take-requires-clause-ready c = is_ready c.args.plan.now c.args.work.now c.requires.stands
+take-requires-clause-ready c = is_ready c.args.plan.now c.args.work.now c.requires.kept
 
 -- a step that is asked for has room for its event
 pub take-requires-clause-room : goal.take-requires-clause-room
-take-requires-clause-room c = room_at c.args.plan.now c.args.work.now c.in-Some.step c.requires.stands (sym c.asks.ensures ∙ c.in-Some.is)
+take-requires-clause-room c = room_at c.args.plan.now c.args.work.now c.in-Some.step c.requires.kept (sym c.asks.ensures ∙ c.in-Some.is)
 
 -- no source counts more than fits
 pub take-requires-clause-few : goal.take-requires-clause-few
-take-requires-clause-few c = few_at c.args.plan.now c.args.work.now c.requires.stands
+take-requires-clause-few c = few_at c.args.plan.now c.args.work.now c.requires.kept
 
 -- after the answer what is known of the run still holds
-pub returns-in-Some-clause-stands : goal.returns-in-Some-clause-stands
-returns-in-Some-clause-stands c = advanced c.args.plan.now c.args.work.now c.take.new.self c.in-Some.step c.args.answer c.requires.stands
+pub returns-in-Some-clause-kept : goal.returns-in-Some-clause-kept
+returns-in-Some-clause-kept c = advanced c.args.plan.now c.args.work.now c.take.new.self c.in-Some.step c.args.answer c.requires.kept
     (sym c.asks.ensures ∙ c.in-Some.is) (c.requires.kind c.in-Some.step (sym c.asks.ensures ∙ c.in-Some.is)) c.take.ensures
 
 -- the window stays
 pub returns-in-Some-clause-window : goal.returns-in-Some-clause-window
-returns-in-Some-clause-window c = window_kept c.args.plan.now c.args.work.now c.take.new.self c.in-Some.step c.args.answer c.requires.stands
+returns-in-Some-clause-window c = window_kept c.args.plan.now c.args.work.now c.take.new.self c.in-Some.step c.args.answer c.requires.kept
     (sym c.asks.ensures ∙ c.in-Some.is) (c.requires.kind c.in-Some.step (sym c.asks.ensures ∙ c.in-Some.is)) c.take.ensures

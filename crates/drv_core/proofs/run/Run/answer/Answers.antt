@@ -14,4 +14,4 @@ returns-clause-events c = answered c.self.inside.plan.now c.self.inside.pass_cod
 -- without a choice the first source that may goes on
 pub returns-clause-first : goal.returns-clause-first
 returns-clause-first c = answered_first c.self.inside.plan.now c.self.inside.pass_codes c.self.inside.work c.advance.new.work
-    c.args.self.now c.args.answer c.self.view_is c.requires.more c.advance.ensures.moved c.advance.ensures.stands
+    c.args.self.now c.args.answer c.self.view_is c.requires.more c.advance.ensures.moved c.advance.ensures.kept

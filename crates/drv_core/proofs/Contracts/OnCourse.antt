@@ -38,7 +38,7 @@ use Rattle.std.proofs.Common.{length, nat_lt, refl, subst, suc, sym, zero, ℕ}
 use Rattle.std.proofs.lemmas.List.{get_or_past}
 
 -- For the clauses of `Run`: what is known of every run, and what follows from it. `Kept` says that a position of the code was reached by
--- answers that fit and by choices; so there is a `Course` that matches it (`stands`), and each clause is a fact of that course.
+-- answers that fit and by choices; so there is a `Course` that matches it (`on_course`), and each clause is a fact of that course.
 -- Names: `plan` is the plan of the run: the jobs of its sources, and perhaps a link. `N` is the window: at most so many sources have begun
 -- and not ended. `p` is the run as the code keeps it. `a` is the answer to the step. `s` is a step. `room` is the room for events.
 -- `next_of` is the step that the code asks for. `between_blocks` says whether another source may be chosen. `left` says whether a source at
@@ -48,7 +48,7 @@ use Rattle.std.proofs.lemmas.List.{get_or_past}
 -- the step after these events. `same_next`: the code and the course have the same next step.
 
 -- there is a course that matches the code's position, and what is known of it
-pub record Stands (plan : Plan) (N room : ℕ) (p : RunState) : Type 0 where
+pub record OnCourse (plan : Plan) (N room : ℕ) (p : RunState) : Type 0 where
   pub c : Course
   pub holds : Holds plan N c
   pub match : Matches plan room p c
@@ -70,8 +70,8 @@ filled_plan plan jobs link = record {
     by j false e = subst (λ job. Filled job) (sym (get_or_past plan.jobs j no_job (is_not_less j (length plan.jobs) e))) filled_none
 
 -- after an answer that fits a course matches
-answered : (plan : Plan) (N room : ℕ) (p : RunState) (s : Step) (a : Answer) → 1 ≤ N → FilledPlan plan → Stands plan N room p
-    → next_of plan p ≡ Some s → is_kind s a ≡ true → Stands plan N room (moved plan p s a)
+answered : (plan : Plan) (N room : ℕ) (p : RunState) (s : Step) (a : Answer) → 1 ≤ N → FilledPlan plan → OnCourse plan N room p
+    → next_of plan p ≡ Some s → is_kind s a ≡ true → OnCourse plan N room (moved plan p s a)
 answered plan N room p s a some filled t is kind = record {
   c = stepped plan t.c s a;
   holds = steps plan N t.c s a some filled t.holds asks kind;
@@ -82,8 +82,8 @@ answered plan N room p s a some filled t is kind = record {
     asks = sym (same_next plan N room p t.c t.holds t.match) ∙ is
 
 -- after a choice a course matches
-chosen : (plan : Plan) (N room : ℕ) (p : RunState) (k : ℕ) → Stands plan N room p → k < choices_at plan p
-    → Stands plan N room (choosing plan p k)
+chosen : (plan : Plan) (N room : ℕ) (p : RunState) (k : ℕ) → OnCourse plan N room p → k < choices_at plan p
+    → OnCourse plan N room (choosing plan p k)
 chosen plan N room p k t lt = by (between_blocks p.phase p.fleet) refl lt
   where
     -- Plan: `alike`: after the choice the code and the course have the same source in progress. `by`: elsewhere than between blocks,
@@ -112,7 +112,7 @@ chosen plan N room p k t lt = by (between_blocks p.phase p.fleet) refl lt
     here Done e h = absurd cc
 
     by : (u : Bool) → between_blocks p.phase p.fleet ≡ u → k < (if u then length (able plan.jobs p.fleet) else 1)
-        → Stands plan N room (if u then record p { fleet = selected plan.jobs p.fleet k } else p)
+        → OnCourse plan N room (if u then record p { fleet = selected plan.jobs p.fleet k } else p)
     by true e below = record {
       c = record t.c { fleet = selected plan.jobs t.c.fleet k };
       holds = selected_holds plan N t.c k (b e) t.holds (subst (λ f. k < length (able plan.jobs f)) t.match.alike.fleet below);
@@ -121,23 +121,23 @@ chosen plan N room p k t lt = by (between_blocks p.phase p.fleet) refl lt
     by false e below = t
 
 -- a course matches each position that is reached
-pub stands : (plan : Plan) (N room : ℕ) (p : RunState) → 1 ≤ N → FilledPlan plan → Reached plan N room p → Stands plan N room p
-stands plan N room p some filled at_first = record {
+pub on_course : (plan : Plan) (N room : ℕ) (p : RunState) → 1 ≤ N → FilledPlan plan → Reached plan N room p → OnCourse plan N room p
+on_course plan N room p some filled at_first = record {
   c = fresh_course plan N;
   holds = fresh_holds plan N some filled;
   match = fresh_matches plan N room;
 }
-stands plan N room p some filled (after_answer q s a r is kind) = answered plan N room q s a some filled
-    (stands plan N room q some filled r) is kind
-stands plan N room p some filled (after_choice q k r lt) = chosen plan N room q k (stands plan N room q some filled r) lt
+on_course plan N room p some filled (after_answer q s a r is kind) = answered plan N room q s a some filled
+    (on_course plan N room q some filled r) is kind
+on_course plan N room p some filled (after_choice q k r lt) = chosen plan N room q k (on_course plan N room q some filled r) lt
 
 -- in a plan that a run keeps no group is empty
 filled_of : (plan : Plan) (N : ℕ) (p : RunState) → Kept plan N p → FilledPlan plan
 filled_of plan N p k = filled_plan plan k.jobs k.link
 
 -- a kept run has a course that matches it
-stands_at : (plan : Plan) (N : ℕ) (p : RunState) → Kept plan N p → Stands plan N p.room p
-stands_at plan N p k = stands plan N p.room p k.some (filled_of plan N p k) k.reached
+on_course_at : (plan : Plan) (N : ℕ) (p : RunState) → Kept plan N p → OnCourse plan N p.room p
+on_course_at plan N p k = on_course plan N p.room p k.some (filled_of plan N p k) k.reached
 
 -- each call keeps it
 
@@ -156,10 +156,10 @@ fresh_kept plan N room p some jobs link fits is = subst (λ q. Kept plan N q) (s
 pub answer_kept : (plan : Plan) (N : ℕ) (old new : RunState) (s : Step) (reply : Answer) → Kept plan N old → next_of plan old ≡ Some s
     → is_kind s reply ≡ true → new ≡ moved plan old s reply → Kept plan N new
 answer_kept plan N old new s reply k is kind to = subst (λ r. Kept plan N r) (sym to)
-    (by (answered plan N old.room old s reply k.some (filled_of plan N old k) (stands_at plan N old k) is kind))
+    (by (answered plan N old.room old s reply k.some (filled_of plan N old k) (on_course_at plan N old k) is kind))
   where
     -- Plan: the position after the answer has a course that matches it, so it is kept.
-    by : Stands plan N old.room (moved plan old s reply) → Kept plan N (moved plan old s reply)
+    by : OnCourse plan N old.room (moved plan old s reply) → Kept plan N (moved plan old s reply)
     by t = record {
       some = k.some;
       jobs = k.jobs;
@@ -172,10 +172,10 @@ answer_kept plan N old new s reply k is kind to = subst (λ r. Kept plan N r) (s
 -- a choice of the next source keeps the run kept
 pub choice_kept : (plan : Plan) (N : ℕ) (p q : RunState) (i : ℕ) → Kept plan N p → i < choices_at plan p → q ≡ choosing plan p i
     → Kept plan N q
-choice_kept plan N p q i k lt to = subst (λ r. Kept plan N r) (sym to) (by (chosen plan N p.room p i (stands_at plan N p k) lt))
+choice_kept plan N p q i k lt to = subst (λ r. Kept plan N r) (sym to) (by (chosen plan N p.room p i (on_course_at plan N p k) lt))
   where
     -- Plan: the position after the choice has a course that matches it, so it is kept.
-    by : Stands plan N p.room (choosing plan p i) → Kept plan N (choosing plan p i)
+    by : OnCourse plan N p.room (choosing plan p i) → Kept plan N (choosing plan p i)
     by t = record {
       some = k.some;
       jobs = k.jobs;
@@ -235,8 +235,8 @@ pub ready : (plan : Plan) (N : ℕ) (p : RunState) → Kept plan N p → Ready p
 ready plan N p k = subst (λ q. ReadyIn q plan p) (sym t.match.phase) (by t.c.phase t.holds t.match.here)
   where
     -- Plan: by the phase of the course that matches the position.
-    t : Stands plan N p.room p
-    t = stands_at plan N p k
+    t : OnCourse plan N p.room p
+    t = on_course_at plan N p k
 
     by : (q : Phase) → HoldsAt plan N q t.c → InPhase q plan p t.c → ReadyIn q plan p
     by Sources held here = subst (λ f. FleetReady plan f) (sym t.match.alike.fleet) (fleet_ready plan N (most_of plan) t.c.fleet t.c held)
@@ -251,8 +251,8 @@ pub few : (plan : Plan) (N : ℕ) (p : RunState) → Kept plan N p → (i : ℕ)
 few plan N p k i = by (nat_lt (length plan.jobs) i) refl
   where
     -- Plan: the count of the link is that of its own claims, and each is an event; the others are those of the sources.
-    t : Stands plan N p.room p
-    t = stands_at plan N p k
+    t : OnCourse plan N p.room p
+    t = on_course_at plan N p k
 
     by : (u : Bool) → nat_lt (length plan.jobs) i ≡ u → get_or p.leftovers.claimed i 0 ≤ length p.events
     by true e =
@@ -268,9 +268,9 @@ few plan N p k i = by (nat_lt (length plan.jobs) i) refl
 
 -- while a step is left, there is room for an event
 pub room_left : (plan : Plan) (N : ℕ) (p : RunState) (s : Step) → Kept plan N p → next_of plan p ≡ Some s → length p.events < p.room
-room_left plan N p s k is = by (stands_at plan N p k)
+room_left plan N p s k is = by (on_course_at plan N p k)
   where
-    by : Stands plan N p.room p → length p.events < p.room
+    by : OnCourse plan N p.room p → length p.events < p.room
     by t =
         let lt = holds_fewer plan N t.c s t.holds (sym (same_next plan N p.room p t.c t.holds t.match) ∙ is) in
         let len : length p.events ≡ length t.c.events = ap (λ (l : List RunEvent). length l) t.match.alike.events in
@@ -281,63 +281,63 @@ room_left plan N p s k is = by (stands_at plan N p k)
 
 -- the next step can be made
 pub makes : (plan : Plan) (N : ℕ) (p : RunState) (s : Step) → Kept plan N p → next_of plan p ≡ Some s → can_make plan p.events s ≡ true
-makes plan N p s k is = by (stands_at plan N p k)
+makes plan N p s k is = by (on_course_at plan N p k)
   where
-    by : Stands plan N p.room p → can_make plan p.events s ≡ true
+    by : OnCourse plan N p.room p → can_make plan p.events s ≡ true
     by t = subst (λ E. can_make plan E s ≡ true) (sym t.match.alike.events)
         (holds_makes plan N t.c s t.holds (sym (same_next plan N p.room p t.c t.holds t.match) ∙ is))
 
 -- while a step is left, fewer events came than a run can have at most
 pub fewer : (plan : Plan) (N : ℕ) (p : RunState) (s : Step) → Kept plan N p → next_of plan p ≡ Some s → length p.events < needed plan
-fewer plan N p s k is = by (stands_at plan N p k)
+fewer plan N p s k is = by (on_course_at plan N p k)
   where
-    by : Stands plan N p.room p → length p.events < needed plan
+    by : OnCourse plan N p.room p → length p.events < needed plan
     by t = subst (λ E. length E < needed plan) (sym t.match.alike.events)
         (holds_fewer plan N t.c s t.holds (sym (same_next plan N p.room p t.c t.holds t.match) ∙ is))
 
 -- at no time came more events than a run can have at most
 pub bound : (plan : Plan) (N : ℕ) (p : RunState) → Kept plan N p → length p.events ≤ needed plan
-bound plan N p k = by (stands_at plan N p k)
+bound plan N p k = by (on_course_at plan N p k)
   where
-    by : Stands plan N p.room p → length p.events ≤ needed plan
+    by : OnCourse plan N p.room p → length p.events ≤ needed plan
     by t = subst (λ E. length E ≤ needed plan) (sym t.match.alike.events) (holds_bound plan N t.c t.holds)
 
 -- the events are the beginning of a whole run
 pub begins : (plan : Plan) (N : ℕ) (p : RunState) → Kept plan N p → IsBeginning plan N p.events
-begins plan N p k = by (stands_at plan N p k)
+begins plan N p k = by (on_course_at plan N p k)
   where
-    by : Stands plan N p.room p → IsBeginning plan N p.events
+    by : OnCourse plan N p.room p → IsBeginning plan N p.events
     by t = subst (λ E. IsBeginning plan N E) (sym t.match.alike.events) (holds_begins plan N t.c k.some (filled_of plan N p k) t.holds)
 
 -- without a next step the events are a whole run
 pub whole : (plan : Plan) (N : ℕ) (p : RunState) → Kept plan N p → next_of plan p ≡ None → IsWhole plan N p.events
-whole plan N p k is = by (stands_at plan N p k)
+whole plan N p k is = by (on_course_at plan N p k)
   where
-    by : Stands plan N p.room p → IsWhole plan N p.events
+    by : OnCourse plan N p.room p → IsWhole plan N p.events
     by t = subst (λ E. IsWhole plan N E) (sym t.match.alike.events)
         (holds_whole plan N t.c t.holds (sym (same_next plan N p.room p t.c t.holds t.match) ∙ is))
 
 -- without a next step no pipe is pending
 pub closed : (plan : Plan) (N : ℕ) (p : RunState) → Kept plan N p → next_of plan p ≡ None → pipe_pending p.events ≡ false
-closed plan N p k is = by (stands_at plan N p k)
+closed plan N p k is = by (on_course_at plan N p k)
   where
-    by : Stands plan N p.room p → pipe_pending p.events ≡ false
+    by : OnCourse plan N p.room p → pipe_pending p.events ≡ false
     by t = subst (λ E. pipe_pending E ≡ false) (sym t.match.alike.events)
         (holds_closed plan N t.c t.holds (sym (same_next plan N p.room p t.c t.holds t.match) ∙ is))
 
 -- where they are a whole run, there is no next step
 pub ends : (plan : Plan) (N : ℕ) (p : RunState) → Kept plan N p → IsWhole plan N p.events → next_of plan p ≡ None
-ends plan N p k w = by (stands_at plan N p k)
+ends plan N p k w = by (on_course_at plan N p k)
   where
-    by : Stands plan N p.room p → next_of plan p ≡ None
+    by : OnCourse plan N p.room p → next_of plan p ≡ None
     by t = same_next plan N p.room p t.c t.holds t.match ∙ whole_ends plan N t.c (filled_of plan N p k) t.holds
         (subst (λ E. IsWhole plan N E) t.match.alike.events w)
 
 -- the code that the run keeps is the greatest of its events
 pub code_is : (plan : Plan) (N : ℕ) (p : RunState) → Kept plan N p → p.code ≡ run_code p.events
-code_is plan N p k = by (stands_at plan N p k)
+code_is plan N p k = by (on_course_at plan N p k)
   where
-    by : Stands plan N p.room p → p.code ≡ run_code p.events
+    by : OnCourse plan N p.room p → p.code ≡ run_code p.events
     by t = t.match.alike.code ∙ ap run_code (sym t.match.alike.events)
 
 -- the status that the code computes is that of the answers of the whole run
