@@ -176,7 +176,7 @@ no_part tree.Newline n label token = (refl, refl)
 no_part tree.Pipe n label token = (refl, refl)
 no_part (tree.Leaf leaf) n label token = (refl, refl)
 no_part (tree.TempName kind suffix) n label token = (refl, refl)
-no_part (tree.AddOption option) n label token = (refl, refl)
+no_part (tree.Accumulate option) n label token = (refl, refl)
 no_part (tree.UserError text) n label token = (refl, refl)
 no_part (tree.Notice text) n label token = (refl, refl)
 no_part (tree.NamedText name) n label token = (refl, refl)
@@ -339,7 +339,7 @@ mutual
   of_item items start n tree.Pipe l = refl
   of_item items start n (tree.Leaf leaf) l = refl
   of_item items start n (tree.TempName kind suffix) l = refl
-  of_item items start n (tree.AddOption option) l = refl
+  of_item items start n (tree.Accumulate option) l = refl
   of_item items start n (tree.UserError text) l = refl
   of_item items start n (tree.Notice text) l = refl
   of_item items start n (tree.NamedText name) l = refl

@@ -140,13 +140,13 @@ module _ (F : Facts) (C : Context) where
   pipe_failed s fault (inr stopped) = inr (piped_then s ∙ ap (λ a. a >>- with_pipe) stopped)
 
   -- the fields that `Machine` is made with are the state before the first item
-  pub begun_with : (hidden : List Bool) (ns options outputs : List (List ℕ)) (number : ℕ) → ns ≡ names C
-      → hidden ≡ replicate (length ns) false → options ≡ C.options → number ≡ C.number → outputs ≡ C.outputs
+  pub begun_with : (hidden : List Bool) (ns accumulated outputs : List (List ℕ)) (number : ℕ) → ns ≡ names C
+      → hidden ≡ replicate (length ns) false → accumulated ≡ C.accumulated → number ≡ C.number → outputs ≡ C.outputs
       → record {
         cut = nothing_cut;
         world = record {
           hidden = hidden;
-          options = options;
+          accumulated = accumulated;
           drawn = [];
           number = number;
           outputs =
@@ -156,7 +156,7 @@ module _ (F : Facts) (C : Context) where
           items = 0;
         };
       } ≡ begun F C
-  begun_with hidden ns options outputs number same is eo en eu =
+  begun_with hidden ns accumulated outputs number same is eo en eu =
       rw (eo, en, eu) (ap (λ h. record { cut = nothing_cut; world = record (start F C) { hidden = h } })
       (is ∙ ap (λ ms. replicate (length ms) false) same ∙ none_hidden C.switches))
     where

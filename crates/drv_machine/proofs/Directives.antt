@@ -184,7 +184,7 @@ options_join : words_of no_facts (linking []) (codes "%x{-lq}%x{-lr}foo%X") ≡ 
 options_join = refl
 
 -- the options of earlier texts are there, and the list goes on to later ones
-options_go_on : (worked no_facts (record (linking []) { options = codes "-lq" ∷ [] }) (codes "%x{-lr}%x{-lq}")
+options_go_on : (worked no_facts (record (linking []) { accumulated = codes "-lq" ∷ [] }) (codes "%x{-lr}%x{-lq}")
     >>- λ o. Is (Ok o.accumulated)) ≡ Is (Ok (codes "-lq" ∷ codes "-lr" ∷ []))
 options_go_on = refl
 

@@ -116,7 +116,7 @@ module _ (F : Facts) (C : Context) where
           notices = w.notices;
           outs = w.outputs;
           accumulated =
-              w.options;
+              w.accumulated;
           next_number = w.number;
           cost = w.items;
         }))

@@ -26,12 +26,12 @@ use Rattle.drv_match.specs.Matching.{hidden_by, hits, is_hit, name_at}
 use Rattle.drv_search.specs.Search.{folder_options}
 use Rattle.drv_syntax.specs.Stars.{has_star}
 use Rattle.drv_syntax.specs.Tree as tree
-use Rattle.drv_syntax.specs.Tree.{AddOption, ArgumentsFile, Asked, Blank, Brace, Braces, BuiltinText, Choices, Choose, Emit, Escape}
+use Rattle.drv_syntax.specs.Tree.{Accumulate, ArgumentsFile, Asked, Blank, Brace, Braces, BuiltinText, Choices, Choose, Emit, Escape}
 use Rattle.drv_syntax.specs.Tree.{FailureFile, Function, HasLanguage, HasResult, HasSuffix, HasSwitch, Hide, Item, Items, NamedText}
 use Rattle.drv_syntax.specs.Tree.{Newline, Notice, Pattern, Pipe, Plain, Span, Star, TempName, Tests, UserError, choice, more, no_choice}
 use Rattle.drv_syntax.specs.Tree.{no_test, none, test}
 use Rattle.drv_syntax.specs.declared.token.Leaf.TheVariants.{AssemblerOptions, BaseName, BaseStem, Directories, FoundFile, FoundScript}
-use Rattle.drv_syntax.specs.declared.token.Leaf.TheVariants.{InputName, LinkerOptions, NoOutput, ObjectSuffix, Output, Outputs, Percent}
+use Rattle.drv_syntax.specs.declared.token.Leaf.TheVariants.{Accumulated, InputName, NoOutput, ObjectSuffix, Output, Outputs, Percent}
 use Rattle.drv_syntax.specs.declared.token.Leaf.TheVariants.{PreprocessorOptions, Removed}
 use Rattle.drv_syntax.specs.declared.token.Leaf.{Leaf}
 use Rattle.drv_syntax.specs.declared.token.TempKind.TheVariants.{Last, New, PipedIn, PipedOut, Shared}
@@ -227,7 +227,7 @@ module _ (F : Facts) (C : Context) where
   leaf_well ObjectSuffix = bytes_well (codes ".o")
   leaf_well FoundFile = puts_well (Marked AsFile ∷ []) refl
   leaf_well FoundScript = puts_well (Marked AsScript ∷ []) refl
-  leaf_well LinkerOptions = look_puts_well (λ w. words w.options) (λ w. words_bare w.options)
+  leaf_well Accumulated = look_puts_well (λ w. words w.accumulated) (λ w. words_bare w.accumulated)
   leaf_well AssemblerOptions = puts_well (words C.assembler) (words_bare C.assembler)
   leaf_well PreprocessorOptions = puts_well (words C.preprocessor) (words_bare C.preprocessor)
   leaf_well Directories = then_well (needs_well (known (folder_options F C.prefixes)))
@@ -243,7 +243,7 @@ module _ (F : Facts) (C : Context) where
     item_well Pipe levels star e = puts_well (Piped ∷ []) refl
     item_well (tree.Leaf leaf) levels star e = leaf_well leaf
     item_well (TempName kind suffix) levels star e = temp_well kind suffix
-    item_well (AddOption option) levels star e = change_well (λ w. record w { options = added option w.options }) (λ w. refl)
+    item_well (Accumulate option) levels star e = change_well (λ w. record w { accumulated = added option w.accumulated }) (λ w. refl)
     item_well (UserError text) levels star e = refuse_well (fault.UserError text)
     item_well (Notice text) levels star e = change_well (λ w. record w { notices = w.notices ++ noted text ∷ [] }) (λ w. refl)
     item_well (NamedText name) levels star e = named_well (tree_named F C name) levels e

@@ -49,7 +49,7 @@ module _ (F : Facts) (C : Context) where
     job = job w c commands;
     notices = w.notices;
     outs = w.outputs;
-    accumulated = w.options;
+    accumulated = w.accumulated;
     next_number =
         w.number;
     cost = w.items;

@@ -39,7 +39,7 @@ linking switches = record {
   from_file = false;
   seed = 42;
   number = 1;
-  options = [];
+  accumulated = [];
   input = None;
   outputs = [];
 }

@@ -21,12 +21,12 @@ use Rattle.drv_syntax.specs.declared.token.TempKind.{TempKind}
 use Rattle.drv_syntax.specs.Parsed.{tree_of}
 use Rattle.drv_syntax.specs.Stars.{has_star}
 use Rattle.drv_syntax.specs.Tree as tree
-use Rattle.drv_syntax.specs.Tree.{AddOption, ArgumentsFile, Asked, Blank, Brace, Braces, BuiltinText, Choices, Choose, Emit, Escape}
+use Rattle.drv_syntax.specs.Tree.{Accumulate, ArgumentsFile, Asked, Blank, Brace, Braces, BuiltinText, Choices, Choose, Emit, Escape}
 use Rattle.drv_syntax.specs.Tree.{FailureFile, Function, HasLanguage, HasResult, HasSuffix, HasSwitch, Hide, Item, Items, NamedText}
 use Rattle.drv_syntax.specs.Tree.{Newline, Notice, Pattern, Pipe, Plain, Span, Star, TempName, Tests, UserError, choice, more, no_choice}
 use Rattle.drv_syntax.specs.Tree.{no_test, none, pattern, test}
 use Rattle.drv_syntax.specs.declared.token.Leaf.TheVariants.{AssemblerOptions, BaseName, BaseStem, Directories, FoundFile, FoundScript}
-use Rattle.drv_syntax.specs.declared.token.Leaf.TheVariants.{InputName, LinkerOptions, NoOutput, ObjectSuffix, Output, Outputs, Percent}
+use Rattle.drv_syntax.specs.declared.token.Leaf.TheVariants.{Accumulated, InputName, NoOutput, ObjectSuffix, Output, Outputs, Percent}
 use Rattle.drv_syntax.specs.declared.token.Leaf.TheVariants.{PreprocessorOptions, Removed}
 use Rattle.drv_syntax.specs.declared.token.Leaf.{Leaf}
 use Rattle.drv_system.specs.Facts.{Facts}
@@ -59,9 +59,9 @@ added option options = if is_among options option then options else options ++ o
 abbrev pub noted : List ℕ → List ℕ
 noted text = codes "note: " ++ text
 
--- the options that %x has added so far
-abbrev pub options_step : Step (Unit {0})
-options_step = look (λ w. words w.options) >>= puts
+-- the options that %x accumulated so far
+abbrev pub accumulated_step : Step (Unit {0})
+accumulated_step = look (λ w. words w.accumulated) >>= puts
 
 -- a word's bytes with a break after them
 abbrev pub broken_word : List ℕ → List Atom
@@ -229,7 +229,7 @@ module _ (F : Facts) (C : Context) where
   leaf_step ObjectSuffix = bytes (codes ".o")  -- %O
   leaf_step FoundFile = puts (Marked AsFile ∷ [])  -- %s
   leaf_step FoundScript = puts (Marked AsScript ∷ [])  -- %T
-  leaf_step LinkerOptions = options_step  -- %X
+  leaf_step Accumulated = accumulated_step  -- %X
   leaf_step AssemblerOptions = puts (words C.assembler)  -- %Y
   leaf_step PreprocessorOptions = puts (words C.preprocessor)  -- %Z
   leaf_step Directories = folders_step  -- %D
@@ -245,7 +245,7 @@ module _ (F : Facts) (C : Context) where
     item_step Pipe levels star = puts (Piped ∷ [])
     item_step (tree.Leaf leaf) levels star = leaf_step leaf
     item_step (TempName kind suffix) levels star = temp_step kind suffix  -- %g %u %U %| %m
-    item_step (AddOption option) levels star = change (λ w. record w { options = added option w.options })  -- %x{..}
+    item_step (Accumulate option) levels star = change (λ w. record w { accumulated = added option w.accumulated })  -- %x{..}
     item_step (UserError text) levels star = refuse (fault.UserError text)  -- %e
     item_step (Notice text) levels star = change (λ w. record w { notices = w.notices ++ noted text ∷ [] })  -- %n
     item_step (NamedText name) levels star = named (tree_named name) levels  -- %(..)
@@ -310,7 +310,7 @@ module _ (F : Facts) (C : Context) where
   abbrev pub start : World
   start = record {
     hidden = map (λ s. false) C.switches;
-    options = C.options;
+    accumulated = C.accumulated;
     drawn = [];
     number = C.number;
     outputs = C.outputs;

@@ -24,7 +24,7 @@ pub record Context : Type 0 where
   pub from_file : Bool  -- words of the line come from a response file
   pub seed : ℕ  -- of the names of temporaries
   pub number : ℕ  -- of the next name that is drawn
-  pub options : List (List ℕ)  -- that %x has added so far
+  pub accumulated : List (List ℕ)  -- that %x accumulated so far
   pub input : Option Source  -- that the text is worked for; none for the link
   pub outputs : List (List ℕ)  -- of the jobs so far, for the link
 

@@ -77,7 +77,7 @@ finished F C w c =
       job = job w c commands;
       notices = w.notices;
       outs = w.outputs;
-      accumulated = w.options;
+      accumulated = w.accumulated;
       next_number =
           w.number;
       cost = w.items;

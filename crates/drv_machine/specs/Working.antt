@@ -33,7 +33,7 @@ pub data Atom : Type 0 where
 -- what working a text changes as it goes
 pub record World : Type 0 where
   pub hidden : List Bool  -- for each switch
-  pub options : List (List ℕ)  -- the list of %x
+  pub accumulated : List (List ℕ)  -- the list of %x
   pub drawn : List Drawn
   pub number : ℕ  -- of the next name that is drawn
   pub outputs : List (List ℕ)

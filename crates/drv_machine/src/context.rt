@@ -42,7 +42,7 @@ pub struct Context<'a> {
     prefixes: &'a Prefixes,
     seed: u32,
     number: usize,
-    options: Listing<Word>,
+    accumulated: Listing<Word>,
     input: Option<Source<'a>>,
     outputs: Listing<Word>,
 }
@@ -63,7 +63,7 @@ impl<'a> Model for Context<'a> {
       from_file = c.line.now.settings.from_file;
       seed = c.seed;
       number = c.number;
-      options = c.options;
+      accumulated = c.accumulated;
       input = c.input;
       outputs = c.outputs;
     } };
@@ -100,7 +100,7 @@ impl<'a> Context<'a> {
           from_file = line.now.settings.from_file;
           seed = seed;
           number = 1;
-          options = [];
+          accumulated = [];
           input = None;
           outputs = [];
         }) }
@@ -113,7 +113,7 @@ impl<'a> Context<'a> {
             prefixes,
             seed,
             number: 1,
-            options: Listing::new(alloc),
+            accumulated: Listing::new(alloc),
             input: None,
             outputs: Listing::new(alloc),
         })
@@ -128,10 +128,10 @@ impl<'a> Context<'a> {
 
     /// The next text goes on from one that was run: with the options that were added so far, and the
     /// number of the next name that is drawn. The call allocates nothing.
-    pub fn go_on(&mut self, options: Listing<Word>, number: usize)
-        ensures { self.new ≡ record self.old { options = options; number = number } }
+    pub fn go_on(&mut self, accumulated: Listing<Word>, number: usize)
+        ensures { self.new ≡ record self.old { accumulated = accumulated; number = number } }
     {
-        self.options = options;
+        self.accumulated = accumulated;
         self.number = number;
     }
 
@@ -213,11 +213,11 @@ impl<'a> Context<'a> {
         self.number
     }
 
-    /// The options that `%x` has added so far.
-    pub(crate) fn options(&self) -> &[Word]
-        ensures { result.now ≡ self.now.options }
+    /// The options that `%x` accumulated so far.
+    pub(crate) fn accumulated(&self) -> &[Word]
+        ensures { result.now ≡ self.now.accumulated }
     {
-        self.options.as_slice()
+        self.accumulated.as_slice()
     }
 
     /// The outputs of the jobs so far.

@@ -98,7 +98,7 @@ fn work_leaf<S: System>(
             machine.mark(Mark::AsScript);
             Ok(())
         }
-        Leaf::LinkerOptions => machine.put_options(context, outside),
+        Leaf::Accumulated => machine.put_accumulated(context, outside),
         Leaf::AssemblerOptions => machine.put_words(context.assembler(), context, outside),
         Leaf::PreprocessorOptions => { machine.put_words(context.preprocessor(), context, outside) }
         Leaf::Directories => machine.put_folders(context, outside),
@@ -158,7 +158,7 @@ pub(crate) fn work_item<S: System>(
         }
         TokenKind::Star => machine.put(star_of(context, walk.star)),
         TokenKind::TempName(kind) => machine.put_temp(kind, text.word(item.at), context, outside),
-        TokenKind::AddOption => machine.add_option(text.word(item.at)),
+        TokenKind::Accumulate => machine.accumulate(text.word(item.at)),
         TokenKind::UserError => user_error(machine.alloc(), text.word(item.at)),
         TokenKind::Notice => machine.add_notice(text.word(item.at)),
         TokenKind::NamedText

@@ -143,7 +143,7 @@ pub(crate) struct Machine {
     inside: Inside,
     hidden: Hidden,
     /// What `%x` has added so far.
-    options: IndexedWords,
+    accumulated: IndexedWords,
     /// The names of the job's temporaries.
     drawn: DrawnNames,
     /// The number of the next name that is drawn.
@@ -181,7 +181,7 @@ impl Model for Machine {
       };
       world = record {
         hidden = m.hidden;
-        options = m.options;
+        accumulated = m.accumulated;
         drawn = m.drawn;
         number = m.number;
         outputs = m.outputs;
@@ -214,7 +214,7 @@ impl Machine {
             output: None,
             inside: Inside::new(alloc),
             hidden: Hidden::new(alloc, context.switches())?,
-            options: IndexedWords::new(alloc, copy_words(alloc, context.options())?),
+            accumulated: IndexedWords::new(alloc, copy_words(alloc, context.accumulated())?),
             drawn: DrawnNames::new(alloc),
             number: context.number(),
             outputs: Outputs::new(alloc, copy_words(alloc, context.outputs())?),

@@ -194,7 +194,7 @@ prefixes_first F line set seed dirs inputs prefixes C dirs_are inputs_are made i
 
 -- the progress after a text: its options and numbers go on, and its notices are added
 pub text_kept : (g : Progress) (done : Outcome) (C : Context) (notices : List (List ℕ)) → notices ≡ g.notices ++ done.notices
-    → C ≡ record g.context { options = done.accumulated; number = done.next_number }
+    → C ≡ record g.context { accumulated = done.accumulated; number = done.next_number }
     → after_text done g ≡ record g { context = C; notices = notices }
 text_kept g done C notices told kept =
     ap (λ (D : Context). record g { context = D; notices = g.notices ++ done.notices }) (sym kept)

@@ -57,7 +57,7 @@ context_of line set prefixes seed = record {
   from_file = line.settings.from_file;
   seed = seed;
   number = 1;
-  options = [];
+  accumulated = [];
   input = None;
   outputs = [];
 }
@@ -69,7 +69,7 @@ begun C = record { context = C; notices = []; jobs = []; outputs = []; passed_on
 -- after a text: the options of %x and the number of the next temporary go on to the next text; hidden switches don't
 abbrev pub after_text : Outcome → Progress → Progress
 after_text worked g = record g {
-  context = record g.context { options = worked.accumulated; number = worked.next_number };
+  context = record g.context { accumulated = worked.accumulated; number = worked.next_number };
   notices = g.notices ++ worked.notices;
 }
 

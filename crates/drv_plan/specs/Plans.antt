@@ -46,9 +46,9 @@ parts set place (Library word ∷ inputs) = Word word ∷ parts set (place + 1) 
 parts set place (LinkWord word ∷ inputs) = Word word ∷ parts set (place + 1) inputs
 
 -- what the text before passes to the next one: the options that %x has added, and the number of the next temporary
-abbrev pub options_after : Option Outcome → List (List ℕ)
-options_after None = []
-options_after (Some o) = o.accumulated
+abbrev pub accumulated_after : Option Outcome → List (List ℕ)
+accumulated_after None = []
+accumulated_after (Some o) = o.accumulated
 
 -- the number of the next temporary
 abbrev pub number_after : Option Outcome → ℕ
@@ -57,7 +57,7 @@ number_after (Some o) = o.next_number
 
 -- the context after a text
 abbrev pub context_after : Option Outcome → Context → Context
-context_after before C = record C { options = options_after before; number = number_after before }
+context_after before C = record C { accumulated = accumulated_after before; number = number_after before }
 
 -- the last of these outcomes, after an earlier one
 abbrev pub last : Option Outcome → List Outcome → Option Outcome

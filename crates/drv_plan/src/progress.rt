@@ -131,8 +131,8 @@ impl<'a> Progress<'a> {
     {
         let notices = mem::replace(&mut done.notices, Listing::new(alloc));
         move_words(&mut self.notices, notices)?;
-        let options = mem::replace(&mut done.accumulated, Listing::new(alloc));
-        self.context.go_on(options, done.next_number);
+        let accumulated = mem::replace(&mut done.accumulated, Listing::new(alloc));
+        self.context.go_on(accumulated, done.next_number);
         Ok(())
     }
 

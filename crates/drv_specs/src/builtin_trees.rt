@@ -319,7 +319,7 @@ const LINK_COMMAND: WrittenTree = WrittenTree {
         Pattern 41 42 21, Blank 43 44 22, Emit 44 48 24, Pattern 46 47 24, Blank 48 49 25,
         Emit 49 54 27, Pattern 51 53 27, Blank 54 55 28, Emit 55 60 30, Pattern 57 59 30,
         Blank 60 61 31, Emit 61 65 33, Pattern 63 64 33, Blank 65 66 34, Emit 66 71 36,
-        Pattern 68 70 36, Blank 71 72 37, Leaf(Leaf::LinkerOptions) 72 74 38, Blank 74 75 39,
+        Pattern 68 70 36, Blank 71 72 37, Leaf(Leaf::Accumulated) 72 74 38, Blank 74 75 39,
         FailureFile 75 81 41, Pattern 78 80 41, Choose 81 98 53, Alternative 83 97 53,
         Test 83 86 44, Plain 87 88 45, Plain 88 89 46, Blank 89 90 47, Leaf(Leaf::Output) 90 92 48,
         Plain 92 93 49, Plain 93 94 50, Plain 94 95 51, Plain 95 96 52, Plain 96 97 53,

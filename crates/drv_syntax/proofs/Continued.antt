@@ -23,7 +23,7 @@ use Rattle.drv_syntax.specs.Rest.{Left}
 use Rattle.drv_syntax.specs.Spelling as s
 use Rattle.drv_syntax.specs.Spelling.{AreItems, IsDirective, IsItem, IsPattern, IsQuoted, IsRun, IsSuffix, span}
 use Rattle.drv_syntax.specs.Tokens.{kind_of, tokens_of}
-use Rattle.drv_syntax.specs.Tree.{AddOption, ArgumentsFile, Blank, Braces, BuiltinText, Escape, FailureFile, Function, Hide, Item, Items}
+use Rattle.drv_syntax.specs.Tree.{Accumulate, ArgumentsFile, Blank, Braces, BuiltinText, Escape, FailureFile, Function, Hide, Item, Items}
 use Rattle.drv_syntax.specs.Tree.{Leaf, NamedText, Newline, Notice, Pattern, Pipe, Plain, Span, Star, TempName, UserError, more, none}
 use Rattle.drv_syntax.specs.declared.descent.ending.Ending.{Ending}
 use Rattle.drv_syntax.specs.declared.directives.Directive.{Directive}
@@ -113,7 +113,7 @@ item_fits before p Blank rest g = tt
 item_fits before p Newline rest g = tt
 item_fits before p Pipe rest g = tt
 item_fits before p (Leaf leaf) rest g = tt
-item_fits before p (AddOption option) rest g = tt
+item_fits before p (Accumulate option) rest g = tt
 item_fits before p (NamedText name) rest g = tt
 item_fits before p (BuiltinText name) rest g = tt
 item_fits before p (Function name arguments) rest g = tt
@@ -181,7 +181,7 @@ directive_on : {size : ℕ} {c : ListContext} {f : Directive} {t : List ℕ} {x 
 directive_on q s.whole h = s.whole
 directive_on q s.named h = s.named
 directive_on q (s.temp_name i) h = s.temp_name (suffix_on q i h)
-directive_on q (s.add_option i) h = s.add_option (longer q (quoted_moved [] q i (filled swaps_end)))
+directive_on q (s.accumulate i) h = s.accumulate (longer q (quoted_moved [] q i (filled swaps_end)))
 directive_on q (s.saying {kind = kind} {words = words} i e) h = said_fits kind words q h
 directive_on q (s.named_text i l) h = s.named_text (longer q (run_moved [] q i (filled swaps_end))) l
 directive_on q (s.hide i) h = s.hide (pattern_on q i h)

@@ -78,7 +78,7 @@ mutual
   inner_flat n tree.Pipe = refl
   inner_flat n (tree.Leaf leaf) = refl
   inner_flat n (tree.TempName kind suffix) = refl
-  inner_flat n (tree.AddOption option) = refl
+  inner_flat n (tree.Accumulate option) = refl
   inner_flat n (tree.UserError text) = refl
   inner_flat n (tree.Notice text) = refl
   inner_flat n (tree.NamedText name) = refl

@@ -8,7 +8,7 @@ use Rattle.drv_syntax.specs.Directives.{said}
 use Rattle.drv_syntax.specs.Rest.{Left, begins_with}
 use Rattle.drv_syntax.specs.Spelling as s
 use Rattle.drv_syntax.specs.Spelling.{AreSpaces, IsPattern, IsQuoted, IsRun, IsSuffix}
-use Rattle.drv_syntax.specs.Tree.{AddOption, NamedText, Pattern, TempName}
+use Rattle.drv_syntax.specs.Tree.{Accumulate, NamedText, Pattern, TempName}
 use Rattle.drv_syntax.specs.declared.directives.SayKind.{SayKind}
 use Rattle.drv_syntax.specs.declared.token.TempKind.{TempKind}
 use Rattle.std.proofs.Common.{◌≡◌, ◌≤◌, ◌∙◌, ◌+◌, ◌++◌, Bool, false, true, List, [], ◌∷◌, ap, append_assoc, append-nil, arith, drop, length}
@@ -134,7 +134,7 @@ module _ (size : ℕ) where
 
   -- %x{OPTION} by the grammar is read
   pub option_is : {t option q : List ℕ} {b : ℕ} (at : ℕ) → IsQuoted is_option t (b ∷ option) (125 ∷ q) → suc (length t) ≤ size
-      → d.option at (here (123 ∷ t)) ≡ Took (AddOption (b ∷ option)) (here q)
+      → d.option at (here (123 ∷ t)) ≡ Took (Accumulate (b ∷ option)) (here q)
   option_is {t} {q = q} at i h = rw (one t h, quoted_is i (omega (arith, h)), one q (omega (arith, quoted_shorter i, h))) refl
 
   -- the text of %e and %n by the grammar is read

@@ -185,7 +185,7 @@ module _ (size : ℕ) (lists deep : Lists) (c : ListContext) where
     directive_is at n s.whole h = refl
     directive_is at n s.named h = refl
     directive_is at n (s.temp_name {kind = kind} i) h = suffix_is size kind i h
-    directive_is at n (s.add_option i) h = option_is size at i h
+    directive_is at n (s.accumulate i) h = option_is size at i h
     directive_is at n (s.saying {kind = kind} i e) h = saying_is size c.kind kind i e h
     directive_is at n (s.named_text i l) h = named_is size at i l h
     directive_is at n (s.hide i) h = rw (pattern_is size at i h) refl

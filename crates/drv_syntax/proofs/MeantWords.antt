@@ -341,7 +341,7 @@ module _ (c : ListContext) (at : ℕ) {size : ℕ} where
       → DirMeant c at WithOption size (ascii.opening_brace ∷ text) (d.option_end at word (left n rest))
   option_end_meant n word [] place i = meant_ends (cuts.cut_option_text (runs_out i))
   option_end_meant n (x ∷ word) (b ∷ rest) place i =
-      meant_took (omega (arith, place)) (s.add_option (rw (closing b (first (quoted_stops i).0)) at i))
+      meant_took (omega (arith, place)) (s.accumulate (rw (closing b (first (quoted_stops i).0)) at i))
   option_end_meant n [] (b ∷ rest) place (s.quoted_stop e g) = meant_stops (rw (closing b g) (breaks r.empty_option (up_more (123 ∷ [])
       (up_byte place))))
 

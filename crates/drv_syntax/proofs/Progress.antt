@@ -190,7 +190,7 @@ directive_dark : {size : ℕ} {c : ListContext} {f : Directive} {t q : List ℕ}
 directive_dark s.whole = refl
 directive_dark s.named = refl
 directive_dark (s.temp_name i) = refl
-directive_dark (s.add_option i) = refl
+directive_dark (s.accumulate i) = refl
 directive_dark (s.saying {kind = kind} {words = words} i e) = by kind
   where
     by : (k : SayKind) → is_white_item (said k words) ≡ false

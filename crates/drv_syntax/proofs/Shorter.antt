@@ -60,7 +60,7 @@ mutual
   directive_shorter s.whole = omega arith
   directive_shorter s.named = omega arith
   directive_shorter (s.temp_name i) = suffix_shorter i
-  directive_shorter (s.add_option i) = omega (arith, quoted_shorter i)
+  directive_shorter (s.accumulate i) = omega (arith, quoted_shorter i)
   directive_shorter (s.saying i e) = omega (arith, quoted_shorter i, saying_shorter e)
   directive_shorter (s.named_text i l) = omega (arith, (run_is i).3)
   directive_shorter (s.hide i) = pattern_shorter i

@@ -247,8 +247,8 @@ module _ (x y : List ℕ) where
       directive_moved s.whole c = moved _ (loose c) s.whole
       directive_moved s.named c = moved _ (loose c) s.named
       directive_moved (s.temp_name i) c = let m = suffix_moved i c in moved _ m.swaps (s.temp_name m.is)
-      directive_moved (s.add_option i) c =
-          let m = quoted_moved i (filled (any (loose c))) in moved _ (filled (any m.swaps)) (s.add_option m.is)
+      directive_moved (s.accumulate i) c =
+          let m = quoted_moved i (filled (any (loose c))) in moved _ (filled (any m.swaps)) (s.accumulate m.is)
       directive_moved (s.saying i e) c =
           let k = saying_moved e (loose c) in let m = quoted_moved i k.swaps in moved _ m.swaps (s.saying m.is k.is)
       directive_moved (s.named_text i l) c = let m = run_moved i (filled (any (loose c))) in moved _ m.swaps (s.named_text m.is l)

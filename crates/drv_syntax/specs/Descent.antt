@@ -6,7 +6,7 @@ use Rattle.drv_syntax.specs.Directives.{braced, directive_of, is_allowed, said, 
 use Rattle.drv_syntax.specs.Refusals.{AtBar, AtFront, AtNext, Order, may_emit}
 use Rattle.drv_syntax.specs.Rest.{Left, after, begins_with, by_byte, first_of, past_byte, past_white, second_of}
 use Rattle.drv_syntax.specs.Spelling.{span}
-use Rattle.drv_syntax.specs.Tree.{AddOption, Asked, Blank, Brace, BuiltinText, Choices, Choose, Emit, Escape, Function, HasLanguage}
+use Rattle.drv_syntax.specs.Tree.{Accumulate, Asked, Blank, Brace, BuiltinText, Choices, Choose, Emit, Escape, Function, HasLanguage}
 use Rattle.drv_syntax.specs.Tree.{HasResult}
 use Rattle.drv_syntax.specs.Tree.{HasSuffix, HasSwitch, Hide, Item, Items, Leaf, NamedText, Pattern, Plain, Span, Star, TempName, Tests}
 use Rattle.drv_syntax.specs.Tree.{alternative, more, no_choice, no_test, none, pattern, test}
@@ -150,7 +150,7 @@ suffix kind rest = suffix_of kind (prefix_len is_suffix rest.bytes) rest
 -- the brace that closes %x{OPTION}, after this word: an option without bytes doesn't fit
 abbrev pub option_end : ℕ → List ℕ → Left → Read Item
 option_end at word rest = by_byte (first_of rest.bytes) (Ends at) (λ b.
-    if is_empty word then Stops rest.at (BadDirective at) else Took (AddOption word) (after 1 rest))
+    if is_empty word then Stops rest.at (BadDirective at) else Took (Accumulate word) (after 1 rest))
 
 -- %x{OPTION} after its x: both braces, and the option's bytes and escapes between them
 abbrev pub option : ℕ → Left → Read Item

@@ -12,7 +12,7 @@ use Rattle.drv_syntax.specs.declared.directives.Directive.{Directive}
 use Rattle.drv_syntax.specs.declared.directives.SayKind.TheVariants.{AsError, AsNotice}
 use Rattle.drv_syntax.specs.declared.directives.SayKind.{SayKind}
 use Rattle.drv_syntax.specs.declared.token.Leaf.TheVariants.{AssemblerOptions, BaseName, BaseStem, Directories, FoundFile, FoundScript}
-use Rattle.drv_syntax.specs.declared.token.Leaf.TheVariants.{InputName, LinkerOptions, NoOutput, ObjectSuffix, Output, Outputs, Percent}
+use Rattle.drv_syntax.specs.declared.token.Leaf.TheVariants.{Accumulated, InputName, NoOutput, ObjectSuffix, Output, Outputs, Percent}
 use Rattle.drv_syntax.specs.declared.token.Leaf.TheVariants.{PreprocessorOptions, Removed}
 use Rattle.drv_syntax.specs.declared.token.TempKind.TheVariants.{Last, New, PipedIn, PipedOut, Shared}
 use Rattle.std.specs.Prelude.{◌==◌, Bool, false, true, if◌then◌else◌, List, [], ◌∷◌, ◌++◌, codes, ℕ}
@@ -57,7 +57,7 @@ text_directives =
     on (codes "e") (WithSaying AsError) ∷  -- %eTEXT
     on (codes "n") (WithSaying AsNotice) ∷  -- %nTEXT
     on (codes "x") WithOption ∷  -- %x{OPTION}
-    on (codes "X") (Whole LinkerOptions) ∷  -- %X
+    on (codes "X") (Whole Accumulated) ∷  -- %X
     on (codes "Y") (Whole AssemblerOptions) ∷  -- %Y
     on (codes "Z") (Whole PreprocessorOptions) ∷  -- %Z
     on (codes "a") (Named Assembler) ∷  -- %a

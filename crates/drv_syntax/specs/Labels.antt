@@ -55,7 +55,7 @@ abbrev pub label_of : Item → Label
 label_of (tree.Plain b) = word_label (b ∷ [])
 label_of (tree.Escape b) = word_label (b ∷ [])
 label_of (tree.TempName kind suffix) = word_label suffix
-label_of (tree.AddOption option) = word_label option
+label_of (tree.Accumulate option) = word_label option
 label_of (tree.UserError text) = word_label text
 label_of (tree.Notice text) = word_label text
 label_of (tree.NamedText name) = word_label name

@@ -9,7 +9,7 @@ use Rattle.drv_syntax.specs.declared.directives.Directive.TheVariants.{WithName,
 use Rattle.drv_syntax.specs.declared.directives.SayKind.{SayKind}
 use Rattle.drv_syntax.specs.Contexts.{ListContext, Kind, Starred, Top, bar_in, in_arguments, in_braces, in_x, is_end, is_said, newline_in}
 use Rattle.drv_syntax.specs.Contexts.{top}
-use Rattle.drv_syntax.specs.Tree.{AddOption, Asked, Blank, Brace, BuiltinText, Choices, Choose, Emit, Escape, Function, HasLanguage}
+use Rattle.drv_syntax.specs.Tree.{Accumulate, Asked, Blank, Brace, BuiltinText, Choices, Choose, Emit, Escape, Function, HasLanguage}
 use Rattle.drv_syntax.specs.Tree.{HasResult, HasSuffix, HasSwitch, Hide, Item, Items, Leaf, NamedText, Pattern, Plain, Span, Star, TempName}
 use Rattle.drv_syntax.specs.Tree.{Tests, alternative, more, no_choice, no_test, none, pattern, test}
 use Rattle.drv_syntax.specs.declared.directives.BuiltinName.{BuiltinName}
@@ -117,8 +117,8 @@ mutual
     named : {c : ListContext} {rest : List ℕ} {name : BuiltinName} → IsDirective size c (Named name) rest (BuiltinText (text_of name)) rest
     temp_name : {c : ListContext} {kind : TempKind} {text suffix rest : List ℕ} → IsSuffix text suffix rest
         → IsDirective size c (WithSuffix kind) text (TempName kind suffix) rest
-    add_option : {c : ListContext} {b : ℕ} {text option rest : List ℕ} → IsQuoted is_option text (b ∷ option) (ascii.closing_brace ∷ rest)
-        → IsDirective size c WithOption (ascii.opening_brace ∷ text) (AddOption (b ∷ option)) rest
+    accumulate : {c : ListContext} {b : ℕ} {text option rest : List ℕ} → IsQuoted is_option text (b ∷ option) (ascii.closing_brace ∷ rest)
+        → IsDirective size c WithOption (ascii.opening_brace ∷ text) (Accumulate (b ∷ option)) rest
     saying : {c : ListContext} {kind : SayKind} {text words mid rest : List ℕ} → IsQuoted (is_said c.kind) text words mid
         → EndsSaying mid rest
         → IsDirective size c (WithSaying kind) text (said kind words) rest

@@ -24,7 +24,7 @@ mutual
     Pipe : Item  -- |
     Leaf : leaf.Leaf → Item  -- a directive that is whole with its byte
     TempName : TempKind → List ℕ → Item  -- %g, %u, %U, %| or %m and a suffix
-    AddOption : List ℕ → Item  -- %x{..}
+    Accumulate : List ℕ → Item  -- %x{..}
     UserError : List ℕ → Item  -- %e and a text
     Notice : List ℕ → Item  -- %n and a text
     NamedText : List ℕ → Item  -- %(..)

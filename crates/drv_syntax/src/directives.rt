@@ -114,7 +114,7 @@ fn text_directive(b: u8) -> Directive
         b'e' => Directive::WithSaying(SayKind::AsError), // %eTEXT
         b'n' => Directive::WithSaying(SayKind::AsNotice), // %nTEXT
         b'x' => Directive::WithOption, // %x{OPTION}
-        b'X' => Directive::Whole(Leaf::LinkerOptions), // %X
+        b'X' => Directive::Whole(Leaf::Accumulated), // %X
         b'Y' => Directive::Whole(Leaf::AssemblerOptions), // %Y
         b'Z' => Directive::Whole(Leaf::PreprocessorOptions), // %Z
         b'a' => Directive::Named(BuiltinName::Assembler), // %a

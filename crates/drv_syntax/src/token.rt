@@ -54,7 +54,7 @@ pub enum Leaf {
     /// `%T`.
     FoundScript,
     /// `%X`.
-    LinkerOptions,
+    Accumulated,
     /// `%Y`.
     AssemblerOptions,
     /// `%Z`.
@@ -81,7 +81,7 @@ pub enum TokenKind {
     /// `%g`, `%u`, `%U`, `%|` or `%m` and a suffix.
     TempName(TempKind),
     /// `%x{OPTION}`.
-    AddOption,
+    Accumulate,
     /// `%eTEXT`.
     UserError,
     /// `%nTEXT`.

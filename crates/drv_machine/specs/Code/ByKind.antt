@@ -129,7 +129,7 @@ kind_step F C kinds.Function label star inner = inner
 kind_step F C kinds.ArgumentsFile label star inner = inner
 kind_step F C kinds.Star label star inner = bytes star
 kind_step F C (kinds.TempName kind) label star inner = temp_step F C kind label.word
-kind_step F C kinds.AddOption label star inner = change (λ w. record w { options = added label.word w.options })
+kind_step F C kinds.Accumulate label star inner = change (λ w. record w { accumulated = added label.word w.accumulated })
 kind_step F C kinds.UserError label star inner = refuse (fault.UserError label.word)
 kind_step F C kinds.Notice label star inner = change (λ w. record w { notices = w.notices ++ noted label.word ∷ [] })
 kind_step F C _ label star inner = nothing  -- no item

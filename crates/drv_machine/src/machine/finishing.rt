@@ -51,20 +51,20 @@ pub(crate) fn outcome_of<S: System>(
         job,
         notices: mem::replace(&mut machine.notices, Listing::new(machine.alloc)),
         outs,
-        accumulated: options_of(machine),
+        accumulated: take_accumulated(machine),
         next_number: machine.number,
         cost,
     })
 }
 
-/// What `%x` has added, which is moved out of the machine.
-fn options_of(machine: &mut Machine) -> Listing<Word>
-    ensures options { result ≡ machine.old.world.options }
+/// What `%x` accumulated, which is moved out of the machine.
+fn take_accumulated(machine: &mut Machine) -> Listing<Word>
+    ensures accumulated { result ≡ machine.old.world.accumulated }
     ensures others { machine.new ≡ record machine.old
-        { world = record machine.old.world { options = [] } } }
+        { world = record machine.old.world { accumulated = [] } } }
 {
     let none = IndexedWords::new(machine.alloc, Listing::new(machine.alloc));
-    mem::replace(&mut machine.options, none).into_listing()
+    mem::replace(&mut machine.accumulated, none).into_listing()
 }
 
 /// The job of a machine's text. Words are moved out of the machine.
@@ -82,7 +82,7 @@ fn job_of<S: System>(
           notices = machine.old.world.notices;
           outs =
               machine.old.world.outputs;
-          accumulated = machine.old.world.options;
+          accumulated = machine.old.world.accumulated;
           next_number =
               machine.old.world.number;
           cost = n;
@@ -90,7 +90,7 @@ fn job_of<S: System>(
         (finished F context.now (reached n machine.old).world machine.old.cut) }
     ensures notices { machine.new.world.notices ≡ machine.old.world.notices }
     ensures outputs { machine.new.world.outputs ≡ machine.old.world.outputs }
-    ensures options { machine.new.world.options ≡ machine.old.world.options }
+    ensures accumulated { machine.new.world.accumulated ≡ machine.old.world.accumulated }
     ensures number { machine.new.world.number ≡ machine.old.world.number }
 {
     if has_stray_pipe(machine) {
@@ -110,7 +110,7 @@ fn job_around(machine: &mut Machine, groups: Listing<Group>) -> Result<Job, Allo
     ensures made { IfOk result (λ made. made ≡ job machine.old.world machine.old.cut groups) }
     ensures notices { machine.new.world.notices ≡ machine.old.world.notices }
     ensures outputs { machine.new.world.outputs ≡ machine.old.world.outputs }
-    ensures options { machine.new.world.options ≡ machine.old.world.options }
+    ensures accumulated { machine.new.world.accumulated ≡ machine.old.world.accumulated }
     ensures number { machine.new.world.number ≡ machine.old.world.number }
 {
     let alloc = machine.alloc;

@@ -1,7 +1,8 @@
 //! Lists that are put word by word, or that grow.
 
 ghost use Rattle.drv_system.specs.Code.Asked.{Asked};
-ghost use Rattle.drv_machine.specs.Atoms.{added, broken_word, folders_step, noted, options_step};
+ghost use Rattle.drv_machine.specs.Atoms.{accumulated_step, added, broken_word, folders_step};
+ghost use Rattle.drv_machine.specs.Atoms.{noted};
 ghost use Rattle.drv_machine.specs.Atoms.{outputs_step};
 ghost use Rattle.drv_machine.specs.Context as specs;
 ghost use Rattle.drv_machine.specs.Code.Running.{Does};
@@ -83,18 +84,18 @@ impl Machine {
         Ok(())
     }
 
-    /// The options that `%x` has added so far are put.
-    pub(crate) fn put_options<S: System>(
+    /// The options that `%x` accumulated so far are put.
+    pub(crate) fn put_accumulated<S: System>(
         &mut self,
         context: &Context<'_>,
         outside: &mut Outside<'_, S>,
     ) -> Result<(), MachineFault>
         ensures asks { Asked S.events outside.old outside.new }
         ensures does { (n : ℕ) (F : Facts) → Extends outside.new.facts.now F
-            → Does F context.now n self.old self.new result options_step }
+            → Does F context.now n self.old self.new result accumulated_step }
     {
-        let options = copy_words(self.alloc, self.options.as_slice())?;
-        self.put_words(options.as_slice(), context, outside)
+        let accumulated = copy_words(self.alloc, self.accumulated.as_slice())?;
+        self.put_words(accumulated.as_slice(), context, outside)
     }
 
     /// Whole words are put after a break.
@@ -189,11 +190,11 @@ impl Machine {
     }
 
     /// An option goes to the end of the list, unless it is in it.
-    pub(crate) fn add_option(&mut self, option: &[u8]) -> Result<(), MachineFault>
+    pub(crate) fn accumulate(&mut self, option: &[u8]) -> Result<(), MachineFault>
         ensures { (n : ℕ) (F : Facts) (C : specs.Context)
-            → Does F C n self.old self.new result (change (λ w. record w { options = added option.now w.options })) }
+            → Does F C n self.old self.new result (change (λ w. record w { accumulated = added option.now w.accumulated })) }
     {
-        self.options.add(Word::from_bytes(self.alloc, option)?)?;
+        self.accumulated.add(Word::from_bytes(self.alloc, option)?)?;
         Ok(())
     }
 

@@ -65,7 +65,7 @@ pub fn option(outer: Option<u32>, at: u32, r: &mut Reader<'_>) -> Result<(), Syn
         return Err(SyntaxFault::BadDirective(at as usize));
     }
     r.rest.take(1);
-    write_here(TokenKind::AddOption, at, word, WORD_ALONE, r)?;
+    write_here(TokenKind::Accumulate, at, word, WORD_ALONE, r)?;
     Ok(())
 }
 

@@ -31,14 +31,14 @@ returns-in-Hide-clause-does g c n F e levels inner means =
     c.args.item.at (star_of c.args.context.now c.args.walk.now.star) inner c.in-Hide.is) ∙ c.hide.ensures n F
 
 -- %x: the option is added
-pub returns-in-AddOption-clause-does : goal.returns-in-AddOption-clause-does
-returns-in-AddOption-clause-does g c n F e levels inner means =
-    gives_as (reached n c.add_option.new.self) c.add_option.result _ _
+pub returns-in-Accumulate-clause-does : goal.returns-in-Accumulate-clause-does
+returns-in-Accumulate-clause-does g c n F e levels inner means =
+    gives_as (reached n c.accumulate.new.self) c.accumulate.result _ _
     (ap (λ word. run F c.args.context.now (reached n c.args.machine.now) (change
-    (λ (w : World). record w { options = added word w.options })))
-    c.word-in-AddOption.ensures ∙ by_kind F c.args.context.now (reached n c.args.machine.now) c.args.item.token.kind kinds.AddOption
-    c.args.walk.now.text.now c.args.item.at (star_of c.args.context.now c.args.walk.now.star) inner c.in-AddOption.is)
-    (c.add_option.ensures n F c.args.context.now)
+    (λ (w : World). record w { accumulated = added word w.accumulated })))
+    c.word-in-Accumulate.ensures ∙ by_kind F c.args.context.now (reached n c.args.machine.now) c.args.item.token.kind kinds.Accumulate
+    c.args.walk.now.text.now c.args.item.at (star_of c.args.context.now c.args.walk.now.star) inner c.in-Accumulate.is)
+    (c.accumulate.ensures n F c.args.context.now)
 
 -- %n: the notice is added
 pub returns-in-Notice-clause-does : goal.returns-in-Notice-clause-does

@@ -23,5 +23,5 @@ returns c F =
     )
     (begun_with F c.args.context.now c.in_ok-new.field-0 c.switches.result.now c.in_ok-copy_words.field-0 c.in_ok-copy_words-2.field-0
     c.number.result
-    c.switches.ensures c.in_ok-new.ensures (c.in_ok-copy_words.ensures ∙ c.options.ensures) c.number.ensures
+    c.switches.ensures c.in_ok-new.ensures (c.in_ok-copy_words.ensures ∙ c.accumulated.ensures) c.number.ensures
     (c.in_ok-copy_words-2.ensures ∙ c.outputs.ensures))
