@@ -6,7 +6,6 @@ ghost use Rattle.drv_compile.specs.Machines.{found_or_missing, items_by, plain_i
 ghost use Rattle.drv_compile.specs.Machines.{row_beginning, row_in, row_items, row_of, word_item};
 ghost use Rattle.drv_compile.specs.Machines.{word_items};
 ghost use Rattle.drv_compile.specs.Suffixes.{suffixed_by};
-ghost use Rattle.drv_words.specs.Response.{is_marked, marked};
 ghost use Rattle.drv_compile.specs.declared.machines.LineRow.TheVariants.{Found};
 ghost use Rattle.drv_args.specs.declared.items.Item.{Item};
 ghost use Rattle.drv_cc.specs.declared.answer.Variable.{Variable};
@@ -18,7 +17,7 @@ use crate::children::child_variables;
 use crate::compilers::{first_value, has_either, rest_of, values};
 use drv_args::{Effect, Item};
 use drv_cc::Variable;
-use drv_words::{Listing, Word};
+use drv_words::{Listing, Word, push_marked};
 use std::alloc::{AllocError, Global};
 
 /// The row of a line.
@@ -47,26 +46,6 @@ pub(crate) fn is_machine(option: &[u8]) -> bool
     ensures { result ≡ is_machine option.now }
 {
     option.starts_with(b"-m") || option == b"-EB".as_slice() || option == b"-EL".as_slice()
-}
-
-/// Whether a byte has a backslash before it in a key.
-fn is_marked_byte(byte: u8) -> bool
-    ensures { result ≡ is_marked byte }
-{
-    matches!(byte, 9..=13 | b' ' | b'\'' | b'"' | b'\\')
-}
-
-/// Adds the bytes of an option, with a backslash before those that need one.
-fn push_marked(key: &mut Word, option: &[u8]) -> Result<(), AllocError>
-    ensures { OnOk result (key.new ≡ key.old ++ marked option.now) }
-{
-    for &byte in option {
-        if is_marked_byte(byte) {
-            key.push(b'\\')?;
-        }
-        key.push(byte)?;
-    }
-    Ok(())
 }
 
 /// Adds an option that chooses a machine.

@@ -324,8 +324,12 @@ pub fn one_list_of_words()
         → length words ≡ words_in text }
 {}
 
-/// Adds the bytes of a word, with a backslash before those that need one.
-fn push_marked(text: &mut Word, word: &[u8]) -> Result<(), AllocError>
+/// Adds the bytes of a word as the text of a response file has them: with a backslash before each
+/// white space, quote and backslash.
+///
+/// # Errors
+/// Out of memory.
+pub fn push_marked(text: &mut Word, word: &[u8]) -> Result<(), AllocError>
     ensures { OnOk result (text.new ≡ text.old ++ marked word.now) }
 {
     for &byte in word {
