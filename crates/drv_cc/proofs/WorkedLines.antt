@@ -383,7 +383,8 @@ vendors = refl
 
 -- -gsplit-dwarf keeps a file beside the object, so the compiler gets its name.
 split : line (codes "-c a.c -gsplit-dwarf -g -o d/x.o")
-    ≡ gives (codes "-c a.c -gsplit-dwarf -g -o d/x.o --gdrv-dir=d/ --gdrv-base=x.c --gdrv-ext=.c --gdrv-aux=d/x --gdrv-level=2 --gdrv-dwarf=5 -pipe")
+    ≡ gives (codes "-c a.c -gsplit-dwarf -g -o d/x.o --gdrv-dir=d/ --gdrv-base=x.c --gdrv-ext=.c"
+    ++ codes " --gdrv-aux=d/x --gdrv-level=2 --gdrv-dwarf=5 -pipe")
 unfolding sections ignored unpaired debugged_by
 split = refl
 

@@ -21,8 +21,8 @@ ok_or x (Ok y) = y
 ok_or x (Err fault) = x
 
 -- a result has one value
-pub same_value : {X E : Type 0} (x y : X) (r : Result X E) → r ≡ Ok x → r ≡ Ok y → x ≡ y
-same_value x y r is goes = ap (ok_or x) (sym is ∙ goes)
+pub same_value : {X E : Type 0} (x y : X) (result : Result X E) → result ≡ Ok x → result ≡ Ok y → x ≡ y
+same_value x y result is goes = ap (ok_or x) (sym is ∙ goes)
 
 -- pieces with one more, whether or not it has a byte
 pub written_more : (done : List Piece) (kind : Kind) (bytes : List ℕ) → written (with_piece done kind bytes) ≡ written done ++ bytes

@@ -113,6 +113,7 @@ text_step t r b = if t then Ok (record r { line = NewLine }) else Ok (record r {
 longer_text : (r next : DumpReader) (at b : ℕ) → r.line ≡ Text → entry_step Text r at b ≡ Ok next → Longer Text r next b
 longer_text r next at b here is = by (b == byte.newline) refl is
   where
+    -- Plan: by whether the byte ends the line. `whole`: to write the text with the byte is to write the text, and then the byte.
     whole : (x : ℕ) → x ≡ b → byte.asterisk ∷ (r.name ++ (byte.colon ∷ byte.newline ∷ (r.text ++ (x ∷ []))))
         ≡ (byte.asterisk ∷ (r.name ++ (byte.colon ∷ byte.newline ∷ r.text))) ++ (b ∷ [])
     whole x same =

@@ -124,7 +124,7 @@ pub absent : {Y : Type 0} (known : Option Y) (there : Bool) → there ≡ is_som
 absent None there is missing = refl
 absent (Some answer) there is missing = absurd (let z : false ≡ true = sym missing ∙ is in cc)
 
--- the maps of a place: made, filled, and cleared
+-- the maps of a place: made, filled, and cleared. A place that is filled is the map with its answer.
 module _ {Y : Type 0} (es made : List (List ℕ × Y)) (key : List ℕ) (blank : Y) (new : None ≡ answer_to es key)
     (is : made ≡ with_pair es key blank) where
   pub place_filled : (full : List (List ℕ × Y)) (answer : Y) → full ≡ set_value (is_at (slice_cmp nat_cmp key)) made answer
@@ -132,15 +132,18 @@ module _ {Y : Type 0} (es made : List (List ℕ × Y)) (key : List ℕ) (blank :
   place_filled full answer step = rw (← new) (step ∙ ap (λ xs. set_value (is_at (slice_cmp nat_cmp key)) xs answer) is
       ∙ fills_pair es key blank answer)
 
+  -- and that map has the answer
   pub place_answers : (full : List (List ℕ × Y)) (answer : Y) → full ≡ set_value (is_at (slice_cmp nat_cmp key)) made answer
       → answer_to full key ≡ Some answer
   place_answers full answer step = ap (λ xs. answer_to xs key) (step ∙ ap (λ xs. set_value (is_at (slice_cmp nat_cmp key)) xs answer) is
       ∙ fills_pair es key blank answer) ∙ pair_here es key answer
 
+  -- so it has some answer to the key
   pub place_known : (full : List (List ℕ × Y)) (answer : Y) → full ≡ set_value (is_at (slice_cmp nat_cmp key)) made answer
       → IsSome (answer_to full key)
   place_known full answer step = rw (place_answers full answer step) refl
 
+  -- a place that is cleared leaves the map as it was
   pub place_cleared : (rest : List (List ℕ × Y)) → rest ≡ remove_entry (is_at (slice_cmp nat_cmp key)) made → rest ≡ es
   place_cleared rest step = step ∙ ap (remove_entry (is_at (slice_cmp nat_cmp key))) is ∙ clears_pair es key blank (sym new)
 

@@ -19,7 +19,7 @@ use Rattle.std.specs.Prelude.{◌≡◌, ◌<◌, ◌≤◌, ◌+◌, Bool, List
 -- For `HostSystem` and `ScriptSystem`: what is known of them holds after one more event, and the next child gets a new number.
 -- Names: `events` is the journal before, or a part of it. `events'` is the journal after. `event` is one more event. `n` is the number of
 -- the next child. `m` is that number after the event. `p` says whether a pipe is pending before. `q` says whether a pipe is pending after.
--- `step` is the step that was made. `a` is the answer to the step. `taken` is the answer that a script has left for a start. `x` is the
+-- `step` is the step that was made. `a` or `reply` is the answer to it. `taken` is what a script has left to answer a start. `x` is the
 -- answer to a start. `run_of` is the steps of a run among the events of a journal. `Holds n p events` says that n and p are what the
 -- journal shows. `made step a` is the event of a step. `Numbered n events`: the children that the events started have numbers below n.
 -- `IsBelow`: the number of a started child is below n. `AreBelow`: all children of these events have numbers below n. `children_after`: the
@@ -100,14 +100,14 @@ numbered_after {n} {m} {events} {events'} step a numbered is le ge last = record
 }
 
 -- and after a step, if its answer's number is below the new count
-pub holds_after : {n m : ℕ} {p q : Bool} {events events' : List Event} (step : Step) (a : Answer) → Holds n p events
-    → events' ≡ events ++ made step a ∷ []
-    → n ≤ m → m ≤ n + 1 → IsBelow m a → q ≡ pending_with p step a → Holds m q events'
-holds_after {events = events} {events' = events'} step a holds is le ge last pipe = record {
-  numbered = numbered_after step a holds.numbered is le ge last;
-  pipe = pipe ∙ ap (λ pending. pending_with pending step a) holds.pipe
-      ∙ sym (pending-append (run_of events) (record { step = step; answer = a }))
-      ∙ ap pipe_pending (sym (following events events' step a is));
+pub holds_after : {n m : ℕ} {p q : Bool} {events events' : List Event} (step : Step) (reply : Answer) → Holds n p events
+    → events' ≡ events ++ made step reply ∷ []
+    → n ≤ m → m ≤ n + 1 → IsBelow m reply → q ≡ pending_with p step reply → Holds m q events'
+holds_after {events = events} {events' = events'} step reply holds is le ge last pipe = record {
+  numbered = numbered_after step reply holds.numbered is le ge last;
+  pipe = pipe ∙ ap (λ pending. pending_with pending step reply) holds.pipe
+      ∙ sym (pending-append (run_of events) (record { step = step; answer = reply }))
+      ∙ ap pipe_pending (sym (following events events' step reply is));
 }
 
 -- a started child gets the next number
@@ -115,12 +115,12 @@ next_number : (n m l : ℕ) → m ≡ n + 1 → l ≡ n → (n ≤ m) × (m ≤ 
 next_number n m l more same = (omega (arith, more), omega (arith, more), omega (arith, more, same))
 
 -- and after a start, whose child got the next number
-pub holds_started : {n m l : ℕ} {p q : Bool} {events events' : List Event} (step : Step) → Holds n p events
-    → events' ≡ events ++ made step (answer.Start (start.Started l)) ∷ [] → m ≡ n + 1 → l ≡ n
-    → q ≡ pending_with p step (answer.Start (start.Started l)) → Holds m q events'
-holds_started {n = n} {m = m} {l = l} step holds is more same pipe =
-    let numbers = next_number n m l more same in holds_after step
-    (answer.Start (start.Started l)) holds is numbers.0 numbers.1 numbers.2 pipe
+pub holds_started : {n m child : ℕ} {p q : Bool} {events events' : List Event} (step : Step) → Holds n p events
+    → events' ≡ events ++ made step (answer.Start (start.Started child)) ∷ [] → m ≡ n + 1 → child ≡ n
+    → q ≡ pending_with p step (answer.Start (start.Started child)) → Holds m q events'
+holds_started {n = n} {m = m} {child = child} step holds is more same pipe =
+    let numbers = next_number n m child more same in holds_after step
+    (answer.Start (start.Started child)) holds is numbers.0 numbers.1 numbers.2 pipe
 
 -- all numbers stay below the count after a step that starts no child
 pub numbered_step : {n m : ℕ} {events events' : List Event} (step : Step) (a : Answer) → Numbered n events
@@ -133,14 +133,14 @@ numbered_step {n} {m} {events} {events'} step a numbered is same last = rw same
     le_itself n = omega arith
 
 -- and after a step that starts no child
-pub holds_step : {n m : ℕ} {p q : Bool} {events events' : List Event} (step : Step) (a : Answer) → Holds n p events
-    → events' ≡ events ++ made step a ∷ []
-    → m ≡ n → IsBelow n a → q ≡ pending_with p step a → Holds m q events'
-holds_step {events = events} {events' = events'} step a holds is same last pipe = record {
-  numbered = numbered_step step a holds.numbered is same last;
-  pipe = pipe ∙ ap (λ pending. pending_with pending step a) holds.pipe
-      ∙ sym (pending-append (run_of events) (record { step = step; answer = a }))
-      ∙ ap pipe_pending (sym (following events events' step a is));
+pub holds_step : {n m : ℕ} {p q : Bool} {events events' : List Event} (step : Step) (reply : Answer) → Holds n p events
+    → events' ≡ events ++ made step reply ∷ []
+    → m ≡ n → IsBelow n reply → q ≡ pending_with p step reply → Holds m q events'
+holds_step {events = events} {events' = events'} step reply holds is same last pipe = record {
+  numbered = numbered_step step reply holds.numbered is same last;
+  pipe = pipe ∙ ap (λ pending. pending_with pending step reply) holds.pipe
+      ∙ sym (pending-append (run_of events) (record { step = step; answer = reply }))
+      ∙ ap pipe_pending (sym (following events events' step reply is));
 }
 
 -- an answer whose number is below n has not the number n

@@ -43,28 +43,33 @@ appended pairs room more key path answer is none same grows =
     grows ∙ ap (λ es. insert_entry (pointwise nat_eq) es key answer) same
     ∙ insert_entry-absent (pointwise nat_eq) key answer pairs (absent_from_lookup (pointwise nat_eq key) pairs absent)
 
+-- A table with one more pair, of a path that it lacked: the map in order has one more pair too.
 module _ {Y : Type 0} (pairs more : List (List ℕ × Y)) (key path : List ℕ) (answer : Y) (same : SameAnswers pairs) (is : key ≡ path)
     (none : None ≡ lookup (pointwise nat_eq path) pairs) (grows : more ≡ pairs ++ (key, answer) ∷ []) where
   pub ordered_more : in_order more ≡ with_pair (in_order pairs) path answer
   ordered_more = ap in_order grows ∙ from_more [] pairs key answer ∙ ap (λ k. with_pair (in_order pairs) k answer) is
 
+  -- so it is the map with one more answer, as the definition puts it
   pub ordered_with : in_order more ≡ with_answer (in_order pairs) path answer
   ordered_with = let unknown : None ≡ answer_to (in_order pairs) path = in_order_unknown pairs path same none in ordered_more
       ∙ rw (← unknown) refl
 
+  -- and it answers for the path
   pub ordered_here : answer_to (in_order more) path ≡ Some answer
   ordered_here = ap (λ es. answer_to es path) ordered_more ∙ pair_here (in_order pairs) path answer
 
-  -- and the table answers as the map again
+  -- what the table answers with the new pair, the map answers: by whether the path is the new one
   answers_by : (other : List ℕ) (b : Bool) → is_at (slice_cmp nat_cmp other) path ≡ b
       → cond b (Some answer) (lookup (pointwise nat_eq other) pairs) ≡ answer_to (with_pair (in_order pairs) path answer) other
   answers_by other true at =
       sym (ap (answer_to (with_pair (in_order pairs) path answer)) (same_key other path at) ∙ pair_here (in_order pairs) path answer)
   answers_by other false at = same other ∙ sym (pair_elsewhere (in_order pairs) path other answer at)
 
+  -- two ways to compare a path with the new one give the same
   same_test : (other : List ℕ) → pointwise nat_eq key other ≡ is_at (slice_cmp nat_cmp other) path
   same_test other = ap (λ k. pointwise nat_eq k other) is ∙ nat_list_eq_equiv.symm path other ∙ texts_ties other path
 
+  -- so the table answers as the map again
   pub answers_more : ((other : List ℕ) → lookup (pointwise nat_eq other) more
       ≡ cond (pointwise nat_eq key other) (Some answer) (lookup (pointwise nat_eq other) pairs))
       → SameAnswers more

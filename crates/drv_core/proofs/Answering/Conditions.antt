@@ -33,9 +33,9 @@ use Rattle.std.specs.Prelude.{⊤}
 -- test, so that `by` can go by both cases. `i` is the index of a child or of a temporary. `group_at job g` is the commands of the group.
 -- `asks k job s` is the next step of a job at this stage. `asked` takes a step out of its option. `after job s a` is the stage after the
 -- answer. `left` says whether a source at this stage has more to do. `enter_waits` is the stage of the next wait, or what follows the last.
--- In `makes` the letters are what is known of the step: `v` that it is valid, `z` the sizes, `o` that its child is open, `l` that the
--- source has more to do, `p` the pending pipe. `job_at`: the job of a number. `pending_with`: whether a pipe is pending after one more step
--- and its answer. `pipe_pending`: whether a pipe is pending after these events.
+-- `makes` knows of the stage: it is `valid`, the jobs are `sized`, the child is `opened` and not waited for, there is `more` to do, and a
+-- `pipe` is pending as the stage says. `job_at`: the job of a number. `pending_with`: whether a pipe is pending after one more step and its
+-- answer. `pipe_pending`: whether a pipe is pending after these events.
 
 -- whether a pipe is pending at this stage: between the starts of a group
 abbrev pub piped : Stage → Bool
@@ -204,19 +204,19 @@ both_hold a b x y = rw (x, y) refl
 -- the next step of a source, or of the link, can be made
 pub makes : (plan : Plan) (k : ℕ) (s : Stage) (E : List RunEvent) → Valid (job_at plan k) s → Sized (job_at plan k) s → OpenAt k s E
     → left s ≡ true → pipe_pending E ≡ piped s → can_make plan E (asked (asks k (job_at plan k) s)) ≡ true
-makes plan k (Claims i) E v z o l p = less i (length (job_at plan k).temps) v
-makes plan k (ClaimReport i x) E v z o l p = less i (length (job_at plan k).temps) v.0
-makes plan k (Starts g was ids) E v z o l p = both_hold (nat_lt (length ids) (length (group_at (job_at plan k) g)))
-    (same_bool (nat_lt 0 (length ids)) (pipe_pending E)) (less (length ids) (length (group_at (job_at plan k) g)) v)
-    (same_as (nat_lt 0 (length ids)) (pipe_pending E) p)
-makes plan k (StartReport g was ids why) E v z o l p = less (length ids) (length (group_at (job_at plan k) g)) v
-makes plan k (Closing g was ids why told) E v z o l p = p
-makes plan k (Waits g was ids i fault) E v z o l p = o
-makes plan k (WaitReport g was ids i fault (Exit n)) E v z o l p = absurd (let no : true ≡ false = v.1 in cc)
-makes plan k (WaitReport g was ids i fault Signal) E v z o l p =
-    less i (length (group_at (job_at plan k) g)) (let lt = v.0 in omega (arith, lt, z))
-makes plan k (WaitReport g was ids i fault Lost) E v z o l p =
-    less i (length (group_at (job_at plan k) g)) (let lt = v.0 in omega (arith, lt, z))
-makes plan k (Removals i) E v z o l p = less i (length (job_at plan k).on_failure) v
-makes plan k (RemovalReport i) E v z o l p = less i (length (job_at plan k).on_failure) v
-makes plan k Ended E v z o l p = absurd cc
+makes plan k (Claims i) E valid sized opened more pipe = less i (length (job_at plan k).temps) valid
+makes plan k (ClaimReport i x) E valid sized opened more pipe = less i (length (job_at plan k).temps) valid.0
+makes plan k (Starts g was ids) E valid sized opened more pipe = both_hold (nat_lt (length ids) (length (group_at (job_at plan k) g)))
+    (same_bool (nat_lt 0 (length ids)) (pipe_pending E)) (less (length ids) (length (group_at (job_at plan k) g)) valid)
+    (same_as (nat_lt 0 (length ids)) (pipe_pending E) pipe)
+makes plan k (StartReport g was ids why) E valid sized opened more pipe = less (length ids) (length (group_at (job_at plan k) g)) valid
+makes plan k (Closing g was ids why told) E valid sized opened more pipe = pipe
+makes plan k (Waits g was ids i fault) E valid sized opened more pipe = opened
+makes plan k (WaitReport g was ids i fault (Exit n)) E valid sized opened more pipe = absurd (let no : true ≡ false = valid.1 in cc)
+makes plan k (WaitReport g was ids i fault Signal) E valid sized opened more pipe =
+    less i (length (group_at (job_at plan k) g)) (let lt = valid.0 in omega (arith, lt, sized))
+makes plan k (WaitReport g was ids i fault Lost) E valid sized opened more pipe =
+    less i (length (group_at (job_at plan k) g)) (let lt = valid.0 in omega (arith, lt, sized))
+makes plan k (Removals i) E valid sized opened more pipe = less i (length (job_at plan k).on_failure) valid
+makes plan k (RemovalReport i) E valid sized opened more pipe = less i (length (job_at plan k).on_failure) valid
+makes plan k Ended E valid sized opened more pipe = absurd cc

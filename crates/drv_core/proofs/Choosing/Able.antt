@@ -185,9 +185,10 @@ at_next jobs N f blocks keep c lt = ap (λ (t : Bool). t && (nat_eq (count f.nex
     ∙ ap (λ n. nat_lt n (N + 1) && wait (nat_lt 0 (pending (stage_in f f.next))))
     (one ∙ ap (λ n. n + 1) (sym (begun_many jobs N f blocks c)))
     ∙ ap (λ (t : Bool). nat_lt (length f.begun + 1) (N + 1) && wait t) (no_wait (nat_lt 0 (pending (stage_in f f.next))) refl)
-    ∙ both (length f.begun) ∙ ap (λ n. nat_lt (length f.begun) n) (sym c.window_is)
+    ∙ room_for_one (length f.begun) ∙ ap (λ n. nat_lt (length f.begun) n) (sym c.window_is)
   where
-    -- Plan: no earlier source still has to begin (`order`), it waits for nothing (`no_wait`), and with it one more is under way (`one`).
+    -- Plan: no earlier source still has to begin (`order`), it waits for nothing (`no_wait`), and with it one more is under way (`one`);
+    -- `room_for_one` is the window's test.
     wait : Bool → Bool
     wait w = not w || nat_eq (count (length jobs) (λ j. in_flight (of j blocks))) (min N (count (length jobs) (λ j. left (stage_in f j))))
 
@@ -223,8 +224,8 @@ at_next jobs N f blocks keep c lt = ap (λ (t : Bool). t && (nat_eq (count f.nex
     no_wait false w = refl
 
     -- one more has room in the window where the code counts fewer than the window
-    both : (n : ℕ) → (nat_lt (n + 1) (N + 1) && true) ≡ nat_lt n N
-    both n = by (nat_lt n N) refl
+    room_for_one : (n : ℕ) → (nat_lt (n + 1) (N + 1) && true) ≡ nat_lt n N
+    room_for_one n = by (nat_lt n N) refl
       where
         by : (t : Bool) → nat_lt n N ≡ t → (nat_lt (n + 1) (N + 1) && true) ≡ t
         by true e = ap (λ (t : Bool). t && true) (less (n + 1) (N + 1) (let l : n < N = is_less n N e in omega (arith, l)))

@@ -226,6 +226,7 @@ next_is jobs from within = record {
       (subst (λ job. none job.groups ≡ true) (get_or-drop from jobs (j - from) no_job) (f.before (j - from) (omega (arith, le, lt))));
 }
   where
+    -- Plan: `f` says that of the jobs after `from` the first busy one is the one at `r`; `drop` counts them from 0 again.
     r : ℕ
     r = first_busy from (drop from jobs)
 
@@ -317,6 +318,7 @@ opened_is jobs N f g blocks more w = by (nat_eq g.current g.next) refl
         → left (stage_in g j) ≡ true → nat_lt j f.next ≡ nat_lt j r
     later_next r nx is j e l = at (apart_from j g.current e)
       where
+        -- Plan: by whether j is before the source in progress or after it. After it none has more to do before r (`beyond`).
         beyond : (t : Bool) → nat_lt j r ≡ t → g.current < j → nat_lt j r ≡ false
         beyond true lt past = absurd (let clash : true ≡ false = sym l ∙ following r nx is j past (is_less j r lt) in cc)
         beyond false lt past = lt
@@ -532,6 +534,7 @@ picks jobs N f blocks some keep c k below more = subst (λ l. Picks jobs N (stag
             let l : left (stage_in f f.next) ≡ true = c.next_left (let r = in_range in omega (arith, r, lt)) in
             ap (λ (t : Bool). not t && left (stage_in f f.next)) (c.has_is f.next l ∙ not_less f.next f.next (omega arith)) ∙ l
 
+        -- the source that goes on is neither before `next` nor after it
         at : (t u : Bool) → nat_lt g.k f.next ≡ t → nat_lt f.next g.k ≡ u → g.k ≡ f.next
         at true u e h = absurd (stuck none g (is_less g.k f.next e))
         at false true e h = absurd (let lt : f.next < g.k = is_less f.next g.k h in

@@ -40,7 +40,8 @@ each_both P (x ∷ xs) ys e f = (e.0, each_both P xs ys e.1 f)
 pub record Kinds (P : Block → Type 0) : Type 0 where
   pub claim : (k i : ℕ) (x : ClaimAnswer) (t : Bool) → P (claim_block k i (record { answer = x; told = t }))
   pub starts : (k g n i : ℕ) (refused : Bool) (xs : List StartAnswer) → P (starts_block k g n i refused xs)
-  pub wait : (k g i id : ℕ) (x : WaitAnswer) (t : Bool) → P (wait_block k g i id (record { answer = x; told = t }))
+  pub wait : (k g i id : ℕ) (ended : WaitAnswer) (reported : Bool)
+      → P (wait_block k g i id (record { answer = ended; told = reported }))
   pub removal : (k i : ℕ) (x : RemoveAnswer) (t : Bool) → P (removal_block (place.OnFailure k i) (record { answer = x; told = t }))
 
 -- each claim's block has the property

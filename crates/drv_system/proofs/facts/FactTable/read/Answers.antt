@@ -21,7 +21,8 @@ pub returns-in-Ok-clause-consults : goal.returns-in-Ok-clause-consults
 returns-in-Ok-clause-consults g c = rw (← c.self.view_is) (consulted _ _ _ _ _ _ _ (absent _ _ c.has.ensures c.if-has.false) _ _ _
     (place_answers _ _ _ _ (absent _ _ c.has.ensures c.if-has.false) c.in_ok-make_place.ensures.ok _ _ c.fill_place.ensures)
     c.in-Ok.ensures.event
-    (let kept = place_filled c.self.inside.reads _ c.args.path.now _ (absent _ _ c.has.ensures c.if-has.false) c.in_ok-make_place.ensures.ok _ _ c.fill_place.ensures in cc))
+    (let kept = place_filled c.self.inside.reads _ c.args.path.now _ (absent _ _ c.has.ensures c.if-has.false)
+    c.in_ok-make_place.ensures.ok _ _ c.fill_place.ensures in cc))
 
 -- so it asked at most what it lacked
 pub returns-in-Ok-clause-asks : goal.returns-in-Ok-clause-asks
@@ -31,7 +32,8 @@ returns-in-Ok-clause-asks g c = consults_asks _ _ _ _ _ _ _ _ (λ answer new. ne
 pub returns-in-Err-clause-consults : goal.returns-in-Err-clause-consults
 returns-in-Err-clause-consults g c = rw (← c.self.view_is)
     (not_consulted _ _ _ _ _ _ _ (absent _ _ c.has.ensures c.if-has.false) _ _ c.in-Err.ensures.memory
-    (let left = place_cleared c.self.inside.reads _ c.args.path.now _ (absent _ _ c.has.ensures c.if-has.false) c.in_ok-make_place.ensures.ok _ c.clear_place.ensures in cc))
+    (let left = place_cleared c.self.inside.reads _ c.args.path.now _ (absent _ _ c.has.ensures c.if-has.false)
+    c.in_ok-make_place.ensures.ok _ c.clear_place.ensures in cc))
 
 -- here too it asked at most what it lacked
 pub returns-in-Err-clause-asks : goal.returns-in-Err-clause-asks
