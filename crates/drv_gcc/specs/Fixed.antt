@@ -92,8 +92,8 @@ languages =
     ++ language (codes "@cpp-output") (codes "%(driver_alone) %{E|M|MM:;:%(cc1_cmd) -fpreprocessed %i %(cc1_options) %(distro_defaults) "
     ++ codes "%{!fsyntax-only:%(invoke_as)}} %(refused_here)")
     ++ language (codes "@assembler-with-cpp") (codes "%(driver_alone) %(trad_capable_cpp) -lang-asm %(cpp_options) -fno-directives-only "
-    ++ codes "%{E|M|MM:%(cpp_debug_options) %V;S:%V;save-temps*:-o %(assembly)\n %(wrapper)%(as_cmd) %(asm_debug) %(asm_options) %(assembly) %A;"
-    ++ codes ":-o %|.s |\n %(later_wrapper)%(as_cmd) %(asm_debug) %(asm_options) %m.s %A} %(refused_here)")
+    ++ codes "%{E|M|MM:%(cpp_debug_options) %V;S:%V;save-temps*:-o %(assembly)\n %(wrapper)%(as_cmd) %(asm_debug) %(asm_options)"
+    ++ codes " %(assembly) %A;:-o %|.s |\n %(later_wrapper)%(as_cmd) %(asm_debug) %(asm_options) %m.s %A} %(refused_here)")
     ++ language (codes "@assembler") (codes "%{E|S|M|MM:;:%(wrapper)%(as_cmd) %(asm_debug) %(asm_options) %i %A} %(refused_here)")
     ++ language (codes ".h") (codes "@c-header")
     ++ language (codes "@c-header")

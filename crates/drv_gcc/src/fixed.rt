@@ -29,14 +29,14 @@ const FIRST: &[u8] = b"\
 /// folder `.`, unless another text of that name follows.
 const GUARDS: &[u8] = b"\
     *several_suffixes:\n\
-    %{fstack-usage|fcallgraph-info*|coverage|ftest-coverage|fprofile-*|fdump-final-insns*|gs\
-    plit-dwarf:%enames of side files of sources with several suffixes of other languages are \
-    not in this spec file}\n\
+    %{fstack-usage|fcallgraph-info*|coverage|ftest-coverage|fprofile-*|fdump-final-insns*|\
+    gsplit-dwarf:%enames of side files of sources with several suffixes of other languages \
+    are not in this spec file}\n\
     \n\
     *refused_here:\n\
-    %(refused_root)%{mmusl*|muclibc*|mbionic*|mandroid*:%eanother C library is not in this sp\
-    ec file}%{-gdrv-wrapper=:%e-wrapper with an empty word is not in this spec file}%{-gdrv-s\
-    uffixes:%(several_suffixes)} %(refused_options)%{!-gdrv-front:%(without_front)}\n\
+    %(refused_root)%{mmusl*|muclibc*|mbionic*|mandroid*:%eanother C library is not in this \
+    spec file}%{-gdrv-wrapper=:%e-wrapper with an empty word is not in this spec file}\
+    %{-gdrv-suffixes:%(several_suffixes)} %(refused_options)%{!-gdrv-front:%(without_front)}\n\
     \n\
     *gdrv_self:\n\
     / %(self_spec)\n\
@@ -55,8 +55,8 @@ const GUARDS: &[u8] = b"\
     .\n\
     \n\
     *gdrv_pass:\n\
-    / %{!fsyntax-only:%{!c:%{!M:%{!MM:%{!E:%{!S:%{!nostdlib:%{!nodefaultlibs:%(link_gcc_c_seq\
-    uence)}}}}}}}}\n\
+    / %{!fsyntax-only:%{!c:%{!M:%{!MM:%{!E:%{!S:%{!nostdlib:%{!nodefaultlibs:\
+    %(link_gcc_c_sequence)}}}}}}}}\n\
     /\n\
     \n\
     *lto_pass_through:\n\
@@ -92,9 +92,10 @@ const ALONE: &[u8] = b"\
 /// name), or temporaries.
 const SIDE_FILES: &[u8] = b"\
     *dump_words:\n\
-    %{-gdrv-dir=*:-dumpdir %*} %{-gdrv-base=*:-dumpbase %*;:-dumpbase %B} %{-gdrv-ext=*:-dum\
-    pbase-ext %*;-gdrv-base=*:;.c:-dumpbase-ext .c;.i:-dumpbase-ext .i;.h:-dumpbase-ext .h;.\
-    S:-dumpbase-ext .S;.sx:-dumpbase-ext .sx;-gdrv-suffix=*:-dumpbase-ext %*}\n\
+    %{-gdrv-dir=*:-dumpdir %*} %{-gdrv-base=*:-dumpbase %*;:-dumpbase %B} \
+    %{-gdrv-ext=*:-dumpbase-ext %*;-gdrv-base=*:;.c:-dumpbase-ext .c;.i:-dumpbase-ext .i;\
+    .h:-dumpbase-ext .h;.S:-dumpbase-ext .S;.sx:-dumpbase-ext .sx;\
+    -gdrv-suffix=*:-dumpbase-ext %*}\n\
     \n\
     *dependencies:\n\
     %{-gdrv-dep=*:%*;-gdrv-dir=*:%*%b.d;:%b.d}\n\
@@ -141,18 +142,18 @@ const COMMANDS: &[u8] = b"\
     %(later_wrapper)%(as_cmd) %(asm_options) %m.s %A}}\n\
     \n\
     *compile:\n\
-    %{traditional:%eGNU C no longer supports -traditional without -E}%{save-temps*|tradition\
-    al-cpp|no-integrated-cpp:%{march=native|mtune=native:%e-march=native and a preprocessor of \
-    its own are not in this spec file together}%(trad_capable_cpp) %(cpp_options) -o %(preprocessed)\n \
-    %(cc1_cmd) -fpreprocessed %(preprocessed) %(cc1_options) %(distro_defaults);:%(cc1_cmd) \
-    %(cpp_unique_options) %(cc1_options) %(distro_defaults)}\n\
+    %{traditional:%eGNU C no longer supports -traditional without -E}%{save-temps*|\
+    traditional-cpp|no-integrated-cpp:%{march=native|mtune=native:%e-march=native and a \
+    preprocessor of its own are not in this spec file together}%(trad_capable_cpp) %(cpp_options) \
+    -o %(preprocessed)\n %(cc1_cmd) -fpreprocessed %(preprocessed) %(cc1_options) \
+    %(distro_defaults);:%(cc1_cmd) %(cpp_unique_options) %(cc1_options) %(distro_defaults)}\n\
     \n";
 
 /// The languages: what is run for a source of each.
 const LANGUAGES: &[u8] = b"\
     @c:\n\
-    %(driver_alone) %{E|M|MM:%(trad_capable_cpp) %(cpp_options) %(cpp_debug_options) %V;:%(c\
-    ompile) %{!fsyntax-only:%(invoke_as)}} %(refused_here)\n\
+    %(driver_alone) %{E|M|MM:%(trad_capable_cpp) %(cpp_options) %(cpp_debug_options) %V;\
+    :%(compile) %{!fsyntax-only:%(invoke_as)}} %(refused_here)\n\
     \n\
     @cpp-output:\n\
     %(driver_alone) %{E|M|MM:;:%(cc1_cmd) -fpreprocessed %i %(cc1_options) %(distro_defaults\
@@ -171,9 +172,10 @@ const LANGUAGES: &[u8] = b"\
     @c-header\n\
     \n\
     @c-header:\n\
-    %(driver_alone) %{E|M|MM:%(trad_capable_cpp) %(cpp_options) %(cpp_debug_options) %V;:%(c\
-    ompile) %{!fsyntax-only:%{!S:-o %{save-temps*:%(assembly);:%g.s}} %{!fdump-ada-spec*:%W{\
-    o*:--output-pch=%*}%{!o*:--output-pch=%i.gch}} %V}} %(refused_here)\n\
+    %(driver_alone) %{E|M|MM:%(trad_capable_cpp) %(cpp_options) %(cpp_debug_options) %V;\
+    :%(compile) %{!fsyntax-only:%{!S:-o %{save-temps*:%(assembly);:%g.s}} \
+    %{!fdump-ada-spec*:%W{o*:--output-pch=%*}%{!o*:--output-pch=%i.gch}} %V}} \
+    %(refused_here)\n\
     \n";
 
 /// Adds the texts that precede those of a dump.
@@ -231,8 +233,8 @@ fn push_link_guard(text: &mut Word) -> Result<(), AllocError>
 {
     text.extend_from_slice(
         b"*link_command:\n\
-        + %{fsyntax-only|c|M|MM|E|S:;:%(hiding_folders)%{fvtable-verify=*:%e-fvtable-verify= is no\
-        t in this spec file}} %(refused_here)\n\n",
+        + %{fsyntax-only|c|M|MM|E|S:;:%(hiding_folders)%{fvtable-verify=*:%e-fvtable-verify= is \
+        not in this spec file}} %(refused_here)\n\n",
     )
 }
 

@@ -60,8 +60,8 @@ fn push_hiding_body(body: &mut Word, texts: &[NamedText]) -> Result<(), AllocErr
 in this spec file}}",
     )?;
     body.extend_from_slice(
-        b"%<-gdrv-path=\\/* %{-gdrv-path=*:%e-B or -specs= beside a relative folder of COMPILER_P\
-ATH is not in this spec file}}",
+        b"%<-gdrv-path=\\/* %{-gdrv-path=*:%e-B or -specs= beside a relative folder of \
+COMPILER_PATH is not in this spec file}}",
     )?;
     Ok(())
 }
