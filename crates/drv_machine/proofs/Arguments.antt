@@ -161,14 +161,15 @@ module _ (F : Facts) (C : Context) (text : List ℕ) (w : Walk) (s : Machine) (n
 -- the arguments of a function that a test asks are opened
 module _ (F : Facts) (C : Context) where
   -- steps one after another may be joined from the left or from the right
-  assoc_run : {X Y Z : Type 0} (s : Machine) (a : Step X) (f : X → Step Y) (g : Y → Step Z)
-      → run F C s ((a >>= f) >>= g) ≡ run F C s (a >>= λ x. f x >>= g)
-  assoc_run s a f g =
-      run_then F C s (a >>= f) g ∙ ap (λ x. x >>- λ r. run F C r.1 (g r.0)) (run_then F C s a f)
-      ∙ then_then (run F C s a) (λ r. run F C r.1 (f r.0)) (λ r. run F C r.1 (g r.0))
-      ∙ then_same (run F C s a) (λ r. run F C r.1 (f r.0) >>- λ q. run F C q.1 (g q.0)) (λ r. run F C r.1 (f r.0 >>= g))
-      (λ r. sym (run_then F C r.1 (f r.0) g))
-      ∙ sym (run_then F C s a (λ x. f x >>= g))
+  assoc_run : {X Y Z : Type 0} (s : Machine) (first : Step X) (second : X → Step Y) (third : Y → Step Z)
+      → run F C s ((first >>= second) >>= third) ≡ run F C s (first >>= λ x. second x >>= third)
+  assoc_run s first second third =
+      run_then F C s (first >>= second) third ∙ ap (λ x. x >>- λ r. run F C r.1 (third r.0)) (run_then F C s first second)
+      ∙ then_then (run F C s first) (λ r. run F C r.1 (second r.0)) (λ r. run F C r.1 (third r.0))
+      ∙ then_same (run F C s first) (λ r. run F C r.1 (second r.0) >>- λ q. run F C q.1 (third q.0))
+      (λ r. run F C r.1 (second r.0 >>= third))
+      (λ r. sym (run_then F C r.1 (second r.0) third))
+      ∙ sym (run_then F C s first (λ x. second x >>= third))
 
 -- a test calls a function: its arguments are opened, as the part of the frame that the code makes
 module _ (F : Facts) (C : Context) (text : List ℕ) (w : Walk) (s : Machine) (end : ℕ) (items inner_items : Items) (kept : Kept)

@@ -115,10 +115,12 @@ module _ (F : Facts) (C : Context) (text : List ℕ) (s t : Machine) (at end : �
       inside : (f : FrontChoice text at left.rest end) → Stands text (at + 1) (both (test_nodes f.tests) (nodes_of f.items)) token.next
       inside f = stands_within f.first token there
 
+      -- its tests are the nodes up to `middle`
       tests_there : (f : FrontChoice text at left.rest end) → Stands text (at + 1) (test_nodes f.tests) middle
       tests_there f = subst (λ (xs : Nodes). Stands text (at + 1) xs middle) (tests_first f.tests f.items)
           (first (both (test_nodes f.tests) (nodes_of f.items)) (inside f))
 
+      -- and its items are the nodes from there on
       items_there : (f : FrontChoice text at left.rest end) → Stands text middle (nodes_of f.items) token.next
       items_there f = subst (λ (xs : Nodes). Stands text middle xs token.next) (tests_after f.tests f.items)
           (after_first (both (test_nodes f.tests) (nodes_of f.items)) (inside f))
@@ -151,6 +153,7 @@ module _ (F : Facts) (C : Context) (text : List ℕ) (s t : Machine) (at end : �
             → (fault ≡ Memory) ⊎ (run F C s (choices_step F C choices levels star) ≡ Is (Err fault))
         tests_fail fault stopped = by (stopped f.tests (tests_there f))
           where
+            -- Plan: by what the tests give: memory is lacking, or they are refused, and then so is the brace (`with_tests`).
             f : FrontChoice text at left.rest end
             f = front_choice text at left.rest end h left.stands
 

@@ -80,6 +80,7 @@ module _ (F : Facts) (C : Context) where
   broken_by c None script file = refl
   broken_by c (Some word) true file = by (found_script F C word)
     where
+      -- Plan: by what is known of the script; `d` is the cut with the open word.
       d : Cut
       d = record c { word = Some word; marks = record c.marks { script = true; file = file } }
 
@@ -90,6 +91,7 @@ module _ (F : Facts) (C : Context) where
       by Unasked = refl
   broken_by c (Some word) false true = by (found_file F C word)
     where
+      -- Plan: by what is known of the file; `d` is the cut with the open word.
       d : Cut
       d = record c { word = Some word; marks = record c.marks { script = false; file = true } }
 
@@ -428,6 +430,7 @@ module _ (F : Facts) (C : Context) where
   file_closed x y atoms e = by (came (all_taken F C x atoms) (λ z. all_taken F C z (Break ∷ [])) y
       (sym (all_taken-append F C x atoms (Break ∷ [])) ∙ e))
     where
+      -- Plan: the atoms give a cut z, and a break after it closes its word (`from`).
       from : (z : Cut) → Came (broken F C z) (λ u. Is (Ok u)) y → Closed y
       from z (u, is, e) = let same : u ≡ y = cc in subst Closed same (broken_closed z u is).0
 

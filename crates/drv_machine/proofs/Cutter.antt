@@ -116,6 +116,7 @@ module _ (F : Facts) (C : Context) where
   piped_then : (s : Machine) → run F C s (puts (Piped ∷ [])) ≡ (run F C s (puts (Break ∷ [])) >>- with_pipe)
   piped_then s = by (taken F C s.cut Break)
     where
+      -- Plan: by what the end of the word gives; `ended` is the machine with that cut.
       ended : Cut → Answer (Unit {0} × Machine)
       ended d = Is (Ok (tt, record { cut = d; world = s.world }))
 

@@ -201,36 +201,36 @@ module _ (F : Facts) (C : Context) where
       ∙ sym (words_are c (atoms ++ Break ∷ []))
 
   -- after the end of a word a file may begin, whatever the word was: what holds of all cuts where one may begin holds after it
-  begun_as : {Y : Type 0} (c : Cut) (word : Option (List ℕ)) (script file : Bool) (f g : Cut → Answer Y)
-      → ((d : Cut) → Begun (file_begun d) → f d ≡ g d)
-      → (broken F C (record c { word = word; marks = record c.marks { script = script; file = file } }) >>- f)
-      ≡ (broken F C (record c { word = word; marks = record c.marks { script = script; file = file } }) >>- g)
-  begun_as c None script file f g e = e (record c { word = None; marks = no_marks; barred = false }) refl
-  begun_as c (Some word) true file f g e =
+  begun_as : {Y : Type 0} (c : Cut) (word : Option (List ℕ)) (script file : Bool) (left right : Cut → Answer Y)
+      → ((d : Cut) → Begun (file_begun d) → left d ≡ right d)
+      → (broken F C (record c { word = word; marks = record c.marks { script = script; file = file } }) >>- left)
+      ≡ (broken F C (record c { word = word; marks = record c.marks { script = script; file = file } }) >>- right)
+  begun_as c None script file left right e = e (record c { word = None; marks = no_marks; barred = false }) refl
+  begun_as c (Some word) true file left right e =
       then_then (found_script F C word) (λ path. Is (Ok (word_done
-      (record c { word = Some word; marks = record c.marks { script = true; file = file } }) (script_option ∷ path ∷ []) path))) f
-      ∙ then_same (found_script F C word) (λ path. f (word_done
+      (record c { word = Some word; marks = record c.marks { script = true; file = file } }) (script_option ∷ path ∷ []) path))) left
+      ∙ then_same (found_script F C word) (λ path. left (word_done
       (record c { word = Some word; marks = record c.marks { script = true; file = file } }) (script_option ∷ path ∷ []) path))
-      (λ path. g (word_done (record c { word = Some word; marks = record c.marks { script = true; file = file } })
+      (λ path. right (word_done (record c { word = Some word; marks = record c.marks { script = true; file = file } })
       (script_option ∷ path ∷ []) path))
       (λ path. e (word_done (record c { word = Some word; marks = record c.marks { script = true; file = file } })
       (script_option ∷ path ∷ []) path) refl)
       ∙ sym (then_then (found_script F C word) (λ path. Is
       (Ok (word_done (record c { word = Some word; marks = record c.marks { script = true; file = file } })
-      (script_option ∷ path ∷ []) path))) g)
-  begun_as c (Some word) false true f g e =
+      (script_option ∷ path ∷ []) path))) right)
+  begun_as c (Some word) false true left right e =
       then_then (found_file F C word) (λ path. Is (Ok (word_done
-      (record c { word = Some word; marks = record c.marks { script = false; file = true } }) (path ∷ []) path))) f
-      ∙ then_same (found_file F C word) (λ path. f (word_done
+      (record c { word = Some word; marks = record c.marks { script = false; file = true } }) (path ∷ []) path))) left
+      ∙ then_same (found_file F C word) (λ path. left (word_done
       (record c { word = Some word; marks = record c.marks { script = false; file = true } }) (path ∷ []) path))
-      (λ path. g (word_done (record c { word = Some word; marks = record c.marks { script = false; file = true } }) (path ∷ []) path))
+      (λ path. right (word_done (record c { word = Some word; marks = record c.marks { script = false; file = true } }) (path ∷ []) path))
       (λ path. e (word_done (record c { word = Some word; marks = record c.marks { script = false; file = true } }) (path ∷ []) path) refl)
       ∙ sym (then_then (found_file F C word) (λ path. Is
-      (Ok (word_done (record c { word = Some word; marks = record c.marks { script = false; file = true } }) (path ∷ []) path))) g)
-  begun_as c (Some word) false false f g e = e (word_done
+      (Ok (word_done (record c { word = Some word; marks = record c.marks { script = false; file = true } }) (path ∷ []) path))) right)
+  begun_as c (Some word) false false left right e = e (word_done
       (record c { word = Some word; marks = record c.marks { script = false; file = false } }) (word ∷ []) word) refl
 
   -- after a break a file may begin, whatever the word before: what holds of each cut in which one may, holds after the break
-  pub after_break : {Y : Type 0} (c : Cut) (f g : Cut → Answer Y) → ((d : Cut) → Begun (file_begun d) → f d ≡ g d)
-      → (broken F C c >>- f) ≡ (broken F C c >>- g)
-  after_break c f g e = begun_as c c.word c.marks.script c.marks.file f g e
+  pub after_break : {Y : Type 0} (c : Cut) (left right : Cut → Answer Y) → ((d : Cut) → Begun (file_begun d) → left d ≡ right d)
+      → (broken F C c >>- left) ≡ (broken F C c >>- right)
+  after_break c left right e = begun_as c c.word c.marks.script c.marks.file left right e

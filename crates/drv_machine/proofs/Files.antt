@@ -166,6 +166,7 @@ module _ (F : Facts) (C : Context) where
       → run F C s (file_step F C step) ≡ ((file_from F C s >>- λ r. run F C r.1 step) >>- λ q. file_end F C q.1)
   filed_runs s step = filed_done s.cut (step (record s.world { is_in_file = true })) ∙ by (broken F C s.cut)
     where
+      -- Plan: by what the end of the word before the file gives; `begun` is the machine where a file begins.
       begun : Unit {0} × Machine → Answer (Unit {0} × Machine)
       begun r = Is (Ok (tt, into_file r.1))
 

@@ -62,9 +62,9 @@ module _ (F : Facts) (C : Context) where
   done-follow c (Waits xs) f = sym (then_then (all_taken F C c xs) (λ d. Unasked) (λ r. run F C r.1 (f r.0)))
 
   -- a step and then another, which looks at its value
-  pub run_then : {X Y : Type 0} (s : Machine) (a : Step X) (f : X → Step Y)
-      → run F C s (a >>= f) ≡ (run F C s a >>- λ r. run F C r.1 (f r.0))
-  run_then s a f = done-follow s.cut (a s.world) f
+  pub run_then : {X Y : Type 0} (s : Machine) (step : Step X) (next : X → Step Y)
+      → run F C s (step >>= next) ≡ (run F C s step >>- λ r. run F C r.1 (next r.0))
+  run_then s step next = done-follow s.cut (step s.world) next
 
   -- the cut of a whole text is its work run from nothing cut, and finished
   cut_done : (work : Worked Unit) → cut F C work ≡ (done F C nothing_cut work >>- λ r. finished F C r.1.world r.1.cut)

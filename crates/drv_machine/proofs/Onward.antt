@@ -170,14 +170,15 @@ module _ (F : Facts) (C : Context) where
       by k m e = ap (levels_left F C) e
 
   -- three steps one after another may be joined from the right: the first, and then the others with what follows
-  pub three : (s : Machine) (a b d : Step (Unit {0})) (k : Unit {0} × Machine → Answer (Unit {0} × Machine))
-      → (run F C s ((a >> b) >> d) >>- k) ≡ (run F C s a >>- λ r. run F C r.1 (b >> d) >>- k)
-  three s a b d k =
-      ap (λ x. x >>- k) (run_then F C s (a >> b) (λ u. d) ∙ ap (λ x. x >>- λ r. run F C r.1 d) (run_then F C s a (λ u. b))
-      ∙ then_then (run F C s a) (λ r. run F C r.1 b) (λ r. run F C r.1 d))
-      ∙ then_then (run F C s a) (λ r. run F C r.1 b >>- λ q. run F C q.1 d) k
-      ∙ then_same (run F C s a) (λ r. (run F C r.1 b >>- λ q. run F C q.1 d) >>- k) (λ r. run F C r.1 (b >> d) >>- k)
-      (λ r. ap (λ x. x >>- k) (sym (run_then F C r.1 b (λ u. d))))
+  pub three : (s : Machine) (first second third : Step (Unit {0})) (k : Unit {0} × Machine → Answer (Unit {0} × Machine))
+      → (run F C s ((first >> second) >> third) >>- k) ≡ (run F C s first >>- λ r. run F C r.1 (second >> third) >>- k)
+  three s first second third k =
+      ap (λ x. x >>- k) (run_then F C s (first >> second) (λ u. third)
+      ∙ ap (λ x. x >>- λ r. run F C r.1 third) (run_then F C s first (λ u. second))
+      ∙ then_then (run F C s first) (λ r. run F C r.1 second) (λ r. run F C r.1 third))
+      ∙ then_then (run F C s first) (λ r. run F C r.1 second >>- λ q. run F C q.1 third) k
+      ∙ then_same (run F C s first) (λ r. (run F C r.1 second >>- λ q. run F C q.1 third) >>- k) (λ r. run F C r.1 (second >> third) >>- k)
+      (λ r. ap (λ x. x >>- k) (sym (run_then F C r.1 second (λ u. third))))
 
   -- the items of two lists are those of the first and then those of the second
   joined_runs : (xs ys : Items) (levels : Levels) (star : List ℕ) (s : Machine)
@@ -360,6 +361,7 @@ module _ (F : Facts) (C : Context) where
           subst (λ (x : List ℕ). Framed x C w.frames b.arounds) (sym around_is) b.framed,
         )
 
+        -- with the new part open, one less may be opened
         deeper : levels_in F C (around ∷ b.arounds) ≡ levels_left F C (most_open - (length b.arounds + 1))
         deeper = let one : length (around ∷ b.arounds) ≡ length b.arounds + 1 = omega arith in ap (λ n. levels_left F C (most_open - n)) one
 
@@ -399,15 +401,19 @@ module _ (F : Facts) (C : Context) where
         (long : size ≡ length (matching p).name)
         (b : Following F C text w each.end (λ levels star. hit_step F C p items levels switch >> each_from F C p items levels (switch + 1))
         s given) where
+      -- what follows in the whole walk
       abbrev k : Unit {0} × Machine → Answer (Unit {0} × Machine)
       k r = onward F C w.star b.rest b.arounds r.1
 
+      -- the part that is open in X: what code and definition have after its end
       abbrev frame : Frame
       frame = record { opened = Hit each switch; end = w.end; star = w.star }
 
+      -- the items of X for this switch, whose name is cut after m bytes for `%*`
       abbrev work : ℕ → Step (Unit {0})
       work m = items_step F C items (levels_left F C (most_open - (length b.arounds + 1))) (drop m (name_at (names C) switch))
 
+      -- the open part of X, as the definition sees it
       abbrev hit_around : Around
       hit_around = record { frame = frame; pattern = p; items = items; kept = nothing_kept; rest = b.rest }
 

@@ -30,6 +30,7 @@ held : (F : Facts) (C : Context) (s : Machine) (atoms : List Atom) (outputs : Li
     → run F C (holding outputs s) (puts atoms) ≡ (run F C (holding [] s) (puts atoms) >>- given_back outputs)
 held F C s atoms outputs = by (all_taken F C s.cut atoms)
   where
+    -- Plan: by what the atoms give; `with_cut` is the machine with that cut and these outputs.
     with_cut : List (List ℕ) → Cut → Answer (Unit {0} × Machine)
     with_cut list d = Is (Ok (tt, record { cut = d; world = record s.world { outputs = list } }))
 

@@ -143,6 +143,7 @@ module _ (F : Facts) (C : Context) where
         subst (λ (k : ℕ). Left F C text (record w { at = k }) (after_run (after_byte s b) bytes) given) same
         (run_left (record w { at = w.at + 1 }) (after_byte s b) bytes others (omega (arith, fits)) (omega (arith, few)) once)
       where
+        -- Plan: the walk is in the text (`lain`), so a turn puts the first byte (`turned`), and then the walk is one place on (`once`).
         before_end : w.at < w.end
         before_end = omega (arith, fits)
 
@@ -176,6 +177,7 @@ module _ (F : Facts) (C : Context) where
         }) one.1 ∙ ap (λ (n : ℕ). record { cut = in_word s.cut (b ∷ bytes); world = record s.world { items = n } }) size))
         (run_left w s (b ∷ bytes) are fits (omega (arith, few, counted_items)) left)
       where
+        -- Plan: the state u is s with one more item (`one`), so the bytes are counted from s (`counted_items`, `size`).
         one : (s.world.items < 1000000) × (u ≡ one_more s)
         one = counted_as s u first
 

@@ -59,10 +59,12 @@ use Rattle.std.specs.Prelude.{◌&&◌, ◌+◌, codes, drop, if◌then◌else�
 -- of which is in another.
 
 module _ (F : Facts) where
+  -- the name of the input, or the refusal that there is none
   input_well : (C : Context) (input : Option Source) → Well (input_name F (record C { input = input }))
   input_well C None = refuse_well fault.NoInput
   input_well C (Some source) = give_well source.name
 
+  -- the words of the outputs
   outputs_well : (C : Context) (input : Option Source) → Well (outputs_step F (record C { input = input }))
   outputs_well C None = look_puts_well (λ w. Break ∷ words w.outputs) (λ w. words_bare w.outputs)
   outputs_well C (Some source) = refuse_well fault.NotInLink
@@ -86,9 +88,11 @@ module _ (F : Facts) (C : Context) where
       ((draw_well [] drawing suffix).stays w b i))
   drawn_as drawing suffix w b (Some path) e i = rw e (fits_bare b [] refl, i)
 
+  -- a name drawn once, or again, is a value without an atom
   drawn_well : (drawing : Drawing) (suffix : List ℕ) → Well (drawn_or_new F C drawing suffix)
   drawn_well drawing suffix = record { stays = λ w b i. drawn_as drawing suffix w b (last_drawn drawing suffix w.drawn) refl i }
 
+  -- a drawn name is put
   name_well : (drawing : Drawing) (suffix : List ℕ) → Well (name_step F C drawing suffix)
   name_well drawing suffix = then_well (drawn_well drawing suffix) (λ path. bytes_well path)
 
@@ -100,6 +104,7 @@ module _ (F : Facts) (C : Context) where
   temp_well PipedOut suffix = if_well C.is_piping (bytes_well (hyphen ∷ [])) (name_well Once suffix)
   temp_well PipedIn suffix = if_well C.is_piping (puts_well [] refl) (name_well Once suffix)
 
+  -- a switch with its argument bounds neither %W nor a file
   switch_bare : (i : ℕ) → None-bounds (switch_atoms F C i)
   switch_bare i = no_bounds (map Put (hyphen ∷ name_at (names C) i)) (Break ∷ word_of (argument C i))
       (bytes_bare (hyphen ∷ name_at (names C) i)) (word_bare (argument C i))
@@ -123,9 +128,11 @@ module _ (F : Facts) (C : Context) where
         ((called_well args (function_of name) w).stays w b i);
   }
 
+  -- the value of a call is put
   value_well : (name : List ℕ) (args : List (List ℕ)) → Well (value_step F C name args)
   value_well name args = then_well (call_well name args) (λ given. bytes_well (unwrap_or given []))
 
+  -- whether a call has a value is given without an atom
   has_well : (name : List ℕ) (args : List (List ℕ)) → Well (has_value F C name args)
   has_well name args = then_well (call_well name args) (λ given. give_well (is_some given))
 
@@ -135,6 +142,7 @@ module _ (F : Facts) (C : Context) where
   words_well w b (Refuses atoms fault) i e = (needs_well (all_taken F C nothing_cut atoms >>- λ c. Is (Err fault))).stays w b i
   words_well w b (Waits atoms) i e = (needs_well (all_taken F C nothing_cut atoms >>- λ c. Unasked)).stays w b i
 
+  -- so a step as arguments is `Well` if the step is
   arguments_well : (step : Step (Unit {0})) → Well step → Well (arguments F C step)
   arguments_well step e = record { stays = λ w b i. words_well w b (step w) i (e.stays w b i) }
 
@@ -163,6 +171,7 @@ module _ (F : Facts) (C : Context) where
   filed_well (Refuses atoms fault) e = stops_file atoms e
   filed_well (Waits atoms) e = stops_file atoms e
 
+  -- a step as the words of a file is `Well` where no file is open
   file_well : (step : Step (Unit {0})) (w : World) → Well step → WellDone false (file_step F C step w)
   file_well step w e = filed_well (step (record w { is_in_file = true })) (e.stays (record w { is_in_file = true }) true refl)
 
@@ -183,6 +192,7 @@ module _ (F : Facts) (C : Context) where
         (fits_bare b [] refl) (chosen_as step w e C.from_file b i);
   }
 
+  -- a named text, if there is one, is `Well` where what may be opened is
   named_well : (items : Option Items) (levels : Levels) → WellLevels levels → Well (named F C items levels)
   named_well None levels e = puts_well [] refl
   named_well (Some items) levels e = opened_well levels (λ deeper inside. deeper items) e (λ deeper inside goes following. goes items)
@@ -269,6 +279,7 @@ module _ (F : Facts) (C : Context) where
     items_well (more span item items) levels star e =
         then_well (then_well counted_well (λ u. item_well item levels star e)) (λ u. items_well items levels star e)
 
+    -- what is in braces: the switches that match, or alternatives
     brace_well : (brace : Brace) (levels : Levels) (star : List ℕ) → WellLevels levels → Well (brace_step F C brace levels star)
     brace_well (Emit patterns) levels star e = look_puts_well (λ w. emitted F C patterns w.hidden) (λ w. emitted_bare patterns w.hidden)
     brace_well (Choose choices) levels star e = choices_well choices levels star e
@@ -299,10 +310,12 @@ module _ (F : Facts) (C : Context) where
         (λ deeper inside d following. then_well (arguments_well (items_step F C items inside star)
         (items_well items inside star following)) (λ args. has_well name args))
 
+  -- what items mean in each of n open parts is `Well`
   levels_well : (n : ℕ) → WellLevels (levels_left F C n)
   levels_well zero = tt
   levels_well (suc n) = (λ items. items_well items (levels_left F C n) [] (levels_well n), levels_well n)
 
+  -- a whole text, whose last word and command end, is `Well`
   text_well : (items : Items) (n : ℕ) → Well (items_step F C items (levels_left F C n) [] >> puts (Break ∷ End ∷ []))
   text_well items n = then_well (items_well items (levels_left F C n) [] (levels_well n)) (λ u. puts_well (Break ∷ End ∷ []) refl)
 
@@ -316,10 +329,12 @@ module _ (F : Facts) (C : Context) where
   pub are_stretched : (items : Items) (xs : List Atom) (w : World) → atoms F C items ≡ Goes xs tt w → Stretched xs
   are_stretched items xs w e = goes_stretched (atoms F C items) xs w ((text_well items most_open).stays (start F C) false refl) e
 
+  -- atoms that fit close what they open: each %W and each file
   goes_as : (b : Bool) (atoms : List Atom) → Fits b atoms → (enclosed : Enclosed) → open_following atoms enclosed 0 ≡ Some 0
   goes_as b atoms e Failure = e.1 0
   goes_as b atoms e File = shaped_open b atoms e.0
 
+  -- atoms before a refusal close nothing that they did not open
   stops_as : (b : Bool) (atoms : List Atom) → Stops b atoms → (enclosed : Enclosed) → is_some (open_following atoms enclosed 0) ≡ true
   stops_as b atoms e Failure = e.1 0
   stops_as b atoms e File = halted_open b atoms e.0
@@ -334,6 +349,7 @@ module _ (F : Facts) (C : Context) where
   pub text_balanced : (items : Items) → Balanced (atoms F C items)
   text_balanced items = balanced_as false (atoms F C items) ((text_well items most_open).stays (start F C) false refl)
 
+  -- the same for the items of a part, with the value of `%*`
   pub part_balanced : (items : Items) (n : ℕ) (star : List ℕ) (w : World) → Balanced (items_step F C items (levels_left F C n) star w)
   part_balanced items n star w =
       balanced_as w.is_in_file (items_step F C items (levels_left F C n) star w)

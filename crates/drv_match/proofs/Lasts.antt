@@ -234,6 +234,7 @@ pub named_last : (names : List (List ℕ)) (order : List ℕ) (name : List ℕ) 
     → IsLast (pointwise nat_eq name) names (if pointwise nat_eq (name_at names place) name then place else 0)
 named_last names order name end place o high point some is = by (pointwise nat_eq (name_at names place) name) refl
   where
+    -- Plan: by whether the place has the name. The places with the name are in order, so none follows the place (`upper`).
     -- a place of this name is at most the place found, which has the name too
     upper : (i : ℕ) → i < length names → pointwise nat_eq name (name_at names i) ≡ true
         → (pointwise nat_eq (name_at names place) name ≡ true) × (i ≤ place)

@@ -295,6 +295,7 @@ module _ (names : List (List ℕ)) (hidden : List Bool) where
   flagged_all flags patterns all k past flagged =
       by (length names - 0) (omega arith)
     where
+      -- Plan: each flag says whether a pattern hits its place (`at`), for all places of the line.
       at : (i : ℕ) → i < length names → get_or flags i false ≡ is_any_hit names hidden all i
       at i within = sym (or-false (get_or flags i false)) ∙ ap (λ ps. get_or flags i false || is_any_hit names hidden ps i)
           (sym (drop_all k patterns past)) ∙ flagged i within
@@ -362,6 +363,7 @@ module _ (names : List (List ℕ)) (hidden : List Bool) where
         by true u e = e
         by false u e = absurd cc
 
+    -- a named place that counts is hit
     hit_counted : (i : ℕ) → is_named pattern (name_at names i) ≡ true → counts names hidden (is_broad pattern) i ≡ true
         → is_hit names hidden pattern i ≡ true
     hit_counted i name count = named_first names hidden pattern i ∙ ap (λ t. t && counts names hidden (is_broad pattern) i) name ∙ count

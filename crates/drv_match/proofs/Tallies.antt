@@ -109,6 +109,7 @@ same_order lt one (x ∷ xs) (y ∷ ys) up up' same =
 pub same_rising : (xs ys : List ℕ) → IsNonDecreasing xs → IsNonDecreasing ys → ((n : ℕ) → tally n xs ≡ tally n ys) → xs ≡ ys
 same_rising xs ys up up' same = same_order (λ x y. nat_lt x y) level xs ys (ascends xs up) (ascends ys up') same
   where
+    -- Plan: numbers of which neither is less are equal (`level`), and a list that doesn't decrease ascends by `nat_lt` (`ascends`).
     level : (x y : ℕ) → nat_lt x y ≡ false → nat_lt y x ≡ false → x ≡ y
     level x y e e' = grind (arith, nat_tests)
 
