@@ -54,6 +54,7 @@ returns-in-TooLarge-clause-replaces g c F e =
       refl,
     )
 
+-- the file is not there: the word is given as it is
 pub returns-in-Missing-clause-replaces : goal.returns-in-Missing-clause-replaces
 returns-in-Missing-clause-replaces g c F e = (
   replacement_is c.args.most F c.read.new.self c.args.word.now c.in-Some.path c.read_answer.result.now e

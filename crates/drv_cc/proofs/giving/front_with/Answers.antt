@@ -10,6 +10,7 @@ use Rattle.std.proofs.Common.{◌∙◌, ap, rules}
 -- the items, the line that is left, what is given more, and the result (`_`: the prover finds these four). Then it takes that nothing is
 -- refused (`search rules`), and that the three lists are the definition's.
 
+-- Something that the spec files give is refused: the answer is those refusals.
 pub returns-then-not-is_empty : goal.returns-then-not-is_empty
 returns-then-not-is_empty c =
     refuses_with c.args.names.now.known.now c.args.names.now.named.now c.args.args.now c.args.around.now c.args.given.now

@@ -7,6 +7,7 @@ use Rattle.std.proofs.Common.{◌-◌, ◌∙◌, length, sym, take}
 
 -- Names: `last_part`: the last part of a list. `is_seen`: whether a class is that of a key. `all_break`: or at an item that goes.
 
+-- The item stays, and its class is noted: what the loop knows holds of the items before it.
 pub loop-left-preserved : goal.loop-left-preserved
 loop-left-preserved c =
     all_more c.args.items.now c.loop-left.left.now (take (length c.loop-left.left.now - 1) c.loop-left.left.now) c.item-item.result

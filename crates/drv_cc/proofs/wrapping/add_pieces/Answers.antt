@@ -13,6 +13,7 @@ use Rattle.std.specs.Slice.Iter.{split_callee, split_done, split_rest}
 pub loop-piece-init : goal.loop-piece-init
 loop-piece-init c = sym (append-nil c.args.words.now)
 
+-- With this piece the words are those of all pieces that the loop took.
 pub loop-piece-preserved : goal.loop-piece-preserved
 loop-piece-preserved c =
     c.in_ok-add_value.ensures ∙ ap (λ words. words ++ with_value (codes "--gdrv-wrapper=") c.in-Some.piece.now) c.loop-piece.invariant

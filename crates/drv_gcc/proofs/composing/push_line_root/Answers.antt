@@ -7,6 +7,7 @@ use Rattle.std.proofs.Common.{◌++◌, codes}
 
 -- Names: `joined`: what is added in two steps. `spec_word`: a word as a spec text gives it on, byte by byte.
 
+-- the text says: --sysroot= of the line if it has one, or else the gcc's own root, byte by byte
 pub returns : goal.returns
 unfolding line_root
 returns c =
