@@ -44,6 +44,7 @@ or_none false = refl
 word_strays : (pieces : List Piece) (w : Run) → is_stray (pieces ++ Word w ∷ []) ≡ is_stray pieces
 word_strays pieces w = rw (lacks pieces, more pieces) refl
   where
+    -- a word at the end precedes no pipe, so it changes nothing for `lacks_word`
     lacks : (ps : List Piece) → lacks_word (ps ++ Word w ∷ []) ≡ lacks_word ps
     lacks [] = refl
     lacks (Word v ∷ ps) = refl
@@ -74,6 +75,7 @@ part_strays : (pieces : List Piece) → is_stray (pieces ++ Part ∷ []) ≡ (is
 part_strays pieces = rw (lacks pieces, more_after pieces Part refl)
     (sym (or_assoc (lacks_word pieces) (has_more pieces) (list_any is_pipe pieces)))
   where
+    -- a part is no word and no pipe, so it changes nothing for `lacks_word`
     lacks : (ps : List Piece) → lacks_word (ps ++ Part ∷ []) ≡ lacks_word ps
     lacks [] = refl
     lacks (Word v ∷ ps) = refl

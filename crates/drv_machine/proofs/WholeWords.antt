@@ -65,6 +65,7 @@ module _ (F : Facts) (C : Context) (s : Machine) where
       ))) between.0
   whole_added (b ∷ bs) between = put_then F C s (opened []) (Open ∷ []) (map Put (b ∷ bs) ++ Break ∷ []) begins ∙ rest
     where
+      -- the word is opened, with no byte in it yet
       begins : run F C s (puts (Open ∷ [])) ≡ Is (Ok (tt, opened []))
       begins = ap (λ (word : Option (List ℕ)). Is (Ok (
         tt,

@@ -155,6 +155,7 @@ module _ (names : List (List ℕ)) (hidden : List Bool) where
   or_length : (patterns : List Pattern) → unwrap_or (position has_hit patterns) (length patterns) ≡ position_or_len has_hit patterns
   or_length patterns = by (nat_lt n (length patterns)) refl
     where
+      -- Plan: by whether n, the number of patterns before the first with a hit, is below the length.
       n : ℕ
       n = position_or_len has_hit patterns
 

@@ -10,17 +10,19 @@ use Rattle.std.proofs.Common.{◌∙◌, ap, refl, sym}
 -- another. `text_given`: the text of a file that was found and asked for, settled, or the refusal to read it. `file_found`: a file is
 -- searched for under those of libraries.
 
+-- the file is searched for, and that asks alone
 pub returns-in_err-path-clause-asks : goal.returns-in_err-path-clause-asks
 returns-in_err-path-clause-asks g c = record { asks = c.find_file.ensures.asks; same_sys = refl; same_facts = refl }
 
+-- the search and the read ask alone
 pub returns-in_err-read-clause-asks : goal.returns-in_err-read-clause-asks
 returns-in_err-read-clause-asks g c = record {
   asks = asks_then c.find_file.ensures.asks c.read.ensures.asks;
   same_sys = refl;
-  same_facts =
-      refl;
+  same_facts = refl;
 }
 
+-- and so does the whole call
 pub returns-clause-asks : goal.returns-clause-asks
 returns-clause-asks g c = record { asks = asks_then c.find_file.ensures.asks c.read.ensures.asks; same_sys = refl; same_facts = refl }
 

@@ -16,16 +16,19 @@ use Rattle.std.specs.Option.{option_map}
 number_is : (n : ℕ) → n + 1 - 1 ≡ n
 number_is n = omega arith
 
+-- the line without its first blanks is an end of the line
 pub with_colon-requires-clause-start : goal.with_colon-requires-clause-start
 with_colon-requires-clause-start c = blanks_before c.cut_line.result.0.now c.without_blanks-start.result.now
     c.without_blanks-start.ensures.bytes
 
+-- a line that is empty or a comment
 pub returns-then-is_passed-clause-directives : goal.returns-then-is_passed-clause-directives
 returns-then-is_passed-clause-directives c =
     begins_none c.args.number c.args.text.now c.cut_line.result.0.now c.without_blanks-start.result.now
     (option_map (λ b. b.now) c.cut_line.result.1) c.cut_line.ensures.whole c.cut_line.ensures.line c.without_blanks-start.ensures.bytes
     (sym c.is_passed.ensures ∙ c.if-is_passed.true)
 
+-- a line that begins with %
 pub returns-then-is_keyword-clause-directives : goal.returns-then-is_keyword-clause-directives
 returns-then-is_keyword-clause-directives c =
     begins_keyword c.args.number c.args.text.now c.cut_line.result.0.now c.without_blanks-start.result.now

@@ -43,6 +43,7 @@ returns-clause-loads g c F e =
     ∙ ap (file_loaded F c.args.prefixes.now c.args.self.now) c.as_bytes.ensures)
     (c.work.ensures.works F known)
 
+-- the text that was read is a settled one, as `work` requires
 pub work-requires : goal.work-requires
 work-requires g c =
     let file = read_file (file_text c.file_text.new.outside.facts.now c.args.prefixes.now Refuse c.as_bytes.result.now)

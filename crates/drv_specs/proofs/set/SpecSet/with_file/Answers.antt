@@ -44,6 +44,7 @@ returns-clause-loads g c F e =
     ∙ ap (file_loaded F c.args.prefixes.now c.args.self) c.as_bytes.ensures)
     (c.with_text.ensures.works F known)
 
+-- the text that was read is a settled one, as `with_text` requires
 pub with_text-requires : goal.with_text-requires
 with_text-requires g c =
     let file = read_file (file_text c.file_text.new.outside.facts.now c.args.prefixes.now Refuse c.as_bytes.result.now)

@@ -6,6 +6,7 @@ use Rattle.drv_system.proofs.Asking.{extends_refl}
 
 -- Names: `settled_keeps`: a settled text that was carried out keeps the invariant. `extends_refl`: facts keep their own answers.
 
+-- the set keeps what holds of every set
 pub invariant_of-result : goal.invariant_of-result
 invariant_of-result g c =
     settled_keeps c.worked_entries.new.outside.facts.now c.args.prefixes.now c.into_entries-entries.result c.in_ok-entries.entries

@@ -7,6 +7,7 @@ use Rattle.drv_specs.proofs.set.SpecSet.work.Goals as goal
 
 -- Names: `settled_keeps`: a settled text that was carried out keeps the invariant. `extends_refl`: facts keep their own answers.
 
+-- the set keeps what holds of every set
 pub invariant_of-self : goal.invariant_of-self
 invariant_of-self g c =
     settled_keeps c.draft_of.new.outside.facts.now c.args.prefixes.now c.self.inside.entries c.in_ok-draft.draft c.args.files
