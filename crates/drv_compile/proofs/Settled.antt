@@ -65,9 +65,11 @@ names_pushed F none first second third all (Ok x) (tmpdir, is1, grown1) (tmp, is
 )
   where
     -- Plan: `regrouped` says that what was added one after another was added together.
-    regrouped : (a b c d e : List (List ℕ)) → a ++ b ++ c ++ d ++ e ≡ a ++ (b ++ c ++ d ++ e)
-    regrouped a b c d e =
-        ap (λ n. n ++ d ++ e) (append_assoc a b c) ∙ ap (λ n. n ++ e) (append_assoc a (b ++ c) d) ∙ append_assoc a (b ++ c ++ d) e
+    regrouped : (before tmpdir tmp temp usual : List (List ℕ)) → before ++ tmpdir ++ tmp ++ temp ++ usual
+        ≡ before ++ (tmpdir ++ tmp ++ temp ++ usual)
+    regrouped before tmpdir tmp temp usual =
+        ap (λ n. n ++ temp ++ usual) (append_assoc before tmpdir tmp) ∙ ap (λ n. n ++ usual) (append_assoc before (tmpdir ++ tmp) temp)
+        ∙ append_assoc before (tmpdir ++ tmp ++ temp) usual
 
 -- For `folder_names`: if all names were added to none, then these are all names.
 pub names_known : (F : Facts) (none all : List (List ℕ)) → none ≡ [] → Adds (folder_names F) none all → folder_names F ≡ Is all

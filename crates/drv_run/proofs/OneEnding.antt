@@ -20,8 +20,8 @@ use Rattle.std.proofs.Common.{◌≡◌, ◌∙◌, Bool, Err, List, Ok, Result,
 -- For one_ending: arguments ask for one work or are refused for one reason, and never both. The lemmas go step by step: words, line, specs,
 -- work; each step has one result.
 -- Names: `F` is what is known of the outside before the call. `args` is the arguments of the call. `seed` is the number from which names of
--- temporaries are made. `a` is the words of the line. `b` is them a second time. `line` is the line. `line'` is the line a second time. `fault` is
--- a refusal. `Words F args words` says that the arguments give these words. `line_read words` is the line of words, or a refusal.
+-- temporaries are made. `a` is the words of the line, and `b` these words a second time. `line` is the line, and `line'` the line a second
+-- time. `fault` is a refusal. `Words F args words`: the arguments give these words. `line_read words` is the line of words, or a refusal.
 -- `after_c99 args` is the arguments without --c99. `Expands` says what an expansion of response files gives. `work_of` is the work for a
 -- line with its specs. `fronted is_c99 words` turns words of c99 into the driver's. `is_c99 args` says that the first argument is --c99.
 

@@ -77,6 +77,8 @@ ends_far : (word option : List ℕ) → is_front (get_or word 1 0) (get_or word 
     → has_ends option ≡ true → is_near word option ≡ false
 ends_far word option front last ends = never (is_near word option) far
   where
+    -- Plan: a near word keeps the first three bytes or the last one of the option (`ends_stay`). These are ends of a long option
+    -- (`others`), and the word has neither (`by`).
     others : (is_front (get_or option 1 0) (get_or option 2 0) && is_last (last_of option)) ≡ true
     others =
         second_of (nat_lt 4 (length option)) (is_front (get_or option 1 0) (get_or option 2 0) && is_last (last_of option)) ends
@@ -147,6 +149,7 @@ pub ends_unmeant : (name : List ℕ) → 3 ≤ length name → is_front (get_or 
 ends_unmeant name long front last none =
     not_meant (hyphen ∷ name) (unmet (is_meant (hyphen ∷ name)) has_ends long_options far long_ends)
   where
+    -- Plan: the word's last byte is the name's (`last_is`), so the word is far from each option that has such ends (`far`).
     last_is : is_last (last_of (hyphen ∷ name)) ≡ false
     last_is = ap is_last (last_more hyphen name (omega (arith, long))) ∙ last
 
@@ -158,6 +161,7 @@ ends_unmeant name long front last none =
 pub short_unmeant : (name : List ℕ) → length name < 3 → meant_option (hyphen ∷ name) ≡ None
 short_unmeant name short = not_meant (hyphen ∷ name) (unmet (is_meant (hyphen ∷ name)) has_ends long_options far long_ends)
   where
+    -- Plan: a near word is at most one byte shorter than the option, and each long option has more than four.
     far : (option : List ℕ) → has_ends option ≡ true → is_meant (hyphen ∷ name) option ≡ false
     far option ends = never (is_meant (hyphen ∷ name) option)
         (λ is. let size = near_sized (compared_part (hyphen ∷ name) option) option is in

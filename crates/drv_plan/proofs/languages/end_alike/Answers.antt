@@ -7,6 +7,7 @@ use Rattle.std.proofs.Common.{◌-◌, get_or, length, refl}
 -- Names: `differ`: the clause's equation. `not_alike`: a text whose last byte is another does not end with this one. `some_there`: a length
 -- that is not 0.
 
+-- where the last bytes differ, the text does not end with the other, which is not empty
 pub returns : goal.returns
 returns c differ =
     not_alike c.args.text.now c.args.end.now (get_or c.args.text.now (length c.args.text.now - 1) 0)

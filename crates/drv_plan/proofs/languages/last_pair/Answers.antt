@@ -19,6 +19,7 @@ pair_meaning-requires c =
     c.in_ok-text.ensures.lookup.3.0 c.in_ok-text.ensures.lookup.1)
     ∙ ap (λ text. if is_no_text text then None else Some text) (sym c.as_bytes.ensures)
 
+-- and its meaning is that of the last pair that fits
 pub returns : goal.returns
 returns c =
     ap Some (c.pair_meaning.ensures ∙ ap pair_meaning c.as_bytes.ensures)

@@ -9,6 +9,7 @@ use Rattle.std.proofs.Common.{◌-◌, ◌∙◌, ap, arith, sym}
 -- Names: `fits`: whether a key is that of the language, or a suffix of the name. `last_text`: the text of the last pair whose key fits.
 -- `pair_hit`: going from the end.
 
+-- the pair at hand fits, so it is the last that does
 pub returns-then-fits : goal.returns-then-fits
 returns-then-fits c =
     pair_hit (fits c.args.wanted) c.args.pairs.now c.loop-left.left (c.loop-left.left - 1) c.index-pairs-left.result c.as_bytes.result.now

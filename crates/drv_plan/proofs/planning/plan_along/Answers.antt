@@ -22,6 +22,7 @@ returns-clause-plans g c F e known =
     c.args.prefixes.now c.in_ok-context.context refl c.as_slice-inputs.ensures known c.in_ok-context.ensures)
     (c.plan_in.ensures.works F extends)
 
+-- no refusal of the plan is the machine's lack of memory
 pub returns-clause-apart : goal.returns-clause-apart
 returns-clause-apart g c =
     plan_apart c.plan_in.new.outside.facts.now c.args.given.now.set.now c.as_slice-inputs.result.now c.in_ok-context.context

@@ -7,6 +7,7 @@ use Rattle.drv_plan.specs.Denoted.{finished, planned, then_by, with_inputs}
 -- Names: `F`: what is known of the outside. `e`: that `F` extends the facts of this call. `given_alike`: an answer to one definition is an
 -- answer to an equal one. `plan_begun`: a plan begins with no input done.
 
+-- the plan goes through all inputs, from the progress before the first one
 pub returns-clause-works : goal.returns-clause-works
 returns-clause-works g c F e =
     given_alike _ c.plan_inputs.result (then_by (with_inputs F c.args.set.now 0 c.args.inputs.now c.in_ok-progress.progress)

@@ -9,6 +9,7 @@ use Rattle.std.proofs.Common.{Ok}
 -- `file_chosen`: a file is processed by the language that was found for it. `given_alike`: an answer to one definition is an answer to an
 -- equal one.
 
+-- a file for which no language is found is refused
 pub returns-in_err-chosen-in-File-clause-works : goal.returns-in_err-chosen-in-File-clause-works
 returns-in_err-chosen-in-File-clause-works g c F e =
     refusal_given c.in_err-chosen-in-File.field-0.0 c.from_residual.result _ (with_input F c.args.set.now c.args.input.place

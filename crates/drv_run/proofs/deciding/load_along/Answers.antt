@@ -9,6 +9,7 @@ use Rattle.std.proofs.Common.{refl, rules}
 -- Names: `F`: what is known of the outside. `e`: that `F` extends the facts of this call. `known`: the clause's equation. `specs_loaded`:
 -- the specs of a line are what its files make of a set.
 
+-- the files of -specs= are known, so the specs are what these make of the set
 pub returns-clause-loads : goal.returns-clause-loads
 returns-clause-loads g c F e known =
     let extends : Extends c.load_files.new.outside.facts.now F = search rules in

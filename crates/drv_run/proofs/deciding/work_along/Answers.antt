@@ -12,11 +12,13 @@ use Rattle.std.proofs.Common.{refl}
 -- a refusal of a step is that of the call. `work_planned`: without -dumpspecs the work is that of the plan. `work_refused`: without
 -- -dumpspecs the plan's refusal is the work's.
 
+-- with -dumpspecs the work is the dump of the specs
 pub returns-then-given-clause-works : goal.returns-then-given-clause-works
 returns-then-given-clause-works g c F e known =
     work_dumped F c.args.given.now.line.now c.args.given.now.set.now c.args.given.now.seed c.in_ok-dump.field-0 c.if-given.true
     c.in_ok-dump.ensures.text
 
+-- without it a plan that is refused refuses the work
 pub returns-in_err-plan-clause-works : goal.returns-in_err-plan-clause-works
 returns-in_err-plan-clause-works g c F e known =
     refusal_given plan_fault.Memory c.in_err-plan.field-0.0 c.from_residual-in_err-plan.result _
@@ -24,6 +26,7 @@ returns-in_err-plan-clause-works g c F e known =
     (work_refused F c.args.given.now.line.now c.args.given.now.set.now c.args.given.now.seed c.in_err-plan.field-0.0 c.if-given.false
     (c.in_err-plan.ensures.plans F e known))
 
+-- and a plan that is made is the work's
 pub returns-clause-works : goal.returns-clause-works
 returns-clause-works g c F e known =
     work_planned F c.args.given.now.line.now c.args.given.now.set.now c.args.given.now.seed c.in_ok-plan.plan c.work_with.result

@@ -7,6 +7,7 @@ use Rattle.std.proofs.Common.{refl}
 
 -- work_of_line (src/deciding.rt). What a line asks for: its spec files are loaded first.
 
+-- a spec file is refused: the call ends so
 pub returns-in_err-set-clause-comes : goal.returns-in_err-set-clause-comes
 returns-in_err-set-clause-comes g c F e args words gives reads =
     loading_ends F args c.args.seed words c.args.line.now c.in_err-set.field-0.0 c.from_residual-in_err-set.result

@@ -17,6 +17,7 @@ returns-in-Err-clause-drove g c =
     drove_before c.args.args c.args.seed c.in-Err.ending c.requires.empty c.line_of_call.ensures.asks
     (λ G e. c.in-Err.ensures.comes G e c.args.seed)
 
+-- and it ended by the answers in its table
 pub returns-in-Err-clause-keeps : goal.returns-in-Err-clause-keeps
 returns-in-Err-clause-keeps g c =
     keeps_before _ c.args.args c.args.seed c.in-Err.ending (λ G e. c.in-Err.ensures.comes G e c.args.seed)
@@ -31,6 +32,7 @@ returns-in-Err-work_of_line-clause-drove g c =
     (line_asks _ c.work_of_line.new.outside.facts.now c.args.args c.args.seed c.in-Ok.line (Err c.in-Err-work_of_line.ending)
     (asks_extends further) c.in-Ok.ensures.comes c.in-Err-work_of_line.ensures.comes))
 
+-- it ended by the answers in its table too
 pub returns-in-Err-work_of_line-clause-keeps : goal.returns-in-Err-work_of_line-clause-keeps
 returns-in-Err-work_of_line-clause-keeps g c =
     let keeps = keeps_before c.work_of_line.new.outside.facts.now c.args.args c.args.seed c.in-Err-work_of_line.ending
@@ -38,6 +40,7 @@ returns-in-Err-work_of_line-clause-keeps g c =
     (asks_extends c.work_of_line.ensures.asks.asks) c.in-Ok.ensures.comes c.in-Err-work_of_line.ensures.comes) in
     rw c.with_line-in-Err-work_of_line.ensures.ending (search rules)
 
+-- and its line is the one of its arguments
 pub returns-in-Err-work_of_line-clause-line : goal.returns-in-Err-work_of_line-clause-line
 returns-in-Err-work_of_line-clause-line g c =
     let reads = c.in-Ok.ensures.comes c.work_of_line.new.outside.facts.now (asks_extends c.work_of_line.ensures.asks.asks) in
@@ -54,6 +57,7 @@ returns-in-Ok-work_of_line-clause-drove g c =
     (line_asks _ c.work_of_line.new.outside.facts.now c.args.args c.args.seed c.in-Ok.line (Ok c.in-Ok-work_of_line.work)
     (asks_extends further) c.in-Ok.ensures.comes c.in-Ok-work_of_line.ensures.comes) ends)
 
+-- the call ended by the answers in its table
 pub returns-in-Ok-work_of_line-clause-keeps : goal.returns-in-Ok-work_of_line-clause-keeps
 returns-in-Ok-work_of_line-clause-keeps g c =
     let ends = c.ending_of.ensures.ends in
@@ -62,6 +66,7 @@ returns-in-Ok-work_of_line-clause-keeps g c =
     (asks_extends c.work_of_line.ensures.asks.asks) c.in-Ok.ensures.comes c.in-Ok-work_of_line.ensures.comes) ends in
     rw c.with_line.ensures.ending (search rules)
 
+-- and its line is the one of its arguments
 pub returns-in-Ok-work_of_line-clause-line : goal.returns-in-Ok-work_of_line-clause-line
 returns-in-Ok-work_of_line-clause-line g c =
     let reads = c.in-Ok.ensures.comes c.work_of_line.new.outside.facts.now (asks_extends c.work_of_line.ensures.asks.asks) in

@@ -8,11 +8,13 @@ use Rattle.drv_run.specs.Code.Fronting.{is_of_c99}
 -- `expansion_stops`: where a response file can't be expanded, there are no words. `front_stops`: where the front of c99 refuses, there are
 -- none.
 
+-- a response file can't be expanded: there are no words
 pub returns-in_err-expanded-clause-gives : goal.returns-in_err-expanded-clause-gives
 returns-in_err-expanded-clause-gives g c F e =
     expansion_stops F c.args.args c.cut_front-selected.result.1 c.in_err-expanded.field-0.0 c.from_residual.result
     c.cut_front-selected.ensures.following c.from_residual.ensures.1 (c.in_err-expanded.ensures.expands F e)
 
+-- the front of c99 refuses: there are no words
 pub returns-in_err-words-clause-gives : goal.returns-in_err-words-clause-gives
 returns-in_err-words-clause-gives g c F e =
     front_stops F c.args.args c.cut_front-selected.result.1 c.in_ok-expanded.expanded
@@ -20,6 +22,7 @@ returns-in_err-words-clause-gives g c F e =
     c.cut_front-selected.ensures.following c.cut_front-selected.ensures.front c.from_residual-in_err-words.ensures.1
     (c.in_ok-expanded.ensures.expands F e) c.in_err-words.ensures
 
+-- else the words are those of the front, or the expanded arguments
 pub returns-clause-gives : goal.returns-clause-gives
 returns-clause-gives g c F e =
     words_given F c.args.args c.cut_front-selected.result.1 c.in_ok-expanded.expanded c.in_ok-words.words

@@ -6,6 +6,7 @@ use Rattle.gdrv.proofs.noting.place_noted.Goals as goal
 -- Names: `F`: what is known of the outside. `e`: that `F` extends the facts of this call. `note_builtin`: the note over the built-in set is
 -- that over the set at hand.
 
+-- the set at hand is the built-in one, so the note is the one over that
 pub returns-clause-note : goal.returns-clause-note
 returns-clause-note g c F e =
     note_builtin F c.args.settings.now c.in_ok-set.set c.as_slice-folders.result.now c.as_slice-names.result.now c.fault_note.result

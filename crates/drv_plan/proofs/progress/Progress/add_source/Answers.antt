@@ -8,6 +8,7 @@ use Rattle.drv_plan.specs.Denoted.{with_source}
 -- the plan. `source_refused`: a source whose text is refused refuses the plan. `source_worked`: a source's job goes to the plan, and its
 -- output to the link.
 
+-- the source's text is refused: so is the source
 pub returns-in_err-job-clause-works : goal.returns-in_err-job-clause-works
 returns-in_err-job-clause-works g c F e =
     refusal_given c.in_err-job.field-0.0 c.from_residual.result _ (with_source F c.args.source.place c.args.source.of c.args.text.now
@@ -16,6 +17,7 @@ returns-in_err-job-clause-works g c F e =
     (source_refused F c.args.source.place c.args.source.of c.args.text.now c.args.self.now c.set_input.new.self c.in_err-job.field-0.0
     c.set_input.ensures (c.in_err-job.ensures.works F e))
 
+-- its text gave a job: that goes to the plan, and its output to the link
 pub returns-clause-works : goal.returns-clause-works
 returns-clause-works g c F e =
     source_worked F c.args.source.place c.args.source.of c.args.text.now c.args.self.now c.set_input.new.self c.in_ok-job.job
