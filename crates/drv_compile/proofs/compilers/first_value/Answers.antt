@@ -12,6 +12,7 @@ pub returns-in-None : goal.returns-in-None
 returns-in-None c =
     value_none c.args.key.now (lines c.args.text.now) _ (ap (option_map (λ line. line.now)) c.in-None.is) c.first_line.ensures
 
+-- a line begins with the key: its rest is the first value
 pub returns-in_ok-from_bytes-in-Some : goal.returns-in_ok-from_bytes-in-Some
 returns-in_ok-from_bytes-in-Some c =
     value_some c.args.key.now (lines c.args.text.now) _ c.in-Some.line.now _

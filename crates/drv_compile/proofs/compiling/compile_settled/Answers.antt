@@ -9,6 +9,7 @@ use Rattle.std.proofs.Common.{rules}
 -- `going_further`: `compile_settled` asks more, and still goes by that folder. `compiled_done`: `compile_settled` carries out what was
 -- prepared, in the name of the call.
 
+-- what was prepared was carried out: the call is compiled
 pub returns-in-Ok-clause-compiled : goal.returns-in-Ok-clause-compiled
 returns-in-Ok-clause-compiled g c journal notes before =
     let asks = c.prepare.ensures.asks.asks in
@@ -16,6 +17,7 @@ returns-in-Ok-clause-compiled g c journal notes before =
     c.in-Ok.prepared _ c.carried_out.result c.as_bytes-name.ensures
     (going_further before (search rules)) c.in-Ok.ensures.comes c.carried_out.ensures.carries
 
+-- the call stopped before that, and said why
 pub returns-in-Err-clause-compiled : goal.returns-in-Err-clause-compiled
 returns-in-Err-clause-compiled g c journal notes before =
     let asks = c.prepare.ensures.asks.asks in

@@ -10,6 +10,7 @@ use Rattle.std.proofs.Common.{◌∙◌, Some, ap}
 pub returns-in-Some-Run : goal.returns-in-Some-Run
 returns-in-Some-Run c = given_run c.args.answer c.in-Some-Run.call (c.in-Some-Run.is ∙ ap Some c.in-Some-Run.field-0-is)
 
+-- the spec files refuse the line: so is the call, with these refusals
 pub returns-in_ok-text-in-Some-Refuse : goal.returns-in_ok-text-in-Some-Refuse
 returns-in_ok-text-in-Some-Refuse c =
     given_refusal c.args.line.now c.args.answer c.in-Some-Refuse.refusals _ _ _ c.in_ok-text-in-Some-Refuse.text

@@ -16,6 +16,7 @@ returns-in_err-first-clause-drives g c =
 pub returns-in-Driver-clause-asks : goal.returns-in-Driver-clause-asks
 returns-in-Driver-clause-asks g c = asked_further c.driver_of_call.ensures.asks c.worker_after.ensures.asks
 
+-- a driver takes the line: what the spec files give may ask for another call
 pub returns-in-Driver-clause-drives : goal.returns-in-Driver-clause-drives
 returns-in-Driver-clause-drives g c =
     noted_then _ _ _ _ _ _ (λ events more called gives F e. worker_later F c.args.line.now c.args.call events more _ c.in-Driver.first

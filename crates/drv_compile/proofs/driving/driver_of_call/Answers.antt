@@ -32,6 +32,7 @@ returns-in_err-worker-in-Whole-clause-calls g c =
 pub returns-in_ok-worker-in-Whole-clause-asks : goal.returns-in_ok-worker-in-Whole-clause-asks
 returns-in_ok-worker-in-Whole-clause-asks g c = asked_further c.written_beside.ensures.asks c.texts_asked.ensures.asks
 
+-- the texts are whole: the rows are read, and the line is called by both
 pub returns-in_ok-worker-in-Whole-clause-calls : goal.returns-in_ok-worker-in-Whole-clause-calls
 returns-in_ok-worker-in-Whole-clause-calls g c =
     called_whole c.args.line.now c.args.call _ _ (record { texts = c.in-Whole.path; rows = c.in_ok-rows.rows })
@@ -50,6 +51,7 @@ returns-in_err-text-in-Damaged-clause-calls g c =
 pub returns-in_ok-text-in-Damaged-clause-asks : goal.returns-in_ok-text-in-Damaged-clause-asks
 returns-in_ok-text-in-Damaged-clause-asks g c = asked_further c.written_beside.ensures.asks c.texts_asked.ensures.asks
 
+-- the file of the texts isn't whole: the line is refused, and the host was asked nothing
 pub returns-in_ok-text-in-Damaged-clause-calls : goal.returns-in_ok-text-in-Damaged-clause-calls
 returns-in_ok-text-in-Damaged-clause-calls g c = none_noted _ _ (λ F e.
     called_damaged F c.args.line.now c.args.call _ _ c.in-Damaged.path _ c.in_ok-text-in-Damaged.text

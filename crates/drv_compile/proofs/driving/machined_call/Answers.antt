@@ -10,6 +10,7 @@ use Rattle.std.specs.Option.{option_copied}
 -- Names: `machined_as`: `machined_call` takes the rows only of a text that has some. `row_of`: the row of a line by the text of a file, if
 -- that is whole.
 
+-- Who carries the line out is known by the row of its machine; the host was asked for that row at most.
 pub returns : goal.returns
 returns g c =
     machined_as c.args.line.now.chain.specs c.args.files c.args.call c.args.line.now.given (option_copied c.for_machines-lines.result)

@@ -22,6 +22,7 @@ returns-in_err-call-clause-drives g c =
 pub returns-in-Some-clause-asks : goal.returns-in-Some-clause-asks
 returns-in-Some-clause-asks g c = asked_further c.answer.ensures.asks c.driver_of_call.ensures.asks
 
+-- the spec files ask for another call: the line is carried out as that one is
 pub returns-in-Some-clause-drives : goal.returns-in-Some-clause-drives
 returns-in-Some-clause-drives g c =
     noted_as _ _ _ _ (λ events calls F e. worker_in_place F c.args.line.now c.args.first c.in_ok-answer.answer _ c.in-Some.call events

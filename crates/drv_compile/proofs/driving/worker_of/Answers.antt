@@ -13,6 +13,7 @@ returns-in_err-driven-clause-drives g c =
     noted_as _ _ _ _ (λ events tells F e. undriven_line F c.args.line.now c.args.call events _ c.from_residual.result
     c.from_residual.ensures.1 (tells F e)) c.in_err-driven.ensures.drives
 
+-- a driver takes the line: it is called with the libraries of the link too
 pub returns-in_ok-passed-in-Driver-clause-drives : goal.returns-in_ok-passed-in-Driver-clause-drives
 returns-in_ok-passed-in-Driver-clause-drives g c =
     noted_as _ _ _ _ (λ events chosen F e. worker_drives F c.args.line.now c.args.call events _ c.in-Driver.driven

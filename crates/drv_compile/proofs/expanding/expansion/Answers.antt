@@ -15,6 +15,7 @@ returns-in-Ok-clause-gives g c F e =
     let same : c.in_ok-args.args ≡ c.args.args.now = each_same _ _ c.in_ok-args.ensures.cases in
     subst (λ a. Expands (within_limit F) 2000 a (Ok c.in-Ok.expanded)) same (c.in-Ok.ensures.expands F e)
 
+-- a file can't be expanded: the call ends as the driver ends for it
 pub returns-in_ok-stop-in-Err-clause-gives : goal.returns-in_ok-stop-in-Err-clause-gives
 returns-in_ok-stop-in-Err-clause-gives g c F e =
     let same : c.in_ok-args.args ≡ c.args.args.now = each_same _ _ c.in_ok-args.ensures.cases in

@@ -19,6 +19,7 @@ loop-word-preserved g c = record {
       (c.loop-word.invariant.rest F (extends_before c.unread_at.ensures.asks e));
 }
 
+-- the word at hand names a file that can't be read, and no word before it does
 pub returns-then-is_some-clause-path : goal.returns-then-is_some-clause-path
 returns-then-is_some-clause-path g c F e =
     unread_here F c.args.words.now c.loop-word.word-index c.word-item.result c.in_ok-unread.unread c.loop-word-test.true c.word-item.is

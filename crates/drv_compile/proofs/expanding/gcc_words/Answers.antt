@@ -7,6 +7,7 @@ use Rattle.std.proofs.Common.{◌∙◌, ap}
 
 -- Names: `stop_of`: how a call ends before its work that the driver would end so. `c99_told`: `gcc_words` that of c99's.
 
+-- c99 refuses the words: the call ends as the driver ends for them
 pub returns-in_ok-stop-in-Err : goal.returns-in_ok-stop-in-Err
 returns-in_ok-stop-in-Err c =
     c99_told c.args.calling.now c.args.expanded c.in-Err.fault c.in_ok-stop-in-Err.stop

@@ -14,6 +14,7 @@ returns-in_err-expanded-clause-gives g c F e =
     unexpanded F c.args.calling.now _ c.args.args.now _ c.from_residual.result (search rules) c.from_residual.ensures.1
     (c.in_err-expanded.ensures.gives F e)
 
+-- a response file can't be read: the call is refused for it
 pub returns-in_err-refuse_unread-clause-gives : goal.returns-in_err-refuse_unread-clause-gives
 returns-in_err-refuse_unread-clause-gives g c F e =
     unreadable F c.args.calling.now _ c.args.args.now c.as_slice.result.now c.in_ok-expanded.expanded _
@@ -21,6 +22,7 @@ returns-in_err-refuse_unread-clause-gives g c F e =
     (c.in_ok-expanded.ensures.gives F (extends_before c.refuse_unread.ensures.asks e)) c.from_residual-in_err-refuse_unread.ensures.1
     (c.in_err-refuse_unread.ensures.gives F e)
 
+-- all can be read: the words are those of gcc for the expanded ones
 pub returns-clause-gives : goal.returns-clause-gives
 returns-clause-gives g c F e =
     words_given F c.args.calling.now c.args.args.now c.as_slice.result.now c.in_ok-expanded.expanded c.gcc_words.result c.as_slice.ensures

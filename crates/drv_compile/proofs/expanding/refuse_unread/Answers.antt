@@ -7,6 +7,7 @@ use Rattle.std.proofs.Common.{◌∙◌, ap}
 
 -- Names: `F`: what is known of the outside. `e`: that `F` extends the facts of this call. `unread_text`: a response file that is there.
 
+-- a response file can't be read: the refusal names its path
 pub returns-clause-gives : goal.returns-clause-gives
 returns-clause-gives g c F e = (
   c.in-Some.path,

@@ -8,6 +8,7 @@ use Rattle.std.proofs.Common.{◌∙◌, sym}
 -- Names: `written_read`: `written_lines` reads a plain file, and takes its lines if it is whole. `asks_extends`: a call that only asked
 -- keeps every answer.
 
+-- a plain file: its lines are those before the mark, if it is whole
 pub returns-then-is_plain-clause-lines : goal.returns-then-is_plain-clause-lines
 returns-then-is_plain-clause-lines g c F e =
     written_read F c.args.path.now c.in_ok-kind.kind c.read_answer.result.now c.lines_in.result

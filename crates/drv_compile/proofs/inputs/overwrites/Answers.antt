@@ -17,12 +17,14 @@ returns-then-is_no_file g c =
     sink_written c.args.inputs.now c.args.output.now _ _ c.in-Some.is
     (sym (ap is_no_file c.as_bytes.ensures) ∙ sym c.is_no_file.ensures ∙ c.if-is_no_file.true)
 
+-- the output isn't there, so it is no input
 pub returns-in_default-found : goal.returns-in_default-found
 returns-in_default-found g c =
     new_written c.args.inputs.now c.args.output.now _ c.in_ok-found.found _ _ c.in-Some.is
     (sym (ap is_no_file c.as_bytes.ensures) ∙ sym c.is_no_file.ensures ∙ c.if-is_no_file.false) c.in_default-found.is
     c.in_ok-found.ensures.event
 
+-- the output is there: it is an input if one leads to it
 pub returns : goal.returns
 returns g c =
     old_written c.args.inputs.now c.args.output.now _ _ c.in_ok-found.found _ _ _ c.reaches.result c.in-Some.is

@@ -9,6 +9,7 @@ use Rattle.std.proofs.Common.{◌∙◌, ap}
 -- Names: `texts_found`: `texts_asked` asks whether the part for a line is there. `extends_before`: what extends the facts after a call
 -- extends those before it.
 
+-- the kind of the part's path says whether the texts are in the part or in the spec file
 pub returns-clause-texts : goal.returns-clause-texts
 returns-clause-texts g c F e =
     texts_found F c.args.specs.now c.args.items.now c.args.stages c.in_ok-part.part c.in_ok-path.path c.in_ok-kind.kind c.texts_at.result

@@ -12,6 +12,7 @@ returns-in_default-clause-goes c =
     single_goes c.args.found.now c.push_library.new.found c.args.word.now c.args.after.now (inl c.in_default.len_below)
     c.in_ok-push_library.ensures
 
+-- the word is -l alone: with the word after it, it is a library
 pub returns-then-is_lone-clause-goes : goal.returns-then-is_lone-clause-goes
 returns-then-is_lone-clause-goes c =
     joined_goes c.args.found.now c.push_joined.new.found c.args.word.now c.as_bytes.result.now c.next-item.result c.args.after.now

@@ -27,6 +27,7 @@ returns-in_err-refuse_overwriting-clause-performs g c =
     c.if-not-is_empty.false)
     c.in_err-refuse_overwriting.ensures
 
+-- nothing speaks against the line: the call does what its plan says
 pub returns-clause-performs : goal.returns-clause-performs
 returns-clause-performs g c =
     performs_noted c.args.line.now c.args.call _ _ _ c.prepare_line.result _

@@ -25,6 +25,7 @@ returns-in_err-task-clause-comes g c =
     (c.in_ok-words.ensures.gives F (extends_before c.decide.ensures.asks e))
     (c.in_ok-decision.ensures.decision F e) c.from_residual-in_err-task.ensures.1 c.in_err-task.ensures)
 
+-- the line is a question: its answer is what the call does, and the host was asked nothing
 pub returns-in_ok-prepared-in-Question-clause-comes : goal.returns-in_ok-prepared-in-Question-clause-comes
 returns-in_ok-prepared-in-Question-clause-comes g c =
     none_noted _ _ (λ F e.

@@ -16,6 +16,7 @@ returns-in_err-driven-clause-plans g c =
 pub returns-in-Driver-clause-asks : goal.returns-in-Driver-clause-asks
 returns-in-Driver-clause-asks g c = asked_further c.worker_of.ensures.asks c.prepare_plan.ensures.asks
 
+-- a driver carries the line out: the plan is the one of its line
 pub returns-in-Driver-clause-plans : goal.returns-in-Driver-clause-plans
 returns-in-Driver-clause-plans g c =
     noted_as _ _ _ _ (λ events works F e. prepared_by_driver F c.args.line.now c.args.call events _ c.in-Driver.driven
@@ -27,6 +28,7 @@ returns-in_err-text-in-Nobody-clause-plans g c =
     memory_noted_over _ _ _ c.from_residual-in_err-text-in-Nobody.result _ _ _ c.in_ok-driven.ensures.drives
     c.from_residual-in_err-text-in-Nobody.ensures.1
 
+-- nobody carries it out: the line is refused
 pub returns-in_ok-text-in-Nobody-clause-plans : goal.returns-in_ok-text-in-Nobody-clause-plans
 returns-in_ok-text-in-Nobody-clause-plans g c =
     noted_as _ _ _ _ (λ events works F e. unworded_plan F c.args.line.now c.args.call events _

@@ -10,6 +10,7 @@ use Rattle.std.proofs.Common.{refl}
 pub returns-clause-asks : goal.returns-clause-asks
 returns-clause-asks g c = record { asks = asks_then c.find_file.ensures.asks c.read.ensures.asks; same_sys = refl; same_facts = refl }
 
+-- the file was found and read: its names are added
 pub returns-clause-names : goal.returns-clause-names
 returns-clause-names g c F e =
     file_read F c.args.prefixes.now c.args.file.now c.in_ok-path.path c.read_answer.result.now c.args.named.now c.add_names.new.named

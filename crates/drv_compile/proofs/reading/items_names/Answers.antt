@@ -11,6 +11,7 @@ pub returns-clause-asks : goal.returns-clause-asks
 returns-clause-asks g c = asked_further (record { asks = c.new.ensures.asks; same_sys = refl; same_facts = refl })
     c.files_names.ensures.asks
 
+-- the names are those of the files of -specs=, searched for in the folders of -B
 pub returns-clause-names : goal.returns-clause-names
 returns-clause-names g c F e =
     items_read F c.args.items.now c.as_slice.result.now c.as_slice-2.result.now c.in_ok-prefixes.prefixes c.files_names.result

@@ -14,6 +14,7 @@ returns-in_default g c =
           c.in_default.not-Refuse;
     }
 
+-- the first answer is a refusal: the names in the spec files may still change it
 pub returns-clause-answer : goal.returns-clause-answer
 returns-clause-answer g c known words is F e =
     known_refused F known c.args.around.now words c.args.items.now c.in_ok-answer.answer c.in-Refuse.refusals c.as_slice.result.now

@@ -12,6 +12,7 @@ pub returns-in_default-clause-reading : goal.returns-in_default-clause-reading
 returns-in_default-clause-reading g c words is F e =
     read_unnamed F c.args.specs.now c.args.around.now words c.in_ok-named.named (c.in_ok-named.ensures.items words is F e) c.in_default.is
 
+-- the file of the names is whole: the answer is by its names
 pub returns-clause-reading : goal.returns-clause-reading
 returns-clause-reading g c words is F e =
     read_named F c.args.specs.now c.args.around.now words c.in_ok-named.named c.in-Some.items c.in_ok-answer.answer c.in_ok-known.known

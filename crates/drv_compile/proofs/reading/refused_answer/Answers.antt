@@ -6,6 +6,7 @@ use Rattle.std.proofs.Common.{◌∙◌}
 
 -- Names: `is`: the clause's equation.
 
+-- With the unknown switches taken, the answer says which spec files the line names; by the names in these it is made again.
 pub returns-clause-answer : goal.returns-clause-answer
 returns-clause-answer g c known words is F e =
     refused_again F known c.args.around.now words c.args.refusals.now c.args.items.now c.as_slice.result.now c.in_ok-taken.taken

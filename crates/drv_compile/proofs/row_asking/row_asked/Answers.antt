@@ -17,6 +17,7 @@ pub returns-in-Found : goal.returns-in-Found
 returns-in-Found g c =
     found_unasked c.args.specs.now (option_copied c.args.text) c.args.items.now _ c.in-Found.row _ c.in_ok-row_of.ensures c.in-Found.is
 
+-- the text lacks the row: the host is asked once, and the row is the one of its answer
 pub returns-in_ok-answer-in-Missing : goal.returns-in_ok-answer-in-Missing
 returns-in_ok-answer-in-Missing g c =
     missing_asked c.args.specs.now (option_copied c.args.text) c.args.items.now _ c.as_bytes-key.result.now

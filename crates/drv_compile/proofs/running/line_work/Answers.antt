@@ -13,6 +13,7 @@ returns-in_err-refuse_several-clause-works g c F e known =
     many_end F c.args.given.now.line.now c.args.given.now.set.now c.args.given.now.seed c.in_err-refuse_several.field-0.0
     c.from_residual.result c.from_residual.ensures.1 c.in_err-refuse_several.ensures
 
+-- the work is refused: so is the line
 pub returns-in_err-work-clause-works : goal.returns-in_err-work-clause-works
 returns-in_err-work-clause-works g c F e known =
     planning_ends F c.args.given.now.line.now c.args.given.now.set.now c.args.given.now.seed c.in_err-work.field-0.0

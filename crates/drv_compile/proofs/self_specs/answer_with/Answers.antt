@@ -8,6 +8,7 @@ use Rattle.drv_system.proofs.AskedCalls.{extends_before}
 -- the line's own spec files with those of the compiler's options. `extends_before`: what extends the facts after a call extends those
 -- before it.
 
+-- the answer is by the names of the compiler's options and of those that the spec files name
 pub returns-clause-answer : goal.returns-clause-answer
 returns-clause-answer g c F e =
     options_given F c.args.line.now c.args.first.now c.args.given.now _ _ c.names_or_known-names.result.now _ c.as_slice-2.result.now

@@ -9,12 +9,14 @@ use Rattle.std.proofs.Common.{refl}
 -- text_worked (src/self_specs.rt). What the text of this name gives a line whose switches these are, with the specs of a line of the
 -- driver.
 
+-- the first items give no line: the text is refused as they are
 pub returns-in_err-line-clause-works : goal.returns-in_err-line-clause-works
 returns-in_err-line-clause-works g c F e =
     line_refused c.in_err-line.field-0.0 (line_given c.args.first.now)
     (worked_of F c.args.name.now (line_given c.args.seen.now)) c.from_residual.result refl
     c.from_residual.ensures.1 c.in_err-line.ensures.line
 
+-- a spec file of the line is refused: so is the text
 pub returns-in_err-set-clause-works : goal.returns-in_err-set-clause-works
 returns-in_err-set-clause-works g c F e =
     specs_refused c.in_err-set.field-0.0 F c.args.name.now c.in_ok-line.line (line_given c.args.seen.now)

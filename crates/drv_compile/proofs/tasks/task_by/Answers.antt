@@ -11,6 +11,7 @@ returns-in-Ask c = answer_asks c.args.specs c.args.around c.args.reading c.in-As
 pub returns-in-Run : goal.returns-in-Run
 returns-in-Run c = answer_runs c.args.specs c.args.around c.args.reading c.in-Run.call c.in-Run.is
 
+-- a line that is refused: the call says its refusals
 pub returns-in_ok-text-in-Refuse : goal.returns-in_ok-text-in-Refuse
 returns-in_ok-text-in-Refuse c =
     answer_refused c.args.calling.now c.args.specs c.args.around c.args.reading c.in-Refuse.refusals _ _ _ c.in_ok-text-in-Refuse.text

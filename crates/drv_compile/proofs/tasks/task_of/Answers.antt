@@ -11,6 +11,7 @@ returns-in_ok-text-in-NoCompiler c =
     compiler_declined c.args.calling.now c.args.decision c.in-NoCompiler.specs c.as_bytes.result.now c.in_ok-text-in-NoCompiler.text
     c.in-NoCompiler.is c.as_bytes.ensures c.in_ok-text-in-NoCompiler.ensures
 
+-- a file isn't whole: the call declines the line with a text about that file
 pub returns-in_ok-text-in-Damaged : goal.returns-in_ok-text-in-Damaged
 returns-in_ok-text-in-Damaged c =
     damaged_declined c.args.calling.now c.args.decision c.in-Damaged.specs c.in-Damaged.path c.as_bytes-in-Damaged-2.result.now

@@ -6,6 +6,7 @@ use Rattle.std.proofs.Common.{arith}
 
 -- Names: `told_all`: `lines_told` has the lines of all refusals at the end. `told_more`: `lines_told` adds the line of one refusal more.
 
+-- With this line the text has the lines of the refusals so far.
 pub loop-refusal-preserved : goal.loop-refusal-preserved
 loop-refusal-preserved c =
     told_more c.args.name.now c.args.known.now c.args.refusals.now c.loop-refusal.refusal-index c.refusal-item.result c.loop-refusal.text

@@ -9,6 +9,7 @@ use Rattle.std.proofs.Common.{arith, refl, rules}
 pub loop-name-init : goal.loop-name-init
 loop-name-init g c = record { chooses = search rules; tries = tries_none_yet _ _ }
 
+-- the folder at hand is usable, and none before it: it is chosen
 pub returns-then-branch-clause-chooses : goal.returns-then-branch-clause-chooses
 returns-then-branch-clause-chooses g c =
     let copy = c.clone.ensures.cases in

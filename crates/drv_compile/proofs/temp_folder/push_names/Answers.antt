@@ -7,6 +7,7 @@ use Rattle.drv_system.proofs.AskedCalls.{extends_before}
 -- Names: `extends_before`: what extends the facts after a call extends those before it. `names_pushed`: `push_names` adds those of three,
 -- and then the usual folders.
 
+-- the names are those of three variables, and then of the folders of every system
 pub returns-clause-names : goal.returns-clause-names
 returns-clause-names g c F e =
     names_pushed F c.args.names.now c.push_variable.new.names c.push_variable-2.new.names c.push_variable-3.new.names

@@ -17,6 +17,7 @@ returns-in_err-folder-clause-asks g c = let asks = c.folder_asked.ensures.asks.a
 pub returns-clause-asks : goal.returns-clause-asks
 returns-clause-asks g c = let asks = c.folder_asked.ensures.asks.asks in begun c.requires (search rules) c.folder_asked.ensures.tries
 
+-- the table has the folder that was chosen as the value of TMPDIR
 pub returns-clause-settles : goal.returns-clause-settles
 returns-clause-settles g c =
     let asks = c.folder_asked.ensures.asks.asks in
