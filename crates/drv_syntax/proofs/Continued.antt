@@ -40,12 +40,12 @@ use Rattle.std.specs.Prelude.{None, Ok, Some, slice_get, ◌==◌}
 -- last item can't be longer there. It serves `SpecTree::extended`, which keeps the tokens and labels of the text and reads only what
 -- follows. `goes_on` (specs/Code/Ending) is the test for that last item.
 -- Names: `t`, `q`: what is left of the text, from step to step. `p`: where a part is in the text. `rest`: what follows in the text. `size`:
--- the length of the whole text. `b`: a byte. `x`: an item. `rest`: what is left of the text, and its place. `r`: what was read. `level`:
--- how many levels of lists may open. `nodes_of`: the parts that items are, each with those inside it. `tokens_of`: the tokens of a tree.
--- `top`: the list that a whole text is. `flat`: the tokens of parts, from the place n of the list on. `ending_in`: how a text of this size
--- ends, by its last token. `IsItem`: one item of a list with this context, by its first byte. `span`: the bytes from the place start up to
--- the place end. `here`: what is left of the text where these bytes are left. `longer`: what is the same part in a longer text is a part of
--- that. `judged`: what a text gives.
+-- the length of the whole text. `b`: a byte. `x`: an item. `rest`: what is left of the text, and its place. `r`, `part`: what was read.
+-- `level`: how many levels of lists may open. `nodes_of`: the parts that items are, each with those inside it. `tokens_of`: the tokens of a
+-- tree. `top`: the list that a whole text is. `flat`: the tokens of parts, from the place n of the list on. `ending_in`: how a text of this
+-- size ends, by its last token. `IsItem`: one item of a list with this context, by its first byte. `span`: the bytes from the place start
+-- up to the place end. `here`: what is left of the text where these bytes are left. `longer`: what is the same part in a longer text is a
+-- part of that. `judged`: what a text gives.
 
 -- the last token of a text is that of its last item, if that has no parts
 
@@ -176,8 +176,8 @@ said_fits AsError words q h = absurd h
 said_fits AsNotice words q h = absurd h
 
 -- a directive that a text ends in is the same directive before a rest that fits it
-directive_on : {size : ℕ} {c : ListContext} {f : Directive} {t : List ℕ} {x : Item} (q : List ℕ) → IsDirective size c f t x [] → Fits x q
-    → IsDirective (size + length q) c f (t ++ q) x q
+directive_on : {size : ℕ} {c : ListContext} {directive : Directive} {t : List ℕ} {item : Item} (q : List ℕ)
+    → IsDirective size c directive t item [] → Fits item q → IsDirective (size + length q) c directive (t ++ q) item q
 directive_on q s.whole h = s.whole
 directive_on q s.named h = s.named
 directive_on q (s.temp_name i) h = s.temp_name (suffix_on q i h)
@@ -201,10 +201,11 @@ item_on q s.pipe h = s.pipe
 item_on q (s.directive e i) h = s.directive e (directive_on q i h)
 
 -- each item is, if those after it end so
-item_goes : {size : ℕ} {c : ListContext} {t mid : List ℕ} (q : List ℕ) (p : Span) (x : Item) (items : Items) → AreItems size c mid items []
-    → LastFits (more p x items) q → IsItem size c t x mid → IsItem (size + length q) c (t ++ q) x (mid ++ q)
-item_goes q p x none (s.no_item e) h i = item_on q i h
-item_goes q p x (more r y items) (s.next_item a j b l) h i = item_longer q i j
+item_goes : {size : ℕ} {c : ListContext} {t mid : List ℕ} (q : List ℕ) (place : Span) (item : Item) (items : Items)
+    → AreItems size c mid items []
+    → LastFits (more place item items) q → IsItem size c t item mid → IsItem (size + length q) c (t ++ q) item (mid ++ q)
+item_goes q place item none (s.no_item e) h i = item_on q i h
+item_goes q place item (more r y items) (s.next_item a j b l) h i = item_longer q i j
 
 -- what fits the last of some items fits the last of those after the first
 rest_fits : (p : Span) (x : Item) (items : Items) (q : List ℕ) → LastFits (more p x items) q → LastFits items q
@@ -283,29 +284,29 @@ pub rest_is : (text rest : List ℕ) (tokens : List Token) (names : List Label) 
 rest_is text rest tokens names h g = by (descent text) refl h
   where
     -- Plan: by what Descent makes of the first text (`by`): if it is read whole, the items of the rest are joined to its items (`joined`).
-    joined : (items : Items) (r : Read (Items × ℕ))
-        → listed (judged (outcome (behind items r)))
-        ≡ given None
-        (λ list end. (tokens_of items ++ flat (length (tokens_of items)) (nodes_of list.0), labels_of items ++ labels (nodes_of list.0))) r
+    joined : (items : Items) (part : Read (Items × ℕ))
+        → listed (judged (outcome (behind items part)))
+        ≡ given None (λ list end.
+        (tokens_of items ++ flat (length (tokens_of items)) (nodes_of list.0), labels_of items ++ labels (nodes_of list.0))) part
     joined items (Took l end) = cc (tokens_joined items l.0, labels_joined items l.0)
     joined items (Ends at) = refl
     joined items (Stops n fault) = refl
 
-    by : (o : Out) → descent text ≡ o → listed (judged o) ≡ Ok (tokens, names) → whole_given (text ++ rest)
-        ≡ rest_given (length text) rest tokens names
+    by : (made : Out) → descent text ≡ made
+        → listed (judged made) ≡ Ok (tokens, names) → whole_given (text ++ rest) ≡ rest_given (length text) rest tokens names
     by (Cut at) e f = absurd cc
     by (Bad n fault) e f = absurd cc
     by (Got items) e f =
         let p : ◌≡◌ {A = List Token × List Label} (tokens_of items, labels_of items) (tokens, names) = ok_same f in
         let ends : goes_on (ending_in (length text) (tokens_of items)) rest ≡ true =
-        ap (λ (z : List Token × List Label). goes_on (ending_in (length text) z.0) rest) p
+        ap (λ (pair : List Token × List Label). goes_on (ending_in (length text) pair.0) rest) p
         ∙ g in
         let tree = read_is_spelled text items e in
         let there : length text + length rest - length rest ≡ length text = omega arith in
-        ap (λ o. listed (judged o)) (descent_is (text ++ rest))
+        ap (λ made. listed (judged made)) (descent_is (text ++ rest))
         ∙ ap (λ (l : Left). listed (judged (outcome ((levels 64).0 top l))))
         (start (text ++ rest) ∙ ap (λ (n : ℕ). here n (text ++ rest)) (length-append text rest))
         ∙ ap (λ r. listed (judged (outcome r))) (items_on 63 refl rest items tree (last_fits rest items none tree ends) (omega arith))
         ∙ ap (λ (i : ℕ). listed (judged (outcome (behind items ((levels 64).0 top (record { at = i; bytes = rest })))))) there
         ∙ joined items ((levels 64).0 top (record { at = length text; bytes = rest }))
-        ∙ ap (λ (z : List Token × List Label). rest_given (length text) rest z.0 z.1) p
+        ∙ ap (λ (pair : List Token × List Label). rest_given (length text) rest pair.0 pair.1) p

@@ -37,7 +37,8 @@ use Rattle.std.specs.Prelude.{◌-◌, ◌==◌, None, nat_le}
 -- begins no pattern. `in_braces`: the context in the braces of a list, before the colon of an alternative. `loop_ends`: a loop whose turn
 -- gives r, whatever would follow that turn, gives r. `RunsOut`: bytes of the class f and escapes up to the end of the text. `IsQuoted`: the
 -- longest run of bytes of the class f and of escapes. `AreSpaces`: the text begins with white space, or with none. `Kind`: where a list of
--- items is. `CutsItem`: an item that is cut short.
+-- items is. `CutsItem`: an item that is cut short. `unspaced`, `asking`, `behind`: the text without the white space before it, from what a
+-- test asks on, and after that. `own`: the place of a function's own %. `part`: what was read.
 
 -- where f allows no byte that begins a pattern, and no percent sign, what a test asks doesn't begin with one that f allows, even where the
 -- text ends in it
@@ -76,17 +77,17 @@ module _ (size : ℕ) where
   open_place (cuts.cut_directive {b} {text} e i) = cut_place (size - suc (suc (length text))) (directive_of b)
 
   -- where the text ends in a part, it ends in what begins with it, if what follows that part may be cut there too
-  open_then : {X Y : Type 0} (at : ℕ) (r : Read X) (goes : X → Left → Read Y) → OpenAt at r → ((x : X) → OpenAt at (goes x (here size [])))
-      → OpenAt at (then_read r goes)
+  open_then : {X Y : Type 0} (at : ℕ) (part : Read X) (goes : X → Left → Read Y)
+      → OpenAt at part → ((x : X) → OpenAt at (goes x (here size []))) → OpenAt at (then_read part goes)
   open_then at (Took x rest) goes e k = subst (λ (l : Left). OpenAt at (goes x l)) (sym e) (k x)
   open_then at (Ends n) goes e k = e
   open_then at (Stops n fault) goes e k = e
 
   -- where the text ends in a part, what begins with it isn't closed, if it isn't where the part is read up to the end
-  must_end : {X Y : Type 0} {at : ℕ} (r : Read X) (goes : X → Left → Read Y) → OpenAt at r → ((x : X) → goes x (here size []) ≡ Ends at)
-      → then_read r goes ≡ Ends at
+  must_end : {X Y : Type 0} {at : ℕ} (part : Read X) (goes : X → Left → Read Y)
+      → OpenAt at part → ((x : X) → goes x (here size []) ≡ Ends at) → then_read part goes ≡ Ends at
   must_end (Took x rest) goes e k = ap (λ (l : Left). goes x l) e ∙ k x
-  must_end (Ends n) goes e k = ap (λ (i : ℕ). Ends i) e
+  must_end (Ends n) goes e k = ap (λ (place : ℕ). Ends place) e
   must_end (Stops n fault) goes e k = absurd e
 
   -- where the text ends in a run, this hangs at the backslash that is the last byte, or goes up to the end
@@ -102,7 +103,7 @@ module _ (size : ℕ) where
           →
           ((n : ℕ) → n + length (92 ∷ b ∷ text) ≡ size → quoted_at f n (92 ∷ b ∷ text) ≡ record { word = None; rest = here size (92 ∷ []) })
           ⊎ ((word : List ℕ) × IsQuoted f (92 ∷ b ∷ text) word [])
-      by (inl k) = inl (λ n h. ap (λ (r : Run). with_byte b r) (k (n + 2) (omega (arith, h))))
+      by (inl k) = inl (λ n h. ap (λ (run : Run). with_byte b run) (k (n + 2) (omega (arith, h))))
       by (inr m) = inr (b ∷ m.0, s.quoted_escape m.1)
   out_run {f} (cuts.out_byte {b} {text} e g o) = by (out_run o)
     where
@@ -110,7 +111,7 @@ module _ (size : ℕ) where
           ⊎ ((word : List ℕ) × IsQuoted f text word [])
           → ((n : ℕ) → n + length (b ∷ text) ≡ size → quoted_at f n (b ∷ text) ≡ record { word = None; rest = here size (92 ∷ []) })
           ⊎ ((word : List ℕ) × IsQuoted f (b ∷ text) word [])
-      by (inl k) = inl (λ n h. byte_quoted f n text e g ∙ ap (λ (r : Run). with_byte b r) (k (n + 1) (omega (arith, h))))
+      by (inl k) = inl (λ n h. byte_quoted f n text e g ∙ ap (λ (run : Run). with_byte b run) (k (n + 1) (omega (arith, h))))
       by (inr m) = inr (b ∷ m.0, s.quoted_byte e g m.1)
 
   -- where the text ends in a word, it ends in the part that begins with it
@@ -157,15 +158,15 @@ module _ (size : ℕ) where
   inner_ends kind place (Stops n fault) h e = absurd e
 
   -- where the text ends in a call, this isn't closed
-  pub call_cut : {X : Type 0} (make : List ℕ → Items → X) (lists : Lists) {c : ListContext} (at n : ℕ) {t : List ℕ}
-      → ((c.levels == 0) ≡ false → ListEnds lists (in_arguments c)) → CutsCall size c t → length t ≤ size
-      → d.call_as make lists c at n (here size t) ≡ Ends at
-  call_cut make lists {c} at n ends (cuts.in_function {text = t} e is) h =
-      subst (λ (u : List ℕ). d.call_as make lists c at n (here size u) ≡ Ends at) (append-nil t)
-      (rw (function_on size t [] n is tt (omega (arith, length-append t [], h))) refl)
-  call_cut make lists {c} at n ends (cuts.in_function_arguments {text = t} name e is l) h =
+  pub call_cut : {X : Type 0} (make : List ℕ → Items → X) (lists : Lists) {c : ListContext} (at own : ℕ) {t : List ℕ}
+      → ((c.levels == 0) ≡ false → ListEnds lists (in_arguments c))
+      → CutsCall size c t → length t ≤ size → d.call_as make lists c at own (here size t) ≡ Ends at
+  call_cut make lists {c} at own ends (cuts.in_function {text = t} e is) h =
+      subst (λ (whole : List ℕ). d.call_as make lists c at own (here size whole) ≡ Ends at) (append-nil t)
+      (rw (function_on size t [] own is tt (omega (arith, length-append t [], h))) refl)
+  call_cut make lists {c} at own ends (cuts.in_function_arguments {text = t} name e is l) h =
       let m = ends e t l (omega (arith, length-append name (40 ∷ t), h)) in
-      rw (call_on size make lists c at n name t is h, m.2 ∙ (inner_ends InArguments m.0 m.1 (λ z. absurd cc) m.3).1) refl
+      rw (call_on size make lists c at own name t is h, m.2 ∙ (inner_ends InArguments m.0 m.1 (λ z. absurd cc) m.3).1) refl
 
   -- patterns
 
@@ -215,16 +216,17 @@ module _ (size : ℕ) where
         by false m = switch_open emits (b ∷ text) (s.at_byte m) (cuts.out_byte e g o) h
 
     -- where the text ends in what a test asks, the braces are not closed
-    open_test : (order : Order) {t u v : List ℕ} {negated : Bool} → AreSpaces t u → IsSign u negated v → s.Stops is_white v
-        → length t ≤ size → OpenAt at (d.asked deep c at (may_emit order negated) (here size v))
-        → d.one_test deep c at order (here size t) ≡ Ends at
-    open_test order {v = v} {negated = negated} sp sign w h o = rw (test_on size deep c at order sp sign w h)
-        (must_end (d.asked deep c at (may_emit order negated) (here size v)) _ o (λ operand. refl))
+    open_test : (order : Order) {t unspaced asking : List ℕ} {negated : Bool}
+        → AreSpaces t unspaced → IsSign unspaced negated asking → s.Stops is_white asking → length t ≤ size
+        → OpenAt at (d.asked deep c at (may_emit order negated) (here size asking)) → d.one_test deep c at order (here size t) ≡ Ends at
+    open_test order {asking = asking} {negated = negated} sp sign w h o = rw (test_on size deep c at order sp sign w h)
+        (must_end (d.asked deep c at (may_emit order negated) (here size asking)) _ o (λ operand. refl))
 
     -- where the text ends after what a test asks and white space, the braces are not closed
-    past_test : (order : Order) {t u v w : List ℕ} {negated : Bool} {o : Operand} → AreSpaces t u → IsSign u negated v → s.Stops is_white v
-        → length t ≤ size → d.asked deep c at (may_emit order negated) (here size v) ≡ Took o (here size w) → AreSpaces w [] → length w ≤
-        size → d.one_test deep c at order (here size t) ≡ Ends at
+    past_test : (order : Order) {t unspaced asking behind : List ℕ} {negated : Bool} {operand : Operand}
+        → AreSpaces t unspaced → IsSign unspaced negated asking → s.Stops is_white asking
+        → length t ≤ size → d.asked deep c at (may_emit order negated) (here size asking) ≡ Took operand (here size behind)
+        → AreSpaces behind [] → length behind ≤ size → d.one_test deep c at order (here size t) ≡ Ends at
     past_test order sp sign x h e z l = let m = spaces_on size z s.at_end l in rw (test_on size deep c at order sp sign x h, e, m.0) refl
 
     -- where the text ends in patterns at the front of braces, these are not closed

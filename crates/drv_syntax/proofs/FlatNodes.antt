@@ -14,7 +14,8 @@ use Rattle.std.proofs.Common.{◌≡◌, ℕ, ◌+◌, List, [], ◌∷◌, ◌+
 -- like, and what the reader writes.
 -- Names: `flat`: the tokens of parts, from the place n of the list on. `nodes_of`: the parts that items are, each with those inside it.
 -- `test_nodes`: the parts that the tests of an alternative are. `token`: a token, the tokens inside it, and what follows from the place
--- after these. `both`: these parts and then those, on one level. `labels`: the labels of parts, in the order of their tokens.
+-- after these. `both`: these parts and then those, on one level. `labels`: the labels of parts, in the order of their tokens. `others`: the
+-- tokens that follow from a place on. `inside`, `later`: what is in a part, and what follows it.
 
 -- items and other items after them as one list
 abbrev pub join : Items → Items → Items
@@ -22,11 +23,11 @@ join tree.none others = others
 join (tree.more s item items) others = tree.more s item (join items others)
 
 -- tokens with equal insides, and equal others after them, are equal
-pub same_token : (n : ℕ) (kind : TokenKind) (s : Span) {xs ys : List Token} {f g : ℕ → List Token} → xs ≡ ys → ((m : ℕ) → f m ≡ g m)
-    → token n kind s xs f ≡ token n kind s ys g
-same_token n kind s {xs} {ys} {f} {g} e h =
-    subst (λ (zs : List Token). token n kind s xs f ≡ token n kind s zs g) e
-    (ap (λ zs. record { kind = kind; start = s.start; end = s.end; next = n + 1 + length xs } ∷ xs ++ zs) (h (n + 1 + length xs)))
+pub same_token : (n : ℕ) (kind : TokenKind) (place : Span) {xs ys : List Token} {others same_others : ℕ → List Token}
+    → xs ≡ ys → ((m : ℕ) → others m ≡ same_others m) → token n kind place xs others ≡ token n kind place ys same_others
+same_token n kind place {xs} {ys} {others} {same_others} e h =
+    subst (λ (zs : List Token). token n kind place xs others ≡ token n kind place zs same_others) e
+    (ap (λ zs. record { kind = kind; start = place.start; end = place.end; next = n + 1 + length xs } ∷ xs ++ zs) (h (n + 1 + length xs)))
 
 -- the tokens of parts and of others after them are those of both, one after the other
 pub flat_both : (n : ℕ) (xs ys : Nodes) → flat n (both xs ys) ≡ flat n xs ++ flat (n + length (flat n xs)) ys
@@ -34,29 +35,32 @@ flat_both n no_node ys = rw (by n) refl
   where
     by : (k : ℕ) → k + 0 ≡ k
     by k = omega arith
-flat_both n (node kind label s inner xs) ys =
+flat_both n (node kind label place inner xs) ys =
     let m : ℕ = n + 1 + length (flat (n + 1) inner) in
-    let t : Token = record { kind = kind; start = s.start; end = s.end; next = m } in
-    cc (flat_both m xs ys, joined t (flat (n + 1) inner) (flat m xs) n m refl (λ k. flat k ys))
+    let token : Token = record { kind = kind; start = place.start; end = place.end; next = m } in
+    cc (flat_both m xs ys, joined token (flat (n + 1) inner) (flat m xs) n m refl (λ k. flat k ys))
   where
     -- a token, its parts and those after it, as one list
-    joined : (t : Token) (a b : List Token) (n m : ℕ) → m ≡ n + 1 + length a → (f : ℕ → List Token)
-        → t ∷ a ++ (b ++ f (m + length b)) ≡ (t ∷ a ++ b) ++ f (n + length (t ∷ a ++ b))
-    joined t a b n m e f =
-        let k : n + length (t ∷ a ++ b) ≡ m + length b = omega (arith, length-append (t ∷ a) b) in
-        rw k (sym (append_assoc (t ∷ a) b (f (m + length b))))
+    joined : (token : Token) (inside later : List Token) (n m : ℕ)
+        → m ≡ n + 1 + length inside → (others : ℕ → List Token) → token ∷ inside ++ (later ++ others (m + length later))
+        ≡ (token ∷ inside ++ later) ++ others (n + length (token ∷ inside ++ later))
+    joined token inside later n m e others =
+        let k : n + length (token ∷ inside ++ later) ≡ m + length later = omega (arith, length-append (token ∷ inside) later) in
+        rw k (sym (append_assoc (token ∷ inside) later (others (m + length later))))
 
 -- there are as many labels as tokens
 pub as_many : (n : ℕ) (xs : Nodes) → length (labels xs) ≡ length (flat n xs)
 as_many n no_node = refl
-as_many n (node kind label s inner xs) =
+as_many n (node kind label place inner xs) =
     let m : ℕ = n + 1 + length (flat (n + 1) inner) in
-    counted label (record { kind = kind; start = s.start; end = s.end; next = m }) (labels inner) (labels xs) (flat (n + 1) inner)
+    counted label (record { kind = kind; start = place.start; end = place.end; next = m }) (labels inner) (labels xs) (flat (n + 1) inner)
     (flat m xs) (as_many (n + 1) inner) (as_many m xs)
   where
-    counted : (l : Label) (t : Token) (a b : List Label) (c d : List Token) → length a ≡ length c → length b ≡ length d
-        → length (l ∷ a ++ b) ≡ length (t ∷ c ++ d)
-    counted l t a b c d e f = omega (arith, length-append a b, length-append c d)
+    counted : (label : Label) (token : Token) (inside later : List Label) (inside_tokens later_tokens : List Token)
+        → length inside ≡ length inside_tokens
+        → length later ≡ length later_tokens → length (label ∷ inside ++ later) ≡ length (token ∷ inside_tokens ++ later_tokens)
+    counted label token inside later inside_tokens later_tokens e f =
+        omega (arith, length-append inside later, length-append inside_tokens later_tokens)
 
 -- the tokens of patterns are those of their parts
 pub patterns_flat : (n : ℕ) (patterns : List (Span × Pattern)) → pattern_tokens n patterns ≡ flat n (pattern_nodes patterns)

@@ -51,37 +51,38 @@ use Rattle.std.specs.Prelude.{Err, None, Ok, Option, Result, Some, ◌&&◌, ◌
 -- What the code gives of the tests and of the inside of braces, by what it gives of the parts in them: each lemma is a function of
 -- src/descent/lists.rt in the words of the clauses of those that it calls. `v` is the text that is left before a part and what is written
 -- so far, and `u` the same after it. `outer` is the place of the outermost directive that is open, if one is.
--- Names: `c`, `g`: where the list is, and what is around it. `end`: what is left after a part. `at`: the place of the directive's `%`.
+-- Names: `c`, `inner`: where the list is, and what is around it. `end`: what is left after a part. `at`: the place of the directive's `%`.
 -- `rest`: what is left of the text, and its place. `z`: the parts so far. `order`: the place of a test in its braces. `negated`: whether
--- the test has a `!`. `t`: a test's value, so that `by` can go by both cases. `r`: what was read. `around`: what reads the lists in a list
--- of so many levels. `past_white`: what is left without the white space that comes next. `after`: what is left so many bytes on. `then_ok`:
--- a result and what follows it, unless it is a fault. `span`: the bytes from the place start up to the place end. `tried_given`: a test
--- that was read and what the byte after it makes of it, or its fault. `then_read`: goes on with what was read and with what is left.
+-- the test has a `!`. `t`: a test's value, so that `by` can go by both cases. `r`, `part`: what was read. `around`: what reads the lists in
+-- a list of so many levels. `past_white`: what is left without the white space that comes next. `after`: what is left so many bytes on.
+-- `then_ok`: a result and what follows it, unless it is a fault. `span`: the bytes from the place start up to the place end. `tried_given`:
+-- a test that was read and what the byte after it makes of it, or its fault. `then_read`: goes on with what was read and with what is left.
 -- `after_turn`: goes on after a turn, unless it was the last. `later_given`: writes alternatives after the first that were read, or gives
--- their fault. `first_of`: the byte that comes next, if there is one.
+-- their fault. `first_of`: the byte that comes next, if there is one. `make`: what the code makes of a part. `follow`: what it does after
+-- that.
 
 -- the lists in a list of at least one level, in a context that the code has made, are those with a level less
-pub near_is : (c g k : ListContext) → 1 ≤ c.levels → g.levels ≡ c.levels - 1 → k ≡ g → (rest : Left)
-    → (around c.levels).0 g rest ≡ (levels k.levels).0 k rest
-near_is c g k h e f rest = by c.levels h e ∙ ap (λ (x : ListContext). (levels x.levels).0 x rest) (sym f)
+pub near_is : (c inner made : ListContext) → 1 ≤ c.levels
+    → inner.levels ≡ c.levels - 1 → made ≡ inner → (rest : Left) → (around c.levels).0 inner rest ≡ (levels made.levels).0 made rest
+near_is c inner made h e f rest = by c.levels h e ∙ ap (λ (x : ListContext). (levels x.levels).0 x rest) (sym f)
   where
-    by : (level : ℕ) → 1 ≤ level → g.levels ≡ level - 1 → (around level).0 g rest ≡ (levels g.levels).0 g rest
+    by : (level : ℕ) → 1 ≤ level → inner.levels ≡ level - 1 → (around level).0 inner rest ≡ (levels inner.levels).0 inner rest
     by zero h e = absurd (omega (arith, h))
     by (suc level) h e =
-        let n : level ≡ g.levels = omega (arith, e) in
-        ap (λ (l : ℕ). (levels l).0 g rest) n
+        let n : level ≡ inner.levels = omega (arith, e) in
+        ap (λ (l : ℕ). (levels l).0 inner rest) n
 
 -- the lists in braces of a list of at least two levels, in a context that the code has made, are those with two levels less
-pub far_is : (c g k : ListContext) → 2 ≤ c.levels → g.levels ≡ c.levels - 1 - 1 → k ≡ g → (rest : Left)
-    → (around c.levels).1 g rest ≡ (levels k.levels).0 k rest
-far_is c g k h e f rest = by c.levels h e ∙ ap (λ (x : ListContext). (levels x.levels).0 x rest) (sym f)
+pub far_is : (c inner made : ListContext) → 2 ≤ c.levels
+    → inner.levels ≡ c.levels - 1 - 1 → made ≡ inner → (rest : Left) → (around c.levels).1 inner rest ≡ (levels made.levels).0 made rest
+far_is c inner made h e f rest = by c.levels h e ∙ ap (λ (x : ListContext). (levels x.levels).0 x rest) (sym f)
   where
-    by : (level : ℕ) → 2 ≤ level → g.levels ≡ level - 1 - 1 → (around level).1 g rest ≡ (levels g.levels).0 g rest
+    by : (level : ℕ) → 2 ≤ level → inner.levels ≡ level - 1 - 1 → (around level).1 inner rest ≡ (levels inner.levels).0 inner rest
     by zero h e = absurd (omega (arith, h))
     by (suc zero) h e = absurd (omega (arith, h))
     by (suc (suc level)) h e =
-        let n : level ≡ g.levels = omega (arith, e) in
-        ap (λ (l : ℕ). (levels l).0 g rest) n
+        let n : level ≡ inner.levels = omega (arith, e) in
+        ap (λ (l : ℕ). (levels l).0 inner rest) n
 
 -- a part that opens, takes this list and closes is the part with the list inside, written at once
 pub filled : (kind : TokenKind) (label : Label) (start : ℕ) (v u : Reading) (part : Open) (list : Items) (z : Parts) (end : Left)
@@ -100,13 +101,14 @@ module _ (c : ListContext) (at : ℕ) (outer : Option ℕ) where
   -- tests
 
   -- a test and what follows it, by what the byte after the test decides
-  tried_then : {Y Z : Type 0} (order : Order) (so_far : Option Choice) (v : Reading) (f : Y → Left → Z) (goes : d.After → Left → Read Y)
-      (k : Next × Reading → Result Z SyntaxFault) (r : Read d.Tried)
-      → ((x : d.After) (end : Left) → given outer f (goes x end) ≡ then_ok (after_given so_far (at_rest end v) x) k)
-      → given outer f (then_read r (λ t end. goes (d.decided at order t) end)) ≡ then_ok (tried_given outer at order so_far v r) k
-  tried_then order so_far v f goes k (Took t end) e = e (d.decided at order t) end
-  tried_then order so_far v f goes k (Ends n) e = refl
-  tried_then order so_far v f goes k (Stops n fault) e = refl
+  tried_then : {Y Z : Type 0} (order : Order) (so_far : Option Choice) (v : Reading)
+      (make : Y → Left → Z) (goes : d.After → Left → Read Y) (follow : Next × Reading → Result Z SyntaxFault) (part : Read d.Tried)
+      → ((x : d.After) (end : Left) → given outer make (goes x end) ≡ then_ok (after_given so_far (at_rest end v) x) follow)
+      → given outer make (then_read part (λ t end. goes (d.decided at order t) end))
+      ≡ then_ok (tried_given outer at order so_far v part) follow
+  tried_then order so_far v make goes follow (Took t end) e = e (d.decided at order t) end
+  tried_then order so_far v make goes follow (Ends n) e = refl
+  tried_then order so_far v make goes follow (Stops n fault) e = refl
 
   -- a test after a bar, and what follows it
   abbrev pub more_next : Next × Reading → Result (Choice × Reading) SyntaxFault
@@ -205,11 +207,11 @@ module _ (c : ListContext) (at : ℕ) (outer : Option ℕ) where
       ≡ then_ok (x_from (alternative_on v.parts tests colon.at).0
       (record { rest = after 1 colon; parts = (alternative_on v.parts tests colon.at).1 })) x_next
   alternative_by colon tests v has = given_then outer _ _ _ x_next (d.x_of (around c.levels).0 c at tests colon)
-      (λ x end. turned x end (x.1 == ascii.closing_brace) ∙ ap (λ (w : Reading). x_next (x.1, w))
+      (λ x end. turned x end (x.1 == ascii.closing_brace) ∙ ap (λ (written : Reading). x_next (x.1, written))
       (sym (x_wrote colon end tests v.parts (all_starred tests) x whole whole_is)))
       ∙ ap (λ k. then_ok (x_given outer at whole.0 (record { rest = after 1 colon; parts = whole.1 }) ((around c.levels).0 k (after 1
       colon)))
-      x_next) (context tests has ∙ ap (λ (w : Choice × Parts). owner_when w.0.starred (in_braces c)) (sym whole_is))
+      x_next) (context tests has ∙ ap (λ (written : Choice × Parts). owner_when written.0.starred (in_braces c)) (sym whole_is))
     where
       whole : Choice × Parts
       whole = alternative_on v.parts tests colon.at
@@ -238,10 +240,10 @@ module _ (c : ListContext) (at : ℕ) (outer : Option ℕ) where
       context (test s negated a ts) h = refl
 
       -- by the byte after X: the braces end, or another alternative follows
-      turned : (x : Items × ℕ) (end : Left) (t : Bool)
-          → later_given outer v (then_read (if t then Took (Last (alternative colon.at tests x.0 no_choice)) (after 1 end)
+      turned : (x : Items × ℕ) (end : Left) (closes : Bool)
+          → later_given outer v (then_read (if closes then Took (Last (alternative colon.at tests x.0 no_choice)) (after 1 end)
           else Took (More (λ others. alternative colon.at tests x.0 others)) (after 1 end)) (after_turn laters))
-          ≡ (if t then Ok (with_x colon.at tests x.0 end v.parts)
+          ≡ (if closes then Ok (with_x colon.at tests x.0 end v.parts)
           else later_given outer (with_x colon.at tests x.0 end v.parts) (laters (after 1 end)))
       turned x end true = refl
       turned x end false = given_mapped outer _ (λ others. alternative colon.at tests x.0 others) (laters (after 1 end))
@@ -313,8 +315,8 @@ module _ (c : ListContext) (at : ℕ) (outer : Option ℕ) where
         else Stops end.at (EmptyTest at)) (after_turn laters))
         ∙ given_then outer _ _ _ default_next (d.x_of (around c.levels).0 c at no_test mid) (λ x end. turned x end (x.1 ==
         ascii.closing_brace)
-        ∙ ap (λ (w : Reading). default_next (x.1, w)) (sym (x_wrote mid end no_test v.parts false x (y.0, y.1.parts)
-        (ap (λ (z : Parts). (y.0, z)) (sym (wrote_none y.1.parts)))))))
+        ∙ ap (λ (written : Reading). default_next (x.1, written)) (sym (x_wrote mid end no_test v.parts false x (y.0, y.1.parts)
+        (ap (λ (parts : Parts). (y.0, parts)) (sym (wrote_none y.1.parts)))))))
         ∙ ap (λ (x : Choice × Reading). then_ok (x_from x.0 x.1) default_next) (rw f at is)
       where
         -- Plan: what the turn reads is the X of the default (`mid`, `y`), and then by the byte behind it (`turned`).
@@ -324,10 +326,10 @@ module _ (c : ListContext) (at : ℕ) (outer : Option ℕ) where
         y : Choice × Reading
         y = default_here (at_rest mid v)
 
-        turned : (x : Items × ℕ) (end : Left) (t : Bool)
-            → later_given outer v (then_read (if t then Took (Last (alternative mid.at no_test x.0 no_choice)) (after 1 end)
+        turned : (x : Items × ℕ) (end : Left) (closes : Bool)
+            → later_given outer v (then_read (if closes then Took (Last (alternative mid.at no_test x.0 no_choice)) (after 1 end)
             else Stops end.at (EmptyTest at)) (after_turn laters))
-            ≡ (if t then Ok (with_x mid.at no_test x.0 end v.parts) else Err (EmptyTest at))
+            ≡ (if closes then Ok (with_x mid.at no_test x.0 end v.parts) else Err (EmptyTest at))
         turned x end true = refl
         turned x end false = refl
 
@@ -385,7 +387,7 @@ braces_wrote kind at v u w part brace inside end e f =
     ∙ by kind brace
   where
     closes : TokenKind → Open → Reading → Reading
-    closes k o x = closed_here k o x.rest.at x
+    closes closing o x = closed_here closing o x.rest.at x
 
     inner : Parts
     inner = opened kinds.Choose no_label at v.parts
@@ -394,11 +396,11 @@ braces_wrote kind at v u w part brace inside end e f =
     first = record { token = length v.parts.tokens; start = at }
 
     -- the part of the braces, with the parts inside it, closed
-    whole : (k : TokenKind) (z : Parts) (nodes : Nodes) (holds : Bool) → z ≡ wrote nodes holds inner
-        → closes k first (record { rest = end; parts = z })
-        ≡ record { rest = end; parts = wrote (node k no_label (span at end.at) nodes no_node) holds v.parts }
-    whole k z nodes holds g = ap (λ y. record { rest = end; parts = y }) (ap (λ y. closed_at k first end.at y) g
-        ∙ closed_is kinds.Choose k no_label at end.at nodes holds v.parts)
+    whole : (closing : TokenKind) (parts : Parts) (nodes : Nodes) (holds : Bool) → parts ≡ wrote nodes holds inner
+        → closes closing first (record { rest = end; parts = parts })
+        ≡ record { rest = end; parts = wrote (node closing no_label (span at end.at) nodes no_node) holds v.parts }
+    whole closing parts nodes holds g = ap (λ y. record { rest = end; parts = y }) (ap (λ y. closed_at closing first end.at y) g
+        ∙ closed_is kinds.Choose closing no_label at end.at nodes holds v.parts)
 
     by : (kind : BraceKind) (brace : Brace) → closes (brace_kind kind (brace_on inner brace end).0) first (brace_on inner brace end).1
         ≡ item_on at v.parts (braced kind brace) end
@@ -496,35 +498,35 @@ module _ (outer : Option ℕ) (at : ℕ) (order : Order) (so_far : Option Choice
       pub test_ends : (choice : Choice) (w : Reading)
           → result_given outer so_far x.start x.negated u (d.result (around c.levels).1 c at u.rest.at (after 1 u.rest)) ≡ Ok (choice, w)
           → (last : Left) → last ≡ past_white w.rest
-          → tried_given outer at order so_far v (d.one_test (around c.levels).1 c at order v.rest)
-          ≡ by_byte (first_of last.bytes) (Err (Unclosed (open_at outer at))) (λ b.
-          then_ok (result_after at choice b) (λ next. Ok (next, at_rest (after 1 last) w)))
+          → tried_given outer at order so_far v (d.one_test (around c.levels).1 c at order v.rest) ≡ by_byte (first_of last.bytes)
+          (Err (Unclosed (open_at outer at))) (λ b. then_ok (result_after at choice b) (λ next. Ok (next, at_rest (after 1 last) w)))
       test_ends choice w h last f =
           let r = taken outer (λ o rest. result_on so_far x.start x.negated u.parts o.as_test rest)
           (d.result (around c.levels).1 c at u.rest.at (after 1 u.rest)) h in
           test_result ∙ rw (r.is, f) (by r.part r.rest (rw r.is at (result_has c some at u.rest.at (after 1 u.rest))) r.on)
         where
           ended : d.Operand → Left → ℕ → d.Tried
-          ended o end b = record { place = span x.start end.at; negated = x.negated; operand = o; byte = b }
+          ended operand end b = record { place = span x.start end.at; negated = x.negated; operand = operand; byte = b }
 
           -- a function's result is no pattern
-          never : (end : Left) (t : Bool) (f : Span × Pattern → d.After)
-              → after_given so_far (at_rest (past_white end) u) (d.as_pattern at (span x.start end.at) t None f) ≡ Err (BadDirective at)
-          never end true f = refl
-          never end false f = refl
+          never : (end : Left) (emits : Bool) (follow : Span × Pattern → d.After) → after_given so_far (at_rest (past_white end) u)
+              (d.as_pattern at (span x.start end.at) emits None follow) ≡ Err (BadDirective at)
+          never end true follow = refl
+          never end false follow = refl
 
           -- by the byte behind it: what ends a test, or is refused
-          byte : (y : Choice × Parts) (name : List ℕ) (items : Items) (end : Left) (b : ℕ) (p q s t : Bool)
-              → y ≡ added so_far u.parts (span x.start end.at) x.negated (HasResult name items)
-              → (b == ascii.closing_brace) ≡ p → (b == ascii.ampersand) ≡ q → (b == ascii.colon) ≡ s → (b == ascii.bar) ≡ t
+          byte : (made : Choice × Parts) (name : List ℕ) (items : Items) (end : Left) (b : ℕ) (braced joined asked barred : Bool)
+              → made ≡ added so_far u.parts (span x.start end.at) x.negated (HasResult name items) → (b == ascii.closing_brace) ≡ braced
+              → (b == ascii.ampersand) ≡ joined → (b == ascii.colon) ≡ asked → (b == ascii.bar) ≡ barred
               → after_given so_far (at_rest (past_white end) u) (d.decided at order (ended (d.result_operand name items) end b))
-              ≡ then_ok (result_after at y.0 b) (λ next. Ok (next, record { rest = after 1 (past_white end); parts = y.1 }))
-          byte y name items end b true q s t z e f g h = rw (z, same b ascii.closing_brace e) (never end (may_emit order x.negated) d.Emits)
-          byte y name items end b false true s t z e f g h =
+              ≡ then_ok (result_after at made.0 b) (λ next. Ok (next, record { rest = after 1 (past_white end); parts = made.1 }))
+          byte made name items end b true joined asked barred z e f g h =
+              rw (z, same b ascii.closing_brace e) (never end (may_emit order x.negated) d.Emits)
+          byte made name items end b false true asked barred z e f g h =
               rw (z, same b ascii.ampersand f) (never end (may_emit order x.negated) d.Joins)
-          byte y name items end b false false true t z e f g h = rw (z, same b ascii.colon g) refl
-          byte y name items end b false false false true z e f g h = rw (z, same b ascii.bar h) refl
-          byte y name items end b false false false false z e f g h = rw (z, e, f, g, h) refl
+          byte made name items end b false false true barred z e f g h = rw (z, same b ascii.colon g) refl
+          byte made name items end b false false false true z e f g h = rw (z, same b ascii.bar h) refl
+          byte made name items end b false false false false z e f g h = rw (z, e, f, g, h) refl
 
           -- by whether a byte is left behind it
           bytes : (name : List ℕ) (items : Items) (end : Left) (bs : List ℕ)
@@ -543,9 +545,9 @@ module _ (outer : Option ℕ) (at : ℕ) (order : Order) (so_far : Option Choice
               byte (added so_far u.parts (span x.start end.at) x.negated (HasResult name items)) name items end b
               (b == ascii.closing_brace) (b == ascii.ampersand) (b == ascii.colon) (b == ascii.bar) refl refl refl refl refl
 
-          by : (o : d.Operand) (end : Left) → (name : List ℕ) × ((items : Items) × (o ≡ d.result_operand name items))
-              → result_on so_far x.start x.negated u.parts o.as_test end ≡ (choice, w)
-              → tried_given outer at order so_far u (d.ended at (span x.start end.at) x.negated o (past_white end)) ≡ result_next (
+          by : (operand : d.Operand) (end : Left) → (name : List ℕ) × ((items : Items) × (operand ≡ d.result_operand name items))
+              → result_on so_far x.start x.negated u.parts operand.as_test end ≡ (choice, w)
+              → tried_given outer at order so_far u (d.ended at (span x.start end.at) x.negated operand (past_white end)) ≡ result_next (
                 choice,
                 w,
               )
@@ -566,7 +568,7 @@ pub patterns_turn : (outer : Option ℕ) (at : ℕ) (v : Reading) (rest : Left) 
     ≡ patterns_given outer u (then_read (d.pattern_turn at (span start end, p) last) (after_turn (d.patterns at)))
 patterns_turn outer at v rest e start f p u is end g last h =
     let n = value_taken outer (at_rest rest v) (d.pattern_at at rest) is in
-    ap (λ r. patterns_given outer v r) (patterns_by at v.rest
-    ∙ ap (λ (r : Left). then_read (d.pattern_from at r) (after_turn (d.patterns at))) (sym e))
-    ∙ rw (f, g, h, n.0) (ap (λ (z : Parts). given outer (patterns_on z)
+    ap (λ mid. patterns_given outer v mid) (patterns_by at v.rest
+    ∙ ap (λ (mid : Left). then_read (d.pattern_from at mid) (after_turn (d.patterns at))) (sym e))
+    ∙ rw (f, g, h, n.0) (ap (λ (parts : Parts). given outer (patterns_on parts)
     (then_read (d.pattern_turn at (span rest.at u.rest.at, p) (past_white u.rest)) (after_turn (d.patterns at)))) n.1)

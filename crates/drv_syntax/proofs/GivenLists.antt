@@ -52,7 +52,7 @@ use Rattle.std.specs.Prelude.{None, Ok, Option, Result, Some, not, ◌==◌}
 -- allowed would hold. `then_ok`: a result and what follows it, unless it is a fault. `Has`: what was read and what is left have the
 -- property P, if a part was read. `Takes`: after a turn but the last fewer than n bytes are left. `item_ended`: writes an item, and gives
 -- what the list ends with after it. `item_given`: writes an item that begins at this place, or gives its fault. `listed_given`: writes the
--- items of a list, or gives its fault.
+-- items of a list, or gives its fault. `part`: what was read.
 
 -- rounds of loops: after what the code reads in one, fewer bytes of the text are left
 
@@ -96,8 +96,8 @@ module _ (c : ListContext) (at : ℕ) (outer : Option ℕ) where
       NoBar (nexts.Bars next) = ⊥
 
       -- Plan: by what follows the test; only after a bar does the code go on with tests.
-      decides : (x : d.After) (end : Left) → Has (Takes (length v.rest.bytes)) (d.test_turn at x end)
-          → after_given (Some choice) (at_rest end v) x ≡ Ok (nexts.Bars other, u) → suc (length u.rest.bytes) ≤ length v.rest.bytes
+      decides : (follow : d.After) (end : Left) → Has (Takes (length v.rest.bytes)) (d.test_turn at follow end)
+          → after_given (Some choice) (at_rest end v) follow ≡ Ok (nexts.Bars other, u) → suc (length u.rest.bytes) ≤ length v.rest.bytes
       decides (d.Emits p) end k e = absurd (subst (λ (y : Next × Reading). NoBar y.0) (ok_same e) tt)
       decides (d.Joins p) end k e = absurd (subst (λ (y : Next × Reading). NoBar y.0) (ok_same e) tt)
       decides (d.Asks s negated a) end k e = absurd (subst (λ (y : Next × Reading). NoBar y.0) (ok_same e) tt)
@@ -105,9 +105,8 @@ module _ (c : ListContext) (at : ℕ) (outer : Option ℕ) where
           subst (λ (y : Next × Reading). suc (length y.1.rest.bytes) ≤ length v.rest.bytes) (ok_same e) k
       decides (d.Fails fault) end k e = absurd cc
 
-      by : (r : Read d.Tried)
-          → Has (Takes (length v.rest.bytes)) (then_read r (λ t end. d.test_turn at (d.decided at AtBar t) end))
-          → tried_given outer at AtBar (Some choice) v r ≡ Ok (nexts.Bars other, u) → suc (length u.rest.bytes) ≤ length v.rest.bytes
+      by : (part : Read d.Tried) → Has (Takes (length v.rest.bytes)) (then_read part (λ t end. d.test_turn at (d.decided at AtBar t) end))
+          → tried_given outer at AtBar (Some choice) v part ≡ Ok (nexts.Bars other, u) → suc (length u.rest.bytes) ≤ length v.rest.bytes
       by (Took t end) k e = decides (d.decided at AtBar t) end k e
       by (Ends n) k e = absurd cc
       by (Stops n fault) k e = absurd cc
@@ -333,8 +332,7 @@ module _ (c : ListContext) (outer : Option ℕ) where
     turn_last e = plains_go ∙ item_by tail v ∙ rw e refl
 
     -- at the byte that ends it
-    pub turn_ends : (b : ℕ) → first_of v.rest.bytes ≡ Some b → d.ends_list c.kind b ≡ true
-        → list_from (before, w) ≡ Ok (with_end tail b, v)
+    pub turn_ends : (b : ℕ) → first_of v.rest.bytes ≡ Some b → d.ends_list c.kind b ≡ true → list_from (before, w) ≡ Ok (with_end tail b, v)
     turn_ends b e g = plains_go ∙ item_by tail v ∙ rw (e, g) refl
 
     -- after a directive the list goes on, and ends here if no more follows
@@ -344,8 +342,7 @@ module _ (c : ListContext) (outer : Option ℕ) where
         (by (d.directive (around c.levels).0 (around c.levels).1 c v.rest.at (after 1 v.rest))
         (percent_dark c v.rest))
       where
-        by : (r : Read Item) → Has (λ one end. is_white_item one ≡ false) r
-            → then_ok (given outer (item_ended tail v) r) list_from
+        by : (r : Read Item) → Has (λ one end. is_white_item one ≡ false) r → then_ok (given outer (item_ended tail v) r) list_from
             ≡ then_ok (item_given outer v.rest.at v r) (λ u. list_from (tail_at u, u))
         by (Took one end) h = rw h refl
         by (Ends n) h = refl

@@ -103,12 +103,13 @@ module _ (size : ℕ) where
     where
       from : {f : ℕ → Bool} {t word q : List ℕ} (n : ℕ) → IsQuoted f t word q → n + length t ≡ size
           → quoted_at f n t ≡ record { word = Some word; rest = here q }
-      from n s.quoted_end h = let e : n ≡ size - 0 = omega (arith, h) in ap (λ (i : ℕ). d.run_ends i []) e
+      from n s.quoted_end h = let e : n ≡ size - 0 = omega (arith, h) in ap (λ (place : ℕ). d.run_ends place []) e
       from {f} n (s.quoted_stop {b} {rest} e g) h =
-          let i : n ≡ size - length (b ∷ rest) = omega (arith, h) in none_quoted f n rest e g ∙ ap (λ (i : ℕ). d.run_ends i (b ∷ rest)) i
-      from n (s.quoted_escape {b} i) h = ap (λ (r : Run). with_byte b r) (from (n + 2) i (omega (arith, h)))
+          let i : n ≡ size - length (b ∷ rest) = omega (arith, h) in
+          none_quoted f n rest e g ∙ ap (λ (place : ℕ). d.run_ends place (b ∷ rest)) i
+      from n (s.quoted_escape {b} i) h = ap (λ (run : Run). with_byte b run) (from (n + 2) i (omega (arith, h)))
       from {f} n (s.quoted_byte {b} {text} e g i) h =
-          byte_quoted f n text e g ∙ ap (λ (r : Run). with_byte b r) (from (n + 1) i (omega (arith, h)))
+          byte_quoted f n text e g ∙ ap (λ (run : Run). with_byte b run) (from (n + 1) i (omega (arith, h)))
 
   -- a pattern by the grammar is read
   pub pattern_is : {t q : List ℕ} {p : Pattern} (at : ℕ) → IsPattern t p q → length t ≤ size → d.pattern_at at (here t) ≡ Took p (here q)

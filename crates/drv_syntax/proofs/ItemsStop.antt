@@ -45,8 +45,9 @@ use Rattle.std.specs.Prelude.{◌-◌, ◌==◌, None, nat_le}
 -- place, with a ! or without. `is_of`: the byte is one of these. `is_white`: a space, a tab or a newline. `AreSpaces`: the text begins with
 -- white space, or with none. `Loops`: a loop from this rest on gives r, with any number of turns that is enough. `in_braces`: the context
 -- in the braces of a list, before the colon of an alternative. `differs`: true is not false, so a case in which they are equal can't arise.
--- `IsSign`: a test's ! and the white space after it, or none. Numbers are bytes: 10 is a newline, 32 a blank, 37 %, 38 &, 40 (, 42 *, 44 a
--- comma, 46 a period, 58 :, 92 a backslash, 124 |, 125 }.
+-- `IsSign`: a test's ! and the white space after it, or none. `unspaced`, `asking`, `behind`: the text without the white space before it,
+-- from what a test asks on, and after that. `own`: the place of a function's own %. Numbers are bytes: 10 is a newline, 32 a blank, 37 %,
+-- 38 &, 40 (, 42 *, 44 a comma, 46 a period, 58 :, 92 a backslash, 124 |, 125 }.
 
 -- a byte that f doesn't allow differs from one that f allows
 pub unlike : (f : ℕ → Bool) (b x : ℕ) → f b ≡ false → f x ≡ true → (b == x) ≡ false
@@ -145,12 +146,12 @@ module _ (k : ℕ) (q : List ℕ) where
   function_stops n (r.not_a_name name is e) h = rw (function_at n name 40 is (bracket_ends name) h, e) refl
 
   -- in a call's arguments, Descent stops at the byte that doesn't fit
-  pub call_stops : {X : Type 0} (make : List ℕ → Items → X) (lists : Lists) (c : ListContext) (at n : ℕ) (name : List ℕ)
-      {t u : List ℕ} {due : Due} {fault : SyntaxFault} → ListStops lists (in_arguments c) → is_function name ≡ true
-      → Reaches whole (in_arguments c) t due u → StopsAt due u fault → length (name ++ 40 ∷ t) ≤ whole
-      → d.call_as make lists c at n (here whole (name ++ 40 ∷ t)) ≡ Stops k fault
-  call_stops make lists c at n name {t} {u} {due} {fault} stops is o f h =
-      rw (call_on whole make lists c at n name t is h, stops t u due fault o f (omega (arith, length-append name (40 ∷ t), h))) refl
+  pub call_stops : {X : Type 0} (make : List ℕ → Items → X)
+      (lists : Lists) (c : ListContext) (at own : ℕ) (name : List ℕ) {t last : List ℕ} {due : Due} {fault : SyntaxFault}
+      → ListStops lists (in_arguments c) → is_function name ≡ true → Reaches whole (in_arguments c) t due last → StopsAt due last fault
+      → length (name ++ 40 ∷ t) ≤ whole → d.call_as make lists c at own (here whole (name ++ 40 ∷ t)) ≡ Stops k fault
+  call_stops make lists c at own name {t} {last} {due} {fault} stops is o f h =
+      rw (call_on whole make lists c at own name t is h, stops t last due fault o f (omega (arith, length-append name (40 ∷ t), h))) refl
 
   -- in patterns after an ampersand, Descent stops at the byte that doesn't fit
   pub patterns_stop : {at : ℕ} {due : Due} {t u : List ℕ} {fault : SyntaxFault} → ReachesPatterns at t due u → StopsAt due u fault
@@ -241,9 +242,10 @@ module _ (k : ℕ) (q : List ℕ) where
         bad : (place : Span) → d.decided at AtFront (tried at AtFront place false (d.starred_operand mark word) b) ≡ Fails (BadDirective at)
         bad place = rw (unlike (is_of ends_pattern) b 125 x refl, unlike (is_of ends_pattern) b 38 x refl) (by (b == 58) (b == 124))
           where
-            by : (x y : Bool) → (if x then Fails (BadDirective at) else if y then Fails (BadDirective at) else Fails (BadDirective at))
+            by : (colon bar : Bool)
+                → (if colon then Fails (BadDirective at) else if bar then Fails (BadDirective at) else Fails (BadDirective at))
                 ≡ Fails (BadDirective at)
-            by true y = refl
+            by true bar = refl
             by false true = refl
             by false false = refl
     emits_stop (r.after_mark {mark = mark} sp m i) (stops_at (r.mark_alone {b = b} w e)) h =
@@ -253,11 +255,11 @@ module _ (k : ℕ) (q : List ℕ) where
     emits_stop {t = t} {fault = fault} (r.past_mark {mark = mark} {b = b} {u = u} sp m white z) f h = by f z
       where
         -- the same for a byte after white space
-        past : {fault : SyntaxFault} (x : ℕ) → AreSpaces u (x ∷ q) → is_white x ≡ false
-            → ((place : Span) → d.decided at AtFront (tried at AtFront place false (d.bare_operand mark) x) ≡ Fails fault)
+        past : {fault : SyntaxFault} (byte : ℕ) → AreSpaces u (byte ∷ q) → is_white byte ≡ false
+            → ((place : Span) → d.decided at AtFront (tried at AtFront place false (d.bare_operand mark) byte) ≡ Fails fault)
             → d.form deep c at AtFront (here whole t) ≡ Stops k fault
-        past x z w g =
-            let n : is_word b ≡ false = each (λ x. is_word x ≡ false) (32 ∷ 9 ∷ 10 ∷ []) b white (refl, (refl, (refl, tt))) in
+        past byte z w g =
+            let n : is_word b ≡ false = each (λ byte. is_word byte ≡ false) (32 ∷ 9 ∷ 10 ∷ []) b white (refl, (refl, (refl, tt))) in
             let e : d.ends_bare b ≡ true = rw (other is_white b 125 white refl, other is_white b 38 white refl, white) refl in
             let l : length (mark ∷ b ∷ u) ≤ whole = omega (arith, spaces_shorter sp, h) in
             (tested_stops AtFront sp (mark_sign m) (mark_white m) h (bare_is whole at deep c mark b u m
@@ -308,9 +310,8 @@ module _ (k : ℕ) (q : List ℕ) where
       word_stops mark b e f g = rw (quoted_is whole (s.quoted_stop {rest = q} f g) (omega arith), e, last_at) refl
 
       -- a star after a mark and its word is refused where the braces can't be patterns
-      star_stops : {emits : Bool} {u word : List ℕ} {x : ℕ} (mark : ℕ) → emits ≡ false → is_mark mark ≡ true
-          → IsQuoted is_word u (x ∷ word) (42 ∷ q) → suc (length u) ≤ whole
-          → d.asked deep c at emits (here whole (mark ∷ u)) ≡ Stops k (BadDirective at)
+      star_stops : {emits : Bool} {u word : List ℕ} {x : ℕ} (mark : ℕ) → emits ≡ false → is_mark mark ≡ true → IsQuoted is_word u (x ∷ word)
+          (42 ∷ q) → suc (length u) ≤ whole → d.asked deep c at emits (here whole (mark ∷ u)) ≡ Stops k (BadDirective at)
       star_stops {emits} {u} mark e m i h =
           rw (mark_on whole deep c at emits mark u m h, quoted_is whole i (omega (arith, h)), e, last_at) refl
 
@@ -324,19 +325,20 @@ module _ (k : ℕ) (q : List ℕ) where
           by false e = inl (s.at_byte e)
 
       -- after a test by the grammar that can be no pattern, Descent stops at a byte that ends no test
-      asked_ends : {order : Order} {t u v x : List ℕ} {negated : Bool} {a : Asked} {b : ℕ} → AreSpaces t u → IsSign u negated v
-          → may_emit order negated ≡ false → IsAsked whole (in_braces c) v a x → AreSpaces x (b ∷ q) → is_white b ≡ false
-          → is_of ends_test b ≡ false → length t ≤ whole → length v ≤ whole → Stopped order t (BadDirective at)
-      asked_ends {order} {t} {u} {v} {x} {negated} {a} {b} sp sign e i z w y h l =
+      asked_ends : {order : Order} {t unspaced asking x : List ℕ} {negated : Bool} {asked : Asked} {b : ℕ}
+          → AreSpaces t unspaced → IsSign unspaced negated asking
+          → may_emit order negated ≡ false → IsAsked whole (in_braces c) asking asked x → AreSpaces x (b ∷ q)
+          → is_white b ≡ false → is_of ends_test b ≡ false → length t ≤ whole → length asking ≤ whole → Stopped order t (BadDirective at)
+      asked_ends {order} {t} {unspaced} {asking} {x} {negated} {asked} {b} sp sign e i z w y h l =
           by sign i (star_or z) (omega (arith, asked_shorter i, l)) l
         where
           -- Plan: by what the test asks.
-          by : {v : List ℕ} {a : Asked} → IsSign u negated v → IsAsked whole (in_braces c) v a x
-              → s.Stops (λ x. x == ascii.asterisk) x ⊎ (x ≡ 42 ∷ q) → length x ≤ whole → length v ≤ whole → Stopped order t
-              (BadDirective at)
-          by {a = a} sign i (inl f) n l = tested_stops order sp sign (asked_head no_white refl i) h
+          by : {asking : List ℕ} {asked : Asked} → IsSign unspaced negated asking → IsAsked whole (in_braces c) asking asked x
+              → s.Stops (λ x. x == ascii.asterisk) x ⊎ (x ≡ 42 ∷ q) → length x ≤ whole → length asking ≤ whole
+              → Stopped order t (BadDirective at)
+          by {asked = asked} sign i (inl f) n l = tested_stops order sp sign (asked_head no_white refl i) h
               (asked_is whole deep c at deeper (may_emit order negated) i f l) z w
-              (λ place. no_pattern_fits at order place negated (asked_operand a) b y (inl e)) n
+              (λ place. no_pattern_fits at order place negated (asked_operand asked) b y (inl e)) n
           by sign (s.switch {p = p} g i) (inr f) n l = tested_stops order sp sign (pattern_head no_white i) h
               (switch_is whole deep c at (may_emit order negated) g i l) z w
               (λ place. no_pattern_fits at order place negated (d.switch_operand p) b y (inl e)) n
@@ -368,9 +370,8 @@ module _ (k : ℕ) (q : List ℕ) where
           let l : length v ≤ whole = omega (arith, spaces_shorter sp, sign_shorter sign, h) in
           by sign i l (omega (arith, asked_shorter i, l))
         where
-          by : {v : List ℕ} {name : List ℕ} {items : Items} → IsSign u negated v
-              → IsAsked whole (in_braces c) v (HasResult name items) mid → length v ≤ whole → length mid ≤ whole
-              → Stopped order t (BadDirective at)
+          by : {v : List ℕ} {name : List ℕ} {items : Items} → IsSign u negated v → IsAsked whole (in_braces c) v (HasResult name items) mid
+              → length v ≤ whole → length mid ≤ whole → Stopped order t (BadDirective at)
           by {name = name} {items} sign (s.result i) l n = tested_stops order sp sign (s.at_byte refl) h
               (result_is whole deep c at deeper (may_emit order negated) i l) z w
               (λ place. no_pattern_fits at order place negated (d.result_operand name items) b x (inr refl)) n
@@ -391,26 +392,27 @@ module _ (k : ℕ) (q : List ℕ) where
 -- byte, and q is what follows it (TestsStop).
 
 -- a run is counted as a run of at least its bytes, whatever follows it
-run_counted : {f : ℕ → Bool} {t w u : List ℕ} (q : List ℕ) → IsRun f t w u → length w ≤ prefix_len f (t ++ q)
+run_counted : {f : ℕ → Bool} {t run u : List ℕ} (q : List ℕ) → IsRun f t run u → length run ≤ prefix_len f (t ++ q)
 run_counted q (s.run_ends h) = omega arith
 run_counted q (s.run_goes e i) = rw e (omega (arith, run_counted q i))
 
 -- a test of an alternative after the first that leads to a byte that doesn't fit begins with neither white space nor a colon
-no_colon_first : (k : ℕ) (q : List ℕ) {at : ℕ} {c : ListContext} {t u : List ℕ} {due : Due} {fault : SyntaxFault}
-    → ReachesTests (whole k q) c at AtNext t due u → StopsAt k q due u fault
-    → (v : List ℕ) × AreSpaces t v × s.Stops is_white v × s.Stops (λ b. b == ascii.colon) v
-no_colon_first k q {at} {c} (r.in_test {u = u} sp sign o) f = let m = by sign o f in (u, sp, m.0, m.1)
+no_colon_first : (k : ℕ) (q : List ℕ) {at : ℕ} {c : ListContext} {t last : List ℕ} {due : Due} {fault : SyntaxFault}
+    → ReachesTests (whole k q) c at AtNext t due last → StopsAt k q due last fault
+    → (unspaced : List ℕ) × AreSpaces t unspaced × s.Stops is_white unspaced × s.Stops (λ b. b == ascii.colon) unspaced
+no_colon_first k q {at} {c} (r.in_test {u = unspaced} sp sign o) f = let m = by sign o f in (unspaced, sp, m.0, m.1)
   where
     -- Plan: by the sign of the test (`by`); a test that is due begins with no colon (`due_colon`).
-    due_colon : {u : List ℕ} {fault : SyntaxFault} → StopsAt k q (r.ATest c at AtNext false) u fault → s.Stops (λ b. b == ascii.colon) u
+    due_colon : {last : List ℕ} {fault : SyntaxFault}
+        → StopsAt k q (r.ATest c at AtNext false) last fault → s.Stops (λ b. b == ascii.colon) last
     due_colon (stops_at (r.test_within_all p e)) = s.at_byte refl
     due_colon (stops_at (r.test_no_function p e h)) = s.at_byte refl
     due_colon (stops_at (r.no_test_there h w e f)) = s.at_byte f
     due_colon (stops_at (r.no_call p e f)) = s.at_byte refl
 
-    by : {u v w : List ℕ} {negated : Bool} {due : Due} {fault : SyntaxFault} → IsSign u negated v
-        → ReachesAsked (whole k q) c at AtNext negated v due w → StopsAt k q due w fault
-        → s.Stops is_white u × s.Stops (λ b. b == ascii.colon) u
+    by : {unspaced asking last : List ℕ} {negated : Bool} {due : Due} {fault : SyntaxFault}
+        → IsSign unspaced negated asking → ReachesAsked (whole k q) c at AtNext negated asking due last
+        → StopsAt k q due last fault → s.Stops is_white unspaced × s.Stops (λ b. b == ascii.colon) unspaced
     by (s.not_sign i) o f = (s.at_byte refl, s.at_byte refl)
     by (s.plain_sign x) r.asked_due f = (due_white k q f, due_colon f)
     by (s.plain_sign x) (r.word_due {mark = mark} e m) f =
@@ -418,8 +420,8 @@ no_colon_first k q {at} {c} (r.in_test {u = u} sp sign o) f = let m = by sign o 
     by (s.plain_sign x) (r.in_function name e is o) f = (s.at_byte refl, s.at_byte refl)
     by (s.plain_sign x) (r.test_ends e i z) f = (asked_head no_white refl i, asked_head no_colon refl i)
     by (s.plain_sign x) (r.call_ends i z) f = (asked_head no_white refl i, asked_head no_colon refl i)
-no_colon_first k q (r.after_bar {u = u} sp sign i z o) f =
-    (u, sp, sign_head sign (asked_head no_white refl i) refl, sign_head sign (asked_head no_colon refl i) refl)
+no_colon_first k q (r.after_bar {u = unspaced} sp sign i z o) f =
+    (unspaced, sp, sign_head sign (asked_head no_white refl i) refl, sign_head sign (asked_head no_colon refl i) refl)
 
 module _ (k : ℕ) (q : List ℕ) (lists deep : Lists) (c : ListContext) (known : Inner (whole k q) lists deep c)
     (arguments_stop : (c.levels == 0) ≡ false → ListStops k q lists (in_arguments c))
@@ -442,9 +444,8 @@ module _ (k : ℕ) (q : List ℕ) (lists deep : Lists) (c : ListContext) (known 
 
     mutual
       -- in alternatives after the first, Descent stops at the byte that doesn't fit
-      later_stop : {t u : List ℕ} {due : Due} {fault : SyntaxFault} → StopsAt k q due u fault
-          → ReachesLater size (in_braces c) at t due u → length t ≤ size → Loops (later_turn size lists deep c at) (here size t)
-          (Stops k fault)
+      later_stop : {t u : List ℕ} {due : Due} {fault : SyntaxFault} → StopsAt k q due u fault → ReachesLater size (in_braces c) at t due u
+          → length t ≤ size → Loops (later_turn size lists deep c at) (here size t) (Stops k fault)
       later_stop f (r.after_default {rest = rest} sp l) h =
           let n = no_more f in let place : size - suc (length rest) ≡ k = omega (arith, n.1) in loop_ends (λ goes. rw (
             default_on size lists deep c at sp h,
@@ -487,8 +488,8 @@ module _ (k : ℕ) (q : List ℕ) (lists deep : Lists) (c : ListContext) (known 
   directive_stop at n (r.in_marked {text = u} e o) f h = rw (e, one size u h, brace_stop at e o f (omega (arith, h))) refl
 
   -- after the byte of a directive that breaks off, Descent stops at the byte that doesn't fit
-  breaks_stop : {f : Directive} {last : List ℕ} (at n : ℕ) → Breaks c f last → length last ≤ k + 1
-      → d.directive_by lists deep c at n f (here size (last ++ q)) ≡ Stops k (BadDirective at)
+  breaks_stop : {directive : Directive} {last : List ℕ} (at n : ℕ) → Breaks c directive last
+      → length last ≤ k + 1 → d.directive_by lists deep c at n directive (here size (last ++ q)) ≡ Stops k (BadDirective at)
   breaks_stop at n (r.no_option e) h = rw (e, last_at k q) refl
   breaks_stop at n r.empty_option h =
       let i : IsQuoted is_option (125 ∷ q) [] (125 ∷ q) = s.quoted_stop refl refl in
@@ -502,7 +503,7 @@ module _ (k : ℕ) (q : List ℕ) (lists deep : Lists) (c : ListContext) (known 
       rw (m.0, f, m.1, m.2, run_place size j (omega (arith, length-append t q, h)), last_at k q) (ended (length name == 0))
     where
       -- a name that a closing parenthesis doesn't end doesn't fit
-      ended : (z : Bool) → (if z then Stops k (BadDirective at)
+      ended : (empty : Bool) → (if empty then Stops k (BadDirective at)
           else if b == ascii.closing_parenthesis then Took (NamedText name) (after 1 (record { at = k; bytes = b ∷ q }))
           else Stops k (BadDirective at)) ≡ Stops k (BadDirective at)
       ended true = refl

@@ -220,11 +220,10 @@ abbrev with_word : LabelMark → List ℕ → Label
 with_word m word = record { word = word; starred = m.starred; negated = m.negated; asks = m.asks; holds_star = m.holds_star }
 
 -- a mark with the last word, which is longer, in the place of the last one: its label has the longer word
-longer_at : (words rest more : List ℕ) (m : LabelMark) (start end : ℕ) (marks : List LabelMark) (k : ℕ) → k + 1 ≡ length marks
-    → Within (length words) marks → m ≡ get_or marks k m
-    → take (end - start) (drop start (words ++ rest)) ≡ take (m.end - m.start) (drop m.start words) ++ more
-    → marked_labels (words ++ rest) (set marks k (moved_mark m start end))
-    ≡ with_last (λ label. lengthened label more) (marked_labels words marks)
+longer_at : (words rest more : List ℕ) (m : LabelMark) (start end : ℕ) (marks : List LabelMark) (k : ℕ)
+    → k + 1 ≡ length marks → Within (length words) marks → m ≡ get_or marks k m
+    → take (end - start) (drop start (words ++ rest)) ≡ take (m.end - m.start) (drop m.start words) ++ more → marked_labels (words ++ rest)
+    (set marks k (moved_mark m start end)) ≡ with_last (λ label. lengthened label more) (marked_labels words marks)
 longer_at words rest more m start end [] k e w f h = absurd (omega (arith, e))
 longer_at words rest more m start end (x ∷ []) zero e w f h =
     ap (λ (word : List ℕ). with_word m word ∷ []) h

@@ -66,15 +66,15 @@ pub one_more : (k : ℕ) → suc k ≡ 1 + k
 one_more k = omega arith
 
 -- what holds of each of two, if the test chooses it, holds of the one that the test chooses
-pub choose : {X : Type 0} (P : X → Type 0) (t : Bool) (x y : X) → (t ≡ true → P x) → (t ≡ false → P y) → P (if t then x else y)
+pub choose : {X : Type 0} (P : X → Type 0) (test : Bool) (x y : X) → (test ≡ true → P x) → (test ≡ false → P y) → P (if test then x else y)
 choose P true x y f g = f refl
 choose P false x y f g = g refl
 
 module _ {X : Type 0} {size : ℕ} {Is : X → List ℕ → Type 0} {Cuts : Type 0} {Bad : ℕ → SyntaxFault → Type 0} where
   -- what a test chooses is meant, if each of the two is where it is chosen
-  pub meant_if : (t : Bool) {x y : Read X} → (t ≡ true → Meant size Is Cuts Bad x) → (t ≡ false → Meant size Is Cuts Bad y)
-      → Meant size Is Cuts Bad (if t then x else y)
-  meant_if t {x} {y} f g = choose (Meant size Is Cuts Bad) t x y f g
+  pub meant_if : (test : Bool) {x y : Read X} → (test ≡ true → Meant size Is Cuts Bad x)
+      → (test ≡ false → Meant size Is Cuts Bad y) → Meant size Is Cuts Bad (if test then x else y)
+  meant_if test {x} {y} f g = choose (Meant size Is Cuts Bad) test x y f g
 
   -- what a test of a byte chooses is meant, if each of the two is where it is chosen
   pub meant_byte : (b k : ℕ) {x y : Read X} → (b ≡ k → Meant size Is Cuts Bad x) → ((b == k) ≡ false → Meant size Is Cuts Bad y)

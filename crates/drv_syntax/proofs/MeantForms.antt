@@ -30,9 +30,10 @@ use Rattle.std.specs.Prelude.{◌-◌, ◌==◌}
 
 -- What a test asks, and a whole test with the byte after it: what Descent (the grammar as functions) makes of them is what the grammar
 -- says. A mark is the `.` or `,` of a test. `Tried` is a test that may still be a pattern, with the byte after it. Names: at: the place of
--- the directive; g: its context; t, u, v, q: what is left of the text from step to step; k: the place of the byte that is refused.
--- `TestBad` and `emit_bad`: the test, or the pattern, is refused there with that fault. Numbers in statements are bytes: 37 %, 38 &, 40 (,
--- 41 ), 42 *, 44 a comma, 46 a period, 58 :, 124 |, 125 }.
+-- the directive; c: its context; t, u, v, q: what is left of the text from step to step. `unspaced`, `asking`, `behind`: the text without
+-- the white space before it, from what a test asks on, and after that. `from`, `to`: the places of a test. `k`, `misfit`: the place of the
+-- byte that is refused. `TestBad` and `emit_bad`: the test, or the pattern, is refused there with that fault. Numbers in statements are
+-- bytes: 37 %, 38 &, 40 (, 41 ), 42 *, 44 a comma, 46 a period, 58 :, 124 |, 125 }.
 
 -- right after a mark alone: white space, or the end of a pattern
 pub data Bared : List ℕ → Type 0 where
@@ -66,13 +67,14 @@ pub mark_plain : (mark : ℕ) → is_mark mark ≡ true → (mark == ascii.backs
 mark_plain mark e = other is_mark mark 92 e refl
 
 -- a mark and a word after it ask for a suffix or a language
-pub asked_marked : {size : ℕ} (mark b : ℕ) {g : ListContext} {t : List ℕ} (word : List ℕ) {q : List ℕ} → is_mark mark ≡ true
-    → IsQuoted is_word t (b ∷ word) q → IsAsked size g (mark ∷ t) (d.marked mark (b ∷ word)) q
-asked_marked {size} mark b {g} {t} word {q} e i = by (mark == 46) (mark == 44) refl refl e
+pub asked_marked : {size : ℕ} (mark b : ℕ) {c : ListContext} {t : List ℕ} (word : List ℕ) {q : List ℕ}
+    → is_mark mark ≡ true → IsQuoted is_word t (b ∷ word) q → IsAsked size c (mark ∷ t) (d.marked mark (b ∷ word)) q
+asked_marked {size} mark b {c} {t} word {q} e i = by (mark == 46) (mark == 44) refl refl e
   where
-    by : (x y : Bool) → (mark == 46) ≡ x → (mark == 44) ≡ y → (if x then true else if y then true else false) ≡ true
-        → IsAsked size g (mark ∷ t) (if x then HasSuffix (b ∷ word) else HasLanguage (b ∷ word)) q
-    by true y h k f = rw (same mark 46 h) (s.suffix i)
+    by : (suffix language : Bool)
+        → (mark == 46) ≡ suffix → (mark == 44) ≡ language → (if suffix then true else if language then true else false) ≡ true
+        → IsAsked size c (mark ∷ t) (if suffix then HasSuffix (b ∷ word) else HasLanguage (b ∷ word)) q
+    by true language h k f = rw (same mark 46 h) (s.suffix i)
     by false true h k f = rw (same mark 44 k) (s.language i)
     by false false h k f = differs (sym f)
 
@@ -140,12 +142,12 @@ module _ (size : ℕ) (deep : Lists) (c : ListContext) (meets : (c.levels - 1 ==
   result_meant n [] place e = meant_ends (cuts.cut_call e)
   result_meant n (b ∷ text) place e =
       meant_byte b 58 (λ f. rw f (meant_as (call_meant d.result_operand (in_braces c) e deep size (meets e) at n (n + 1 + 1) text
-      (omega (arith, place))) (λ x q i. result i) (λ o. cuts.cut_result o) (λ j fault o. call_asked n e (omega (arith, place)) o)))
+      (omega (arith, place))) (λ operand q i. result i) (λ o. cuts.cut_result o) (λ j fault o. call_asked n e (omega (arith, place)) o)))
       (λ f. meant_stops (asked_bad r.asked_due (refuses_at (r.no_call (omega arith) e f)
       (up_more (37 ∷ []) (let p : At size (n + 1) (b ∷ text) = omega (arith, place) in up_byte p)))))
     where
-      result : {t q : List ℕ} {x : Operand} → CallIs d.result_operand size (in_braces c) t x q
-          → IsOperand size (in_braces c) (may_emit order negated) (37 ∷ 58 ∷ t) x q
+      result : {t q : List ℕ} {operand : Operand} → CallIs d.result_operand size (in_braces c) t operand q
+          → IsOperand size (in_braces c) (may_emit order negated) (37 ∷ 58 ∷ t) operand q
       result (call_is i) = by_result i
 
   -- what a test asks, after its white space and `!`, is what the grammar says
@@ -199,8 +201,8 @@ unsigned (s.plain_sign h) e = refl
 unsigned (s.not_sign sp) e = differs e
 
 -- what Descent took for a test or a pattern is a test by the grammar, or a pattern where the braces may still hold these
-operand_is : {size : ℕ} {g : ListContext} {emits : Bool} {t q : List ℕ} {o : Operand} → IsOperand size g emits t o q
-    → ((a : Asked) × IsAsked size g t a q) ⊎ ((emits ≡ true) × ((p : Pattern) × IsPattern t p q))
+operand_is : {size : ℕ} {c : ListContext} {emits : Bool} {t q : List ℕ} {operand : Operand} → IsOperand size c emits t operand q
+    → ((asked : Asked) × IsAsked size c t asked q) ⊎ ((emits ≡ true) × ((p : Pattern) × IsPattern t p q))
 operand_is (by_switch {p = p} h i) = inl (HasSwitch p, s.switch h i)
 operand_is (by_mark {mark} {b} {word = word} e i h) = inl (d.marked mark (b ∷ word), asked_marked mark b word e i)
 operand_is (by_star {mark} {word = word} e is i) =
@@ -209,20 +211,22 @@ operand_is (by_bare {mark} e is i h) = inr (e, (pattern (mark ∷ []) false, i))
 operand_is (by_result {name = name} {items = items} i) = inl (HasResult name items, s.result i)
 
 -- a text that ends in white space after a test ends in a test or a pattern
-test_cuts : {size : ℕ} {g : ListContext} {order : Order} {t u v w : List ℕ} {negated : Bool} {o : Operand} → AreSpaces t u
-    → IsSign u negated v → IsOperand size g (may_emit order negated) v o w → AreSpaces w [] → TestCuts size g order t
-test_cuts {size} {g} {order} {t} {u} {v} {w} {negated} sp sign o end = by (operand_is o)
+test_cuts : {size : ℕ} {c : ListContext} {order : Order} {t unspaced asking behind : List ℕ} {negated : Bool} {operand : Operand}
+    → AreSpaces t unspaced → IsSign unspaced negated asking
+    → IsOperand size c (may_emit order negated) asking operand behind → AreSpaces behind [] → TestCuts size c order t
+test_cuts {size} {c} {order} {t} {unspaced} {asking} {behind} {negated} sp sign o end = by (operand_is o)
   where
-    by : ((a : Asked) × IsAsked size g v a w) ⊎ ((may_emit order negated ≡ true) × ((p : Pattern) × IsPattern v p w))
-        → TestCuts size g order t
-    by (inl a) = cut_test (cuts.after_asked sp sign a.1 end)
+    by : ((asked : Asked) × IsAsked size c asking asked behind)
+        ⊎ ((may_emit order negated ≡ true) × ((p : Pattern) × IsPattern asking p behind)) → TestCuts size c order t
+    by (inl asked) = cut_test (cuts.after_asked sp sign asked.1 end)
     by (inr i) =
         let e = emits_at order negated i.0 in
-        cut_pattern e.0 (cuts.after_pattern sp (subst (λ (x : List ℕ). IsPattern x i.1.0 w) (sym (unsigned sign e.1)) i.1.1) end)
+        cut_pattern e.0 (cuts.after_pattern sp (subst (λ (x : List ℕ). IsPattern x i.1.0 behind) (sym (unsigned sign e.1)) i.1.1) end)
 
 -- a byte that doesn't fit in what a test asks doesn't fit in the test
-asked_test : {at size : ℕ} {g : ListContext} {order : Order} {t u v : List ℕ} {negated : Bool} {k : ℕ} {fault : SyntaxFault} → AreSpaces t u
-    → IsSign u negated v → AskedBad at size g order negated v k fault → TestBad at size g order t k fault
+asked_test : {at size : ℕ} {c : ListContext}
+    {order : Order} {t unspaced asking : List ℕ} {negated : Bool} {misfit : ℕ} {fault : SyntaxFault} → AreSpaces t unspaced
+    → IsSign unspaced negated asking → AskedBad at size c order negated asking misfit fault → TestBad at size c order t misfit fault
 asked_test sp sign (asked_bad reaches refuses) = test_bad (r.in_test sp sign reaches) refuses
 asked_test {order = order} {t} {negated = negated} sp sign (mark_bad place e is p w h) =
     let f = emits_at order negated e in
@@ -244,19 +248,21 @@ module _ (size : ℕ) (deep : Lists) (c : ListContext) (meets : (c.levels - 1 ==
       (TestBad at size (in_braces c) order text) x
 
   -- a test after its sign, with the byte after it, is what the grammar says
-  from_meant : (n m : ℕ) (negated : Bool) {t u : List ℕ} (v : List ℕ) → AreSpaces t u → At size n u → IsSign u negated v → At size m v
-      → s.Stops is_white v → s.Stops (is_default order negated) v → TestMeant t (d.asked_from deep c at order n negated (left m v))
-  from_meant n m negated {t} v sp start sign place w f =
+  from_meant : (n m : ℕ) (negated : Bool) {t unspaced : List ℕ} (asking : List ℕ)
+      → AreSpaces t unspaced → At size n unspaced → IsSign unspaced negated asking → At size m asking → s.Stops is_white asking
+      → s.Stops (is_default order negated) asking → TestMeant t (d.asked_from deep c at order n negated (left m asking))
+  from_meant n m negated {t} asking sp start sign place w f =
       meant_then (λ operand end. d.ended at (span n end.at) negated operand (past_white end))
-      (asked_meant size deep c meets at order negated m v place w f) (λ o end there i.
+      (asked_meant size deep c meets at order negated m asking place w f) (λ o end there i.
       meant_white (λ mid. d.ended at (span n end.at) negated o mid) end.at end.bytes there
       (λ k u here z x. by o end.at end.bytes there i k u here z x)) (λ o. cut_test (cuts.in_asked sp sign o))
       (λ j fault o. asked_test sp sign o)
     where
-      by : (o : Operand) (k : ℕ) (w : List ℕ) → At size k w → IsOperand size (in_braces c) (may_emit order negated) v o w → (j : ℕ)
-          (u : List ℕ) → At size j u → AreSpaces w u → s.Stops is_white u → TestMeant t (d.ended at (span n k) negated o (left j u))
-      by o k w there i j [] here z x = meant_ends (test_cuts sp sign i z)
-      by o k w there i j (b ∷ u) here z (s.at_byte x) = meant_took here (is_tried sp start sign i there z x)
+      by : (operand : Operand) (end : ℕ) (behind : List ℕ) → At size end behind
+          → IsOperand size (in_braces c) (may_emit order negated) asking operand behind → (j : ℕ) (rest : List ℕ) → At size j rest
+          → AreSpaces behind rest → s.Stops is_white rest → TestMeant t (d.ended at (span n end) negated operand (left j rest))
+      by o end behind there i j [] here z x = meant_ends (test_cuts sp sign i z)
+      by o end behind there i j (b ∷ rest) here z (s.at_byte x) = meant_took here (is_tried sp start sign i there z x)
 
   -- a test with a `!` or without, after its white space, is what the grammar says
   signed_meant : (n : ℕ) {t : List ℕ} (u : List ℕ) → AreSpaces t u → At size n u → s.Stops is_white u → s.Stops (is_default order false) u
@@ -295,16 +301,17 @@ module _ (at size : ℕ) where
       (PatternsBad at size text) x
 
   -- after a pattern and white space, a brace ends the patterns, an ampersand leads to more, and no other byte fits, as the grammar says
-  turn_meant : {t u v : List ℕ} {p : Pattern} (n m k : ℕ) (w : List ℕ) → AreSpaces t u → At size n u → IsPattern u p v → At size m v
-      → At size k w → AreSpaces v w → s.Stops is_white w → OneMeant t (d.pattern_turn at (span n m, p) (left k w))
-  turn_meant n m k [] sp a i b place z x = meant_ends (cuts.after_pattern sp i z)
-  turn_meant {t} {u} {v} {p} n m k (y ∷ w) sp a i b place z (s.at_byte x) =
+  turn_meant : {t unspaced behind : List ℕ} {p : Pattern} (from to k : ℕ) (rest : List ℕ)
+      → AreSpaces t unspaced → At size from unspaced → IsPattern unspaced p behind → At size to behind
+      → At size k rest → AreSpaces behind rest → s.Stops is_white rest → OneMeant t (d.pattern_turn at (span from to, p) (left k rest))
+  turn_meant from to k [] sp a i b place z x = meant_ends (cuts.after_pattern sp i z)
+  turn_meant {t} {unspaced} {behind} {p} from to k (y ∷ rest) sp a i b place z (s.at_byte x) =
       meant_byte y 125 (λ e. meant_took place (rw e (to_brace (s.last_pattern sp a i b (rw e at z)))))
       (λ e. meant_byte y 38 (λ f. meant_took (omega (arith, place)) (goes (rw f at z)))
       (λ f. meant_stops (unfit (r.pattern_ends sp i z) (refuses_byte (r.no_end x (rw (e, f) refl)) place))))
     where
       -- Plan: by the byte that comes next; after an ampersand what is meant of the rest is meant of all (`goes`, `next`).
-      goes : AreSpaces v (38 ∷ w) → Leads (ToBrace size) CutsPatterns (PatternsBad at size) t (λ ps. (span n m, p) ∷ ps) w
+      goes : AreSpaces behind (38 ∷ rest) → Leads (ToBrace size) CutsPatterns (PatternsBad at size) t (λ ps. (span from to, p) ∷ ps) rest
       goes z = record {
         is = λ ps q o. next z o;
         cut = λ o. cuts.after_and sp i z o;
@@ -312,8 +319,8 @@ module _ (at size : ℕ) where
         shorter = omega (arith, spaces_shorter sp, pattern_shorter i, spaces_shorter z);
       }
         where
-          next : AreSpaces v (38 ∷ w) → {ps : List (Span × Pattern)} {q : List ℕ} → ToBrace size w ps q
-              → ToBrace size t ((span n m, p) ∷ ps) q
+          next : AreSpaces behind (38 ∷ rest)
+              → {ps : List (Span × Pattern)} {q : List ℕ} → ToBrace size rest ps q → ToBrace size t ((span from to, p) ∷ ps) q
           next z (to_brace o) = to_brace (s.next_pattern sp a i b z o)
 
   -- one turn of the patterns after an ampersand is what the grammar says
@@ -359,9 +366,9 @@ pub data Decided (at size : ℕ) (g : ListContext) (order : Order) (t : List ℕ
       → Decided at size g order t (Fails fault) (b ∷ q)
 
 -- after a test that can be no pattern, a colon or a bar is due
-asked_ends : {at size : ℕ} {g : ListContext} {order : Order} {negated : Bool} {t q rest : List ℕ} {o : Operand}
-    → may_emit order negated ≡ false → IsOperand size g (may_emit order negated) t o q → AreSpaces q rest
-    → ReachesAsked size g at order negated t (AnEnd at ends_test) rest
+asked_ends : {at size : ℕ} {c : ListContext} {order : Order} {negated : Bool} {t q rest : List ℕ} {operand : Operand}
+    → may_emit order negated ≡ false → IsOperand size c (may_emit order negated) t operand q
+    → AreSpaces q rest → ReachesAsked size c at order negated t (AnEnd at ends_test) rest
 asked_ends f (by_switch h i) z = r.test_ends f (s.switch h i) z
 asked_ends f (by_mark {mark} {b} {word = word} e i h) z = r.test_ends f (asked_marked mark b word e i) z
 asked_ends f (by_star e is i) z = differs (sym e ∙ f)
@@ -375,8 +382,8 @@ AsPattern at size g order negated t None q = (rest : List ℕ) → AreSpaces q r
     → ReachesAsked size g at order negated t (AnEnd at ends_test) rest
 
 -- what Descent took for a pattern, or for none, is what the grammar says
-pattern_of : {size : ℕ} {g : ListContext} (at : ℕ) (order : Order) (negated : Bool) {t q : List ℕ} {o : Operand}
-    → IsOperand size g (may_emit order negated) t o q → AsPattern at size g order negated t o.as_pattern q
+pattern_of : {size : ℕ} {c : ListContext} (at : ℕ) (order : Order) (negated : Bool) {t q : List ℕ} {operand : Operand}
+    → IsOperand size c (may_emit order negated) t operand q → AsPattern at size c order negated t operand.as_pattern q
 pattern_of at order negated (by_switch h i) = i
 pattern_of at order negated (by_mark {mark} is i h) = s.unstarred (s.quoted_byte (mark_plain mark is) (mark_word mark is) i) h
 pattern_of at order negated (by_star {mark} f is i) = s.starred (s.quoted_byte (mark_plain mark is) (mark_word mark is) i)
@@ -384,19 +391,19 @@ pattern_of at order negated (by_bare f is i h) = i
 pattern_of at order negated (by_result i) = λ rest z. r.call_ends (s.result i) z
 
 -- after a starred pattern that begins with a mark, and white space, no byte but } or & fits
-star_bad : {at size x k mark : ℕ} {g : ListContext} {order : Order} {negated : Bool} {t u v q word rest : List ℕ} → At size k (x ∷ rest)
-    → AreSpaces t u → IsSign u negated (mark ∷ v) → may_emit order negated ≡ true → is_mark mark ≡ true
-    → IsPattern (mark ∷ v) (pattern word true) q
-    → AreSpaces q (x ∷ rest) → is_white x ≡ false → is_of ends_pattern x ≡ false → TestBad at size g order t k (BadDirective at)
+star_bad : {at size byte misfit mark : ℕ} {c : ListContext} {order : Order} {negated : Bool} {t unspaced marked q word rest : List ℕ}
+    → At size misfit (byte ∷ rest) → AreSpaces t unspaced → IsSign unspaced negated (mark ∷ marked)
+    → may_emit order negated ≡ true → is_mark mark ≡ true → IsPattern (mark ∷ marked) (pattern word true) q → AreSpaces q (byte ∷ rest)
+    → is_white byte ≡ false → is_of ends_pattern byte ≡ false → TestBad at size c order t misfit (BadDirective at)
 star_bad {order = order} {negated} {t} place sp sign e is p z w h =
     let f = emits_at order negated e in
     emit_bad f.0 (r.starred_ends (subst (λ (y : List ℕ). AreSpaces t y) (unsigned sign f.1) sp) is p z) (refuses_byte (r.no_end w h) place)
 
 -- after a mark alone and white space, the byte that is refused there doesn't fit
-bare_bad : {at size x k mark : ℕ} {g : ListContext} {order : Order} {negated : Bool} {t u q rest : List ℕ} {fault : SyntaxFault}
-    → At size k (x ∷ rest) → AreSpaces t u → IsSign u negated (mark ∷ q) → may_emit order negated ≡ true → is_mark mark ≡ true → Bared q
-    → AreSpaces q (x ∷ rest) → is_white x ≡ false → is_of ends_pattern x ≡ false → Refuses (k + 1) (PastMark at) (x ∷ []) fault
-    → TestBad at size g order t k fault
+bare_bad : {at size byte misfit mark : ℕ} {c : ListContext} {order : Order} {negated : Bool} {t unspaced q rest : List ℕ}
+    {fault : SyntaxFault} → At size misfit (byte ∷ rest) → AreSpaces t unspaced → IsSign unspaced negated (mark ∷ q)
+    → may_emit order negated ≡ true → is_mark mark ≡ true → Bared q → AreSpaces q (byte ∷ rest) → is_white byte ≡ false
+    → is_of ends_pattern byte ≡ false → Refuses (misfit + 1) (PastMark at) (byte ∷ []) fault → TestBad at size c order t misfit fault
 bare_bad place sp sign e is (by_white h) s.no_space w g refuses = differs (sym h ∙ w)
 bare_bad place sp sign e is (by_end h) s.no_space w g refuses = differs (sym h ∙ g)
 bare_bad {order = order} {negated} {t} place sp sign e is h (s.space y z) w g refuses =
@@ -422,9 +429,10 @@ test_of at order negated (by_bare h is i k) = λ t u rest x j place sp sign z w 
 test_of at order negated (by_result i) = s.result i
 
 -- after a first test that may be a pattern, and white space, no byte fits but : | } and &
-first_bad : {at size x k : ℕ} {g : ListContext} {t u v q rest : List ℕ} {o : Operand} → At size k (x ∷ rest) → AreSpaces t u
-    → IsSign u false v → IsOperand size g true v o q → AreSpaces q (x ∷ rest) → is_white x ≡ false → is_of ends_test x ≡ false
-    → is_of ends_pattern x ≡ false → is_of ends_either x ≡ false → TestBad at size g AtFront t k (BadDirective at)
+first_bad : {at size byte misfit : ℕ} {c : ListContext} {t unspaced asking q rest : List ℕ} {operand : Operand}
+    → At size misfit (byte ∷ rest) → AreSpaces t unspaced → IsSign unspaced false asking
+    → IsOperand size c true asking operand q → AreSpaces q (byte ∷ rest) → is_white byte ≡ false → is_of ends_test byte ≡ false
+    → is_of ends_pattern byte ≡ false → is_of ends_either byte ≡ false → TestBad at size c AtFront t misfit (BadDirective at)
 first_bad place sp sign (by_switch h i) z w e f g = test_bad (r.in_test sp sign (r.switch_ends h i z)) (refuses_byte (r.no_end w g) place)
 first_bad place sp sign (by_mark is i h) z w e f g = test_bad (r.in_test sp sign (r.marked_ends is i h z)) (refuses_byte
     (r.no_end w g) place)
@@ -435,52 +443,53 @@ first_bad place sp sign (by_result i) z w e f g = test_bad (r.in_test sp sign (r
     (r.no_end w e) place)
 
 -- after a test at any place, and white space, no byte fits but : | } and &
-order_bad : {at size x k : ℕ} {g : ListContext} (order : Order) (negated : Bool) {t u v q rest : List ℕ} {o : Operand}
-    → At size k (x ∷ rest) → AreSpaces t u → IsSign u negated v → IsOperand size g (may_emit order negated) v o q
-    → AreSpaces q (x ∷ rest) → is_white x ≡ false
-    → is_of ends_test x ≡ false → is_of ends_pattern x ≡ false → is_of ends_either x ≡ false → TestBad at size g order t k (BadDirective at)
+order_bad : {at size byte misfit : ℕ} {c : ListContext} (order : Order) (negated : Bool) {t unspaced asking q rest : List ℕ}
+    {operand : Operand} → At size misfit (byte ∷ rest) → AreSpaces t unspaced → IsSign unspaced negated asking
+    → IsOperand size c (may_emit order negated) asking operand q → AreSpaces q (byte ∷ rest) → is_white byte ≡ false → is_of ends_test byte
+    ≡ false → is_of ends_pattern byte ≡ false → is_of ends_either byte ≡ false → TestBad at size c order t misfit (BadDirective at)
 order_bad AtFront false place sp sign o z w e f g = first_bad place sp sign o z w e f g
 order_bad AtFront true place sp sign o z w e f g = test_bad (r.in_test sp sign (asked_ends refl o z)) (refuses_byte (r.no_end w e) place)
 order_bad AtNext negated place sp sign o z w e f g = test_bad (r.in_test sp sign (asked_ends refl o z)) (refuses_byte (r.no_end w e) place)
 order_bad AtBar negated place sp sign o z w e f g = test_bad (r.in_test sp sign (asked_ends refl o z)) (refuses_byte (r.no_end w e) place)
 
 -- what the byte after a test decides is what the grammar says
-decided_is : {at size : ℕ} {g : ListContext} {order : Order} {t q : List ℕ} {tr : Tried} → IsTried size g order t tr q
-    → Decided at size g order t (d.decided at order tr) q
-decided_is {at} {size} {g} {order} {t} (is_tried {n} {m} {b} {u = u} {v = v} {w = w} {q = q} {negated} {o} sp start sign i end z white) =
-    choose (λ a. Decided at size g order t a (b ∷ q)) (b == 125) _ _ (λ e. pattern_case Emits (rw (same b 125 e) refl) (λ p f j. rw
-    (same b 125 e) (is_emits f (rw (same b 125 e) at j)))) (λ f. choose (λ a. Decided at size g order t a (b ∷ q)) (b == 38) _ _
+decided_is : {at size : ℕ} {c : ListContext} {order : Order} {t q : List ℕ} {tr : Tried}
+    → IsTried size c order t tr q → Decided at size c order t (d.decided at order tr) q
+decided_is {at} {size} {c} {order} {t}
+    (is_tried {n = from} {m = to} {b} {u = unspaced} {v = asking} {w = behind} {q = q} {negated} {o} sp start sign i end z white) =
+    choose (λ a. Decided at size c order t a (b ∷ q)) (b == 125) _ _ (λ e. pattern_case Emits (rw (same b 125 e) refl) (λ p f j. rw
+    (same b 125 e) (is_emits f (rw (same b 125 e) at j)))) (λ f. choose (λ a. Decided at size c order t a (b ∷ q)) (b == 38) _ _
     (λ e. pattern_case Joins (rw (same b 38 e) refl) (λ p f j. rw (same b 38 e) (is_joins f (rw (same b 38 e) at j))))
-    (λ h. choose (λ a. Decided at size g order t a (b ∷ q)) (b == 58) _ _ (λ e. test_case (Asks (span n m) negated) (rw
+    (λ h. choose (λ a. Decided at size c order t a (b ∷ q)) (b == 58) _ _ (λ e. test_case (Asks (span from to) negated) (rw
     (same b 58 e) refl) (rw (same b 58 e) refl) (λ a j. rw (same b 58 e) (is_asks (rw (same b 58 e) at j))))
-    (λ k. choose (λ a. Decided at size g order t a (b ∷ q)) (b == 124) _ _ (λ e. test_case (Bars (span n m) negated) (rw
+    (λ k. choose (λ a. Decided at size c order t a (b ∷ q)) (b == 124) _ _ (λ e. test_case (Bars (span from to) negated) (rw
     (same b 124 e) refl) (rw (same b 124 e) refl) (λ a j. rw (same b 124 e) (is_bars (rw (same b 124 e) at j))))
     (λ l. is_fails (λ j here. order_bad order negated here sp sign i z white (rw (k, l) refl) (rw (f, h) refl) (rw (k, l, f, h) refl))))))
   where
     -- the byte ends a pattern: the test is one, or is refused
-    pattern_case : (goes : Span × Pattern → After) → is_of ends_test b ≡ false
-        → ((p : Pattern) → order ≡ AtFront → Emitted size t (span n m) p (b ∷ q) → Decided at size g order t (goes (span n m, p)) (b ∷ q))
-        → Decided at size g order t (d.as_pattern at (span n m) (may_emit order negated) o.as_pattern goes) (b ∷ q)
+    pattern_case : (goes : Span × Pattern → After) → is_of ends_test b ≡ false → ((p : Pattern)
+        → order ≡ AtFront → Emitted size t (span from to) p (b ∷ q) → Decided at size c order t (goes (span from to, p)) (b ∷ q))
+        → Decided at size c order t (d.as_pattern at (span from to) (may_emit order negated) o.as_pattern goes) (b ∷ q)
     pattern_case goes h f = by (may_emit order negated) refl o.as_pattern (pattern_of at order negated i)
       where
-        by : (e : Bool) → may_emit order negated ≡ e → (p : Option Pattern) → AsPattern at size g order negated v p w
-            → Decided at size g order t (d.as_pattern at (span n m) e p goes) (b ∷ q)
+        by : (emits : Bool) → may_emit order negated ≡ emits → (p : Option Pattern) → AsPattern at size c order negated asking p behind
+            → Decided at size c order t (d.as_pattern at (span from to) emits p goes) (b ∷ q)
         by true e (Some p) j =
             let a = emits_at order negated e in
-            f p a.0 (emitted sp start (subst (λ (y : List ℕ). IsPattern y p w) (sym (unsigned sign a.1)) j) end z)
+            f p a.0 (emitted sp start (subst (λ (text : List ℕ). IsPattern text p behind) (sym (unsigned sign a.1)) j) end z)
         by true e None j = is_fails (λ k here. test_bad (r.in_test sp sign (j (b ∷ q) z)) (refuses_byte (r.no_end white h) here))
         by false e p j = is_fails (λ k here. test_bad (r.in_test sp sign (asked_ends e i z)) (refuses_byte (r.no_end white h) here))
 
     -- the byte ends a test: it asks something, or is refused
     test_case : (goes : Asked → After) → is_of ends_test b ≡ true → is_of ends_pattern b ≡ false
-        → ((a : Asked) → Questioned size g t (span n m) negated a (b ∷ q) → Decided at size g order t (goes a) (b ∷ q))
-        → Decided at size g order t (d.as_test at o.bare o.as_test goes) (b ∷ q)
+        → ((asked : Asked) → Questioned size c t (span from to) negated asked (b ∷ q) → Decided at size c order t (goes asked) (b ∷ q))
+        → Decided at size c order t (d.as_test at o.bare o.as_test goes) (b ∷ q)
     test_case goes h k f = by o.as_test (test_of at order negated i)
       where
-        by : (a : Option Asked) → AsTest at size g order negated v o.bare a w → Decided at size g order t (d.as_test at o.bare a goes)
-            (b ∷ q)
-        by (Some a) j = f a (questioned sp start sign j end z)
-        by None j = is_fails (λ i here. j t u q b i here sp sign z white h k)
+        by : (asked : Option Asked)
+            → AsTest at size c order negated asking o.bare asked behind → Decided at size c order t (d.as_test at o.bare asked goes) (b ∷ q)
+        by (Some asked) j = f asked (questioned sp start sign j end z)
+        by None j = is_fails (λ i here. j t unspaced q b i here sp sign z white h k)
 
 -- tests after a bar
 
@@ -561,9 +570,8 @@ module _ (size : ℕ) (deep : Lists) (c : ListContext) (meets : (c.levels - 1 ==
       (λ t end there i. more_turn end.at there (decided_is i)) (λ o. o) (λ j fault o. o)
 
   -- the tests after a bar, up to their colon, are what the grammar says
-  more_tests_meant : (n : ℕ) (text : List ℕ) → At size n text
-      → Meant size (ToColon text) (TestCuts size (in_braces c) AtBar text) (TestBad at size (in_braces c) AtBar text)
-      (d.more_tests deep c at (left n text))
+  more_tests_meant : (n : ℕ) (text : List ℕ) → At size n text → Meant size (ToColon text)
+      (TestCuts size (in_braces c) AtBar text) (TestBad at size (in_braces c) AtBar text) (d.more_tests deep c at (left n text))
   more_tests_meant n text place = repeat_meant
       (λ mid. then_read (d.one_test deep c at AtBar mid) (λ t end. d.test_turn at (d.decided at AtBar t) end)) bar_meant n text place
 
@@ -573,18 +581,18 @@ module _ (size : ℕ) (deep : Lists) (c : ListContext) (meets : (c.levels - 1 ==
       (TestBad at size (in_braces c) order text) x
 
   -- after the first test, what its byte decides is what the grammar says
-  form_by_meant : {order : Order} {t : List ℕ} {a : After} {q : List ℕ} (m : ℕ) → At size m q → Decided at size (in_braces c) order t a q
-      → FormMeant order t (d.form_by deep c at a (left m q))
+  form_by_meant : {order : Order} {t : List ℕ} {follow : After} {q : List ℕ} (m : ℕ)
+      → At size m q → Decided at size (in_braces c) order t follow q → FormMeant order t (d.form_by deep c at follow (left m q))
   form_by_meant m place (is_emits e (emitted sp a i b z)) = meant_took place (form_patterns e (s.last_pattern sp a i b z))
   form_by_meant {order} {t} m place (is_joins {place = span} {p} {q} e (emitted sp a i b z)) =
       meant_then (λ ps rest. Took (Patterns ((span, p) ∷ ps)) rest) (patterns_meant at size (m + 1) q (omega (arith, place)))
       (λ ps rest there o. meant_took there (joined o)) (λ o. cut_pattern e (cuts.after_and sp i z o)) (λ j fault o. bad o)
     where
-      joined : {ps : List (Span × Pattern)} {u : List ℕ} → ToBrace size q ps u
-          → IsForm size (in_braces c) order t (Patterns ((span, p) ∷ ps)) u
+      joined : {ps : List (Span × Pattern)} {rest : List ℕ}
+          → ToBrace size q ps rest → IsForm size (in_braces c) order t (Patterns ((span, p) ∷ ps)) rest
       joined (to_brace o) = form_patterns e (s.next_pattern sp a i b z o)
 
-      bad : {k : ℕ} {fault : SyntaxFault} → PatternsBad at size q k fault → TestBad at size (in_braces c) order t k fault
+      bad : {misfit : ℕ} {fault : SyntaxFault} → PatternsBad at size q misfit fault → TestBad at size (in_braces c) order t misfit fault
       bad (unfit reaches refuses) = emit_bad e (r.after_first sp i z reaches) refuses
   form_by_meant m place (is_asks i) = meant_took place (form_tests (one_asked i))
   form_by_meant m place (is_bars {place = span} {negated} {a} {q} i) =

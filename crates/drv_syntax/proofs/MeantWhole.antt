@@ -52,7 +52,7 @@ use Rattle.std.specs.Prelude.{◌-◌, ◌==◌}
 -- larger part too. `At`: in a text of this size the rest begins at this place. `IsRefused text fault`: a text ends in the byte that no
 -- longer fits, and this is its fault. `AreItems`: the items of a list with this context, up to what ends the list. `Reads`: what these read
 -- as lists with this context is what the grammar says. `DirMeant`: what Descent makes of the text after the byte of this directive is what
--- the grammar says.
+-- the grammar says. `misfit`: the place of the byte that doesn't fit.
 
 -- a byte that ends an X and is no closing brace is a semicolon
 ends_x : (b : ℕ) → is_end InX b ≡ true → (b == 125) ≡ false → b ≡ 59
@@ -182,9 +182,8 @@ module _ (size : ℕ) (lists deep : Lists) (c : ListContext) (near : (asks : Tes
       (λ f end there o. later_by_meant end.at there o) (λ o. next_cuts o) (λ j fault o. next_bad o))
 
   -- the alternatives after the first, with the brace that closes them, are what the grammar says
-  later_meant : (n : ℕ) (text : List ℕ) → At size n text
-      → Meant size (AreLater size (in_braces c) text) (CutsLater size (in_braces c) text) (LaterBad at size (in_braces c) text)
-      (d.later lists deep c at (left n text))
+  later_meant : (n : ℕ) (text : List ℕ) → At size n text → Meant size (AreLater size (in_braces c) text)
+      (CutsLater size (in_braces c) text) (LaterBad at size (in_braces c) text) (d.later lists deep c at (left n text))
   later_meant n text place = repeat_meant (λ mid. if begins_with ascii.colon (past_white mid).bytes then d.default lists c at
       (past_white mid) else then_read (d.form deep c at AtNext mid) (λ f end. d.later_by lists c at f end)) turn_meant n text place
 
@@ -242,13 +241,14 @@ abbrev pub ItemMeant : ListContext → ℕ → List ℕ → Read Item → Type 0
 ItemMeant c size text x = Meant size (λ item q. IsItem size c text item q) (CutsItem size c text) (ListBad size c text) x
 
 -- a byte that doesn't fit inside a directive doesn't fit in the list
-burst_item : {c : ListContext} {size b k : ℕ} {f : Directive} {t : List ℕ} {fault : SyntaxFault} (n : ℕ) → directive_of b ≡ f
-    → is_allowed c.in_arguments b ≡ true → At size n (37 ∷ b ∷ t) → Bursts c n size f t k fault → ListBad size c (37 ∷ b ∷ t) k fault
+burst_item : {c : ListContext} {size b misfit : ℕ} {directive : Directive} {t : List ℕ} {fault : SyntaxFault} (n : ℕ)
+    → directive_of b ≡ directive → is_allowed c.in_arguments b ≡ true
+    → At size n (37 ∷ b ∷ t) → Bursts c n size directive t misfit fault → ListBad size c (37 ∷ b ∷ t) misfit fault
 burst_item {c} {size} n e al place (inside {t = t} {last} {due} reaches refuses) =
-    unfit (r.in_directive place al (subst (λ (g : Directive). ReachesIn size c n g t due last) (sym e) reaches)) refuses
+    unfit (r.in_directive place al (subst (λ (other : Directive). ReachesIn size c n other t due last) (sym e) reaches)) refuses
 burst_item {c} {b = b} n e al place (breaks {last = last} i h) =
     let f = up_more (37 ∷ b ∷ []) h in
-    unfit r.item_due (refuses_at (r.breaks_off (up_place n place f) al (subst (λ (g : Directive). Breaks c g last) (sym e) i)) f)
+    unfit r.item_due (refuses_at (r.breaks_off (up_place n place f) al (subst (λ (other : Directive). Breaks c other last) (sym e) i)) f)
 burst_item {b = b} n e al place (hides (no_pattern i h)) =
     let f = up_more (37 ∷ b ∷ []) (up_byte h) in unfit r.item_due (refuses_at (r.hides_nothing (up_place n place f) al e i) f)
 burst_item {b = b} n e al place (unknown level (name_bad i h)) =
@@ -274,17 +274,18 @@ module _ (size : ℕ) (lists deep : Lists) (c : ListContext)
       called (call_is i) = s.function i
 
   -- the inside of braces is what the grammar says
-  brace_read : {at : ℕ} {f : Directive} {whole : List ℕ} (kind : BraceKind) (n : ℕ) (text : List ℕ) → At size n text
-      → (e : (c.levels == 0) ≡ false) → ((brace : Brace) (q : List ℕ) → s.IsBrace size c text brace q
-      → IsDirective size c f whole (braced kind brace) q) → (cuts.CutsBrace size c text → cuts.CutsDirective size c f whole)
-      → ((due : Due) (last : List ℕ) → r.ReachesBrace size (in_braces c) at text due last → ReachesIn size c at f whole due last)
-      → DirMeant c at f size whole (d.braces lists deep c at kind (left n text))
-  brace_read {at} {f} {whole} kind n text place e is ends reaches = meant_then (λ brace rest. Took (braced kind brace) rest)
+  brace_read : {at : ℕ} {directive : Directive} {whole : List ℕ} (kind : BraceKind) (n : ℕ) (text : List ℕ)
+      → At size n text → (e : (c.levels == 0) ≡ false) → ((brace : Brace) (q : List ℕ) → s.IsBrace size c text brace q
+      → IsDirective size c directive whole (braced kind brace) q) → (cuts.CutsBrace size c text → cuts.CutsDirective size c directive whole)
+      → ((due : Due) (last : List ℕ) → r.ReachesBrace size (in_braces c) at text due last → ReachesIn size c at directive whole due last)
+      → DirMeant c at directive size whole (d.braces lists deep c at kind (left n text))
+  brace_read {at} {directive} {whole} kind n text place e is ends reaches = meant_then (λ brace rest. Took (braced kind brace) rest)
       (brace_meant size lists deep c (λ asks. meets e (in_x (in_braces c) asks) refl) (λ h. deeper h (in_arguments
       (in_braces c)) refl) at e n
       text place) (λ brace rest there o. meant_took there (is brace rest.bytes o)) (λ o. ends o) (λ j fault o. bad o)
     where
-      bad : {k : ℕ} {fault : SyntaxFault} → BraceBad at size (in_braces c) text k fault → Bursts c at size f whole k fault
+      bad : {misfit : ℕ} {fault : SyntaxFault}
+          → BraceBad at size (in_braces c) text misfit fault → Bursts c at size directive whole misfit fault
       bad (unfit {due} {last} o h) = inside (reaches due last o) h
 
   -- %W and %@ with their braces are what the grammar says
@@ -460,31 +461,32 @@ refused_at text k fault e = by (text_read text) e
   where
     -- Plan: by what Descent makes of the text (`by`): where it refuses, `cut` turns what leads there into what the text up to that byte
     -- does.
-    cut : {due : Due} {t last : List ℕ} {f : SyntaxFault} (j : ℕ) (others : List ℕ) → Reaches (length text) top text due t
-        → Refuses (j + 1) due last f → t ≡ last ++ others → At (length text) (j + 1) others → IsRefused (take (j + 1) text) f
-    cut {due} {last = last} {f} j others reaches refuses split place =
-        let ready = subst (λ (v : List ℕ). Ready others [] due (last ++ others) v) (append-nil last) (refuses_ready others [] refuses) in
-        let m = reaches_moved others [] {whole = j + 1} (omega (arith, place)) (rw split at reaches) ready in
+    cut : {due : Due} {t last : List ℕ} {cause : SyntaxFault} (misfit : ℕ) (others : List ℕ)
+        → Reaches (length text) top text due t → Refuses (misfit + 1) due last cause
+        → t ≡ last ++ others → At (length text) (misfit + 1) others → IsRefused (take (misfit + 1) text) cause
+    cut {due} {last = last} {cause} misfit others reaches refuses split place =
+        let ready = subst (λ (u : List ℕ). Ready others [] due (last ++ others) u) (append-nil last) (refuses_ready others [] refuses) in
+        let m = reaches_moved others [] {whole = misfit + 1} (omega (arith, place)) (rw split at reaches) ready in
         let swap = any others [] (loose others [] m.swaps) in
-        let size : j + 1 ≡ length m.text = omega (arith, swaps_size others [] swap, place) in
-        let front : m.text ≡ take (j + 1) text = sym (ap (λ (u : List ℕ). take (j + 1) u) (swaps_front others [] refl swap)
+        let size : misfit + 1 ≡ length m.text = omega (arith, swaps_size others [] swap, place) in
+        let front : m.text ≡ take (misfit + 1) text = sym (ap (λ (u : List ℕ). take (misfit + 1) u) (swaps_front others [] refl swap)
         ∙ ap (λ (n : ℕ). take n (m.text ++ others)) size ∙ take-append_seam m.text others) in
-        subst (λ (u : List ℕ). IsRefused u f) front (record {
+        subst (λ (u : List ℕ). IsRefused u cause) front (record {
           due = due;
           last = last;
           reached = subst (λ (n : ℕ). Reaches n top m.text due last) size m.is;
-          refused = subst (λ (n : ℕ). Refuses n due last f) size refuses;
+          refused = subst (λ (n : ℕ). Refuses n due last cause) size refuses;
         })
 
-    by : {r : Read (Items × ℕ)} → ListMeant top (length text) text r → outcome r ≡ Bad k fault
-        → (k < length text) × IsRefused (take (k + 1) text) fault
+    by : {part : Read (Items × ℕ)}
+        → ListMeant top (length text) text part → outcome part ≡ Bad k fault → (k < length text) × IsRefused (take (k + 1) text) fault
     by (meant_took place i) e = absurd cc
     by (meant_ends i) e = absurd cc
-    by (meant_stops {k = j} {fault = f} (unfit reaches (refuses_at refuses (up_to others split place)))) e =
-        let at : j ≡ k = cc in let same : f ≡ fault = cc in (
+    by (meant_stops {k = misfit} {fault = cause} (unfit reaches (refuses_at refuses (up_to others split place)))) e =
+        let at : misfit ≡ k = cc in let same : cause ≡ fault = cc in (
           omega (arith, place, at),
           subst (λ (n : ℕ). IsRefused (take (n + 1) text) fault) at
-              (subst (λ (g : SyntaxFault). IsRefused (take (j + 1) text) g) same (cut j others reaches refuses split place)),
+              (subst (λ (why : SyntaxFault). IsRefused (take (misfit + 1) text) why) same (cut misfit others reaches refuses split place)),
         )
 
 -- where Descent refuses a text, a case of the grammar refuses it up to the byte that doesn't fit, with the same fault

@@ -26,8 +26,8 @@ use Rattle.drv_syntax.specs.declared.directives.SayKind.TheVariants.{AsError, As
 use Rattle.drv_syntax.specs.declared.directives.SayKind.{SayKind}
 use Rattle.drv_syntax.specs.declared.fault.SyntaxFault.{SyntaxFault}
 use Rattle.drv_syntax.specs.declared.token.Token.{Token}
-use Rattle.std.proofs.Common.{Bool, List, [], ap, append_assoc, arith, drop, get_or, length, length-append, refl, set, subst, suc, sym, take}
-use Rattle.std.proofs.Common.{true, zero, ℕ, ◌++◌, ◌+◌, ◌-◌, ◌∙◌, ◌∷◌, ◌≡◌, ◌≤◌}
+use Rattle.std.proofs.Common.{Bool, List, [], ap, append_assoc, arith, drop, get_or, length, length-append, refl, set, subst, suc, sym}
+use Rattle.std.proofs.Common.{take, true, zero, ℕ, ◌++◌, ◌+◌, ◌-◌, ◌∙◌, ◌∷◌, ◌≡◌, ◌≤◌}
 use Rattle.std.proofs.Math.Seq.{drop-length, take-length}
 use Rattle.std.proofs.lemmas.List.{length-drop, length-take-le, take-append-drop}
 use Rattle.std.specs.List.{prefix_len}
@@ -52,11 +52,11 @@ with_seam change (y ∷ []) x = refl
 with_seam change (y ∷ z ∷ xs) x = ap (λ zs. y ∷ zs) (with_seam change (z ∷ xs) x)
 
 -- one change of the last after another is a change
-twice : {X : Type 0} (f g h : X → X) → ((x : X) → h x ≡ f (g x)) → (xs : List X) → with_last h xs ≡ with_last f (with_last g xs)
-twice f g h e [] = refl
-twice f g h e (x ∷ []) = ap (λ y. y ∷ []) (e x)
-twice f g h e (x ∷ y ∷ []) = ap (λ z. x ∷ z ∷ []) (e y)
-twice f g h e (x ∷ y ∷ z ∷ xs) = ap (λ zs. x ∷ zs) (twice f g h e (y ∷ z ∷ xs))
+twice : {X : Type 0} (f g both : X → X) → ((x : X) → both x ≡ f (g x)) → (xs : List X) → with_last both xs ≡ with_last f (with_last g xs)
+twice f g both e [] = refl
+twice f g both e (x ∷ []) = ap (λ y. y ∷ []) (e x)
+twice f g both e (x ∷ y ∷ []) = ap (λ z. x ∷ z ∷ []) (e y)
+twice f g both e (x ∷ y ∷ z ∷ xs) = ap (λ zs. x ∷ zs) (twice f g both e (y ∷ z ∷ xs))
 
 -- tokens with one in the place of the last that ends elsewhere (`end_last`)
 pub end_changed : (ts : List Token) (token : Token) (k end : ℕ) → k + 1 ≡ length ts → token ≡ get_or ts k token
@@ -96,28 +96,28 @@ run_whole f q k e h =
 -- a message after a text
 
 -- a run with escapes that the code reads up to the end of the text
-quoted_all : (f : ℕ → Bool) (rest : Left) (v u : Reading) (w : List ℕ) → ran (quoted f rest) v ≡ (Some w, u) → first_of u.rest.bytes ≡ None
-    → IsQuoted f rest.bytes w []
-quoted_all f rest v u w h e =
-    let m : IsQuoted f rest.bytes w u.rest.bytes × At (rest.at + length rest.bytes) u.rest.at u.rest.bytes =
-    subst (λ (z : Option (List ℕ) × Left). Quotes f (rest.at + length rest.bytes) rest.bytes z.0 z.1)
-    (ap (λ (z : Option (List ℕ) × Reading). (z.0, z.1.rest)) h) (quotes f rest.at rest.bytes refl) in
-    subst (λ (t : List ℕ). IsQuoted f rest.bytes w t) (none_left u.rest.bytes e) m.0
+quoted_all : (f : ℕ → Bool) (rest : Left) (v u : Reading) (word : List ℕ)
+    → ran (quoted f rest) v ≡ (Some word, u) → first_of u.rest.bytes ≡ None → IsQuoted f rest.bytes word []
+quoted_all f rest v u word h e =
+    let m : IsQuoted f rest.bytes word u.rest.bytes × At (rest.at + length rest.bytes) u.rest.at u.rest.bytes =
+    subst (λ (pair : Option (List ℕ) × Left). Quotes f (rest.at + length rest.bytes) rest.bytes pair.0 pair.1)
+    (ap (λ (pair : Option (List ℕ) × Reading). (pair.0, pair.1.rest)) h) (quotes f rest.at rest.bytes refl) in
+    subst (λ (t : List ℕ). IsQuoted f rest.bytes word t) (none_left u.rest.bytes e) m.0
   where
     none_left : (t : List ℕ) → first_of t ≡ None → t ≡ []
     none_left [] g = refl
     none_left (b ∷ t) g = absurd cc
 
 -- the code's test finds a message (`is_message`)
-pub message_by : (text : List ℕ) (p b : ℕ) {kind : SayKind} (rest : Left) (v u : Reading) (w : List ℕ) → first_of text ≡ Some p → p ≡ 37
-    → second_of text ≡ Some b → directive_of b ≡ WithSaying kind → rest.bytes ≡ drop 2 text
-    → ran (quoted (is_said Top) rest) v ≡ (Some w, u) → first_of u.rest.bytes ≡ None → IsMessage text
-message_by [] p b rest v u w h e g d k r f = absurd cc
-message_by (x ∷ []) p b rest v u w h e g d k r f = absurd cc
-message_by (x ∷ y ∷ text) p b rest v u w h e g d k r f =
+pub message_by : (text : List ℕ) (first b : ℕ) {kind : SayKind} (rest : Left) (v u : Reading) (word : List ℕ)
+    → first_of text ≡ Some first → first ≡ 37 → second_of text ≡ Some b → directive_of b ≡ WithSaying kind
+    → rest.bytes ≡ drop 2 text → ran (quoted (is_said Top) rest) v ≡ (Some word, u) → first_of u.rest.bytes ≡ None → IsMessage text
+message_by [] first b rest v u word h e g d k r f = absurd cc
+message_by (x ∷ []) first b rest v u word h e g d k r f = absurd cc
+message_by (x ∷ y ∷ text) first b rest v u word h e g d k r f =
     let m : x ≡ 37 = cc in
     let n : y ≡ b = cc in
-    rw (m, n) (message d (subst (λ (t : List ℕ). IsQuoted (is_said Top) t w []) k (quoted_all (is_said Top) rest v u w r f)))
+    rw (m, n) (message d (subst (λ (t : List ℕ). IsQuoted (is_said Top) t word []) k (quoted_all (is_said Top) rest v u word r f)))
 
 -- a message up to the end of a text is an item
 said_item : {size b : ℕ} {kind : SayKind} {t words : List ℕ} → directive_of b ≡ WithSaying kind → IsQuoted (is_said Top) t words []
@@ -182,9 +182,8 @@ message_open front tokens names h b kind {t} {words} d i g q says =
 
 -- the code's test finds such a text (`is_open`)
 pub open_at : (text : List ℕ) (start : ℕ) (tokens : List Token) (names : List Label) → start ≤ length text
-    → whole_given (take start text) ≡ Ok (tokens, names)
-    → goes_on (ending_in start tokens) (take (length text - start) (drop start text)) ≡ true
-    → IsMessage (take (length text - start) (drop start text)) → IsOpen text
+    → whole_given (take start text) ≡ Ok (tokens, names) → goes_on (ending_in start tokens) (take (length text - start) (drop start text))
+    ≡ true → IsMessage (take (length text - start) (drop start text)) → IsOpen text
 open_at text start tokens names l h g m =
     let all : take (length text - start) (drop start text) ≡ drop start text =
     ap (λ (i : ℕ). take i (drop start text)) (sym (length-drop start text)) ∙ take-length (drop start text) in

@@ -33,10 +33,10 @@ use Rattle.std.specs.Prelude.{None, Option, Some, ◌-◌, ◌==◌}
 -- at least in each turn but the last, and `items`, which leaves out the white space at the end of an X.
 -- Names: `c`, `g`: where the list is, and what is around it. `rest`: what is left of the text, and its place. `at`: the place of the
 -- directive's `%`. `end`: what is left after a part. `size`: the length of the whole text. `t`, `q`: what is left of the text, from step to
--- step. `X`: any type. `r`: what was read. `level`: how many levels of lists may open. `around`: what reads the lists in a list of so many
--- levels. `then_read`: goes on with what was read and with what is left. `in_braces`: the context in the braces of a list, before the colon
--- of an alternative. `after_turn`: goes on after a turn, unless it was the last. `after`: what is left so many bytes on. `Reads`: what
--- these read as lists with this context is what the grammar says. `past_white`: what is left without the white space that comes next.
+-- step. `X`: any type. `r`, `part`: what was read. `level`: how many levels of lists may open. `around`: what reads the lists in a list of
+-- so many levels. `then_read`: goes on with what was read and with what is left. `in_braces`: the context in the braces of a list, before
+-- the colon of an alternative. `after_turn`: goes on after a turn, unless it was the last. `after`: what is left so many bytes on. `Reads`:
+-- what these read as lists with this context is what the grammar says. `past_white`: what is left without the white space that comes next.
 -- `is_white_item`: the item is white space, of which an X has none at its end. `repeat`: one turn after another, up to the last.
 
 -- what was read and what is left have the property P, if a part was read
@@ -75,8 +75,7 @@ turn_takes {X} {Is} {Cuts} {Bad} step rest one = meant_has (Takes (length rest.b
 -- lists
 
 -- the lists in a list, which have a level less, are what the grammar says
-near : (n : ℕ) (c : ListContext) → (c.levels == 0) ≡ false → (g : ListContext) → g.levels ≡ c.levels - 1
-    → Reads n g (around c.levels).0
+near : (n : ℕ) (c : ListContext) → (c.levels == 0) ≡ false → (g : ListContext) → g.levels ≡ c.levels - 1 → Reads n g (around c.levels).0
 near n c h g e = by c.levels h e
   where
     by : (level : ℕ) → (level == 0) ≡ false → g.levels ≡ level - 1 → Reads n g (around level).0
@@ -148,25 +147,26 @@ form_has c at order rest h = meant_has (λ f end. Tested f × suc (length (drop 
     (λ h. far (size rest) c h (in_arguments (in_braces c)) refl) at order rest.at rest.bytes refl h)
     (λ f end i. by i)
   where
-    tested : {size : ℕ} {g : ListContext} {t q : List ℕ} {ts : Tests} → AreTests size g t ts q → Tested (d.Alternative ts)
+    tested : {size : ℕ} {inside : ListContext} {t q : List ℕ} {ts : Tests} → AreTests size inside t ts q → Tested (d.Alternative ts)
     tested (s.last_test sp a sign i b z) = tt
     tested (s.next_test sp a sign i b z o) = tt
 
-    by : {size : ℕ} {g : ListContext} {t q : List ℕ} {f : d.Form} → IsForm size g order t f q
-        → Tested f × suc (length (drop 1 q)) ≤ length t
+    by : {size : ℕ} {inside : ListContext} {t q : List ℕ} {f : d.Form}
+        → IsForm size inside order t f q → Tested f × suc (length (drop 1 q)) ≤ length t
     by (form_patterns e o) = (tt, patterns_shorter o)
     by (form_tests o) = (tested o, tests_shorter o)
 
 -- a test of what a function gives is always that of a call
-pub result_has : (c : ListContext) → (c.levels - 1 == 0) ≡ false → (at n : ℕ) (rest : Left)
-    → Has (λ o end. (name : List ℕ) × ((items : Items) × (o ≡ d.result_operand name items))) (d.result (around c.levels).1 c at n rest)
+pub result_has : (c : ListContext) → (c.levels - 1 == 0) ≡ false → (at n : ℕ) (rest : Left) → Has (λ operand end. (name : List ℕ)
+    × ((items : Items) × (operand ≡ d.result_operand name items))) (d.result (around c.levels).1 c at n rest)
 result_has c h at n rest = by (first_of rest.bytes)
   where
     IsMade : d.Operand → Left → Type 0
-    IsMade o end = (name : List ℕ) × ((items : Items) × (o ≡ d.result_operand name items))
+    IsMade operand end = (name : List ℕ) × ((items : Items) × (operand ≡ d.result_operand name items))
 
     -- a call makes the operand of a function's result
-    call : {size : ℕ} {t q : List ℕ} {o : d.Operand} → CallIs d.result_operand size (in_braces c) t o q → IsMade o (left 0 q)
+    call : {size : ℕ} {t q : List ℕ} {operand : d.Operand}
+        → CallIs d.result_operand size (in_braces c) t operand q → IsMade operand (left 0 q)
     call (call_is {name = name} {items = items} i) = (name, (items, refl))
 
     -- by whether a colon follows
@@ -177,7 +177,7 @@ result_has c h at n rest = by (first_of rest.bytes)
         call i)
     colon false = tt
 
-    by : (o : Option ℕ) → Has IsMade (by_byte o (Ends at) (λ b. if b == ascii.colon
+    by : (byte : Option ℕ) → Has IsMade (by_byte byte (Ends at) (λ b. if b == ascii.colon
         then d.call_as d.result_operand (around c.levels).1 (in_braces c) at n (after 1 rest) else Stops rest.at (BadDirective n)))
     by None = tt
     by (Some b) = colon (b == ascii.colon)
@@ -185,8 +185,8 @@ result_has c h at n rest = by (first_of rest.bytes)
 -- directives
 
 -- a directive is no white space
-directive_dark : {size : ℕ} {c : ListContext} {f : Directive} {t q : List ℕ} {one : Item} → IsDirective size c f t one q
-    → is_white_item one ≡ false
+directive_dark : {size : ℕ} {c : ListContext} {directive : Directive} {t q : List ℕ} {one : Item}
+    → IsDirective size c directive t one q → is_white_item one ≡ false
 directive_dark s.whole = refl
 directive_dark s.named = refl
 directive_dark (s.temp_name i) = refl
@@ -231,18 +231,17 @@ percent_dark c rest = meant_has (λ one end. is_white_item one ≡ false)
 -- loops of Descent, by their turns
 
 -- two parts in a row and a third are the first and the other two in a row
-pub then_then : {X Y Z : Type 0} (r : Read X) (f : X → Left → Read Y) (g : Y → Left → Read Z)
-    → then_read (then_read r f) g ≡ then_read r (λ x end. then_read (f x end) g)
-then_then (Took x end) f g = refl
-then_then (Ends n) f g = refl
-then_then (Stops n fault) f g = refl
+pub then_then : {X Y Z : Type 0} (part : Read X) (goes : X → Left → Read Y) (goes_on : Y → Left → Read Z)
+    → then_read (then_read part goes) goes_on ≡ then_read part (λ x end. then_read (goes x end) goes_on)
+then_then (Took x end) goes goes_on = refl
+then_then (Ends n) goes goes_on = refl
+then_then (Stops n fault) goes goes_on = refl
 
 -- a step that gives turns, where each but the last takes a byte at least
 module _ {X : Type 0} (step : Left → Read (Turn X)) (takes : (rest : Left) → Has (Takes (length rest.bytes)) (step rest)) where
   -- a turn and what follows it, by what follows a turn that takes a byte
   same_turn : (goes more : Left → Read X) (n : ℕ) (r : Read (Turn X)) → Has (Takes n) r
-      → ((end : Left) → suc (length end.bytes) ≤ n → goes end ≡ more end)
-      → then_read r (after_turn goes) ≡ then_read r (after_turn more)
+      → ((end : Left) → suc (length end.bytes) ≤ n → goes end ≡ more end) → then_read r (after_turn goes) ≡ then_read r (after_turn more)
   same_turn goes more n (Took (Last x) end) h g = refl
   same_turn goes more n (Took (More f) end) h g = ap (λ r. mapped f r) (g end h)
   same_turn goes more n (Ends m) h g = refl
@@ -272,8 +271,7 @@ module _ {X : Type 0} (step : Left → Read (Turn X)) (takes : (rest : Left) →
           turns_enough bytes end.bytes end (omega (j, p, arith)) (omega arith))
 
 -- patterns after an ampersand are one, and those after it if another ampersand follows
-pub patterns_by : (at : ℕ) (rest : Left)
-    → d.patterns at rest ≡ then_read (d.pattern_from at (past_white rest)) (after_turn (d.patterns at))
+pub patterns_by : (at : ℕ) (rest : Left) → d.patterns at rest ≡ then_read (d.pattern_from at (past_white rest)) (after_turn (d.patterns at))
 patterns_by at rest = repeated (λ mid. d.pattern_from at (past_white mid)) (patterns_take at) rest
 
 -- the lists in a list with the context c; the % of the directive has the place `at`

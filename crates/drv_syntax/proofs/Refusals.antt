@@ -15,7 +15,7 @@ use Rattle.std.proofs.lemmas.List.{length-take, length-take-le, take-append-drop
 -- `refused_at_misfit`, `front_prefix` and `cut_front`.
 -- Names: `k`, `place`: a place in the text. `t`, `u`, `v`: what is left of the text, from step to step. `size`: the length of the whole
 -- text. `rest`: what follows in the text. `A`: any type. `read`: what a text gives. `refused_at`: where Descent refuses a text, the grammar
--- does too. `Front`: the text is a front of a spec text.
+-- does too. `Front`: the text is a front of a spec text. `misfit`: the place of the byte that doesn't fit.
 
 -- up to the byte of the refusal, with anything after it, the text is refused at that place
 refused_on : (text : List ℕ) (k : ℕ) (fault : SyntaxFault) → read text ≡ Bad k fault → (rest : List ℕ)
@@ -69,7 +69,8 @@ refused_fronts text k fault h = (
   refused_on text k fault h,
 )
   where
-    by : (j : ℕ) → j ≤ k → Front (take j text) ⊎ ((i : ℕ) × (f : SyntaxFault) × (read (take j text) ≡ Bad i f)) → Front (take j text)
+    by : (j : ℕ) → j ≤ k
+        → Front (take j text) ⊎ ((misfit : ℕ) × (cause : SyntaxFault) × (read (take j text) ≡ Bad misfit cause)) → Front (take j text)
     by j l (inl f) = f
     by j l (inr (i, f, e)) =
         let whole = subst (λ (t : List ℕ). read t ≡ Bad i f) (take-append-drop j text) (refused_longer (take j text) (drop j text) i f e) in

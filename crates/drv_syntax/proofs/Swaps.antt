@@ -164,8 +164,8 @@ module _ (x y : List ℕ) where
   emits_moved {n} {t = t} {v = v} (r.starred_ends {mark} {u = head} {word = word} sp e i z) c =
       let m = spaces_moved z c in let k = pattern_moved i m.swaps in by k.swaps k.is m.is
     where
-      by : {w x : List ℕ} → Filled (mark ∷ head) w → IsPattern w (pattern word true) x → AreSpaces x v
-          → Moved Filled t (λ w. ReachesEmits n w (r.AnEnd n r.ends_pattern) v)
+      by : {other behind : List ℕ} → Filled (mark ∷ head) other → IsPattern other (pattern word true) behind
+          → AreSpaces behind v → Moved Filled t (λ other. ReachesEmits n other (r.AnEnd n r.ends_pattern) v)
       by (filled d) i z = let j = spaces_moved sp (filled d) in moved _ j.swaps (r.starred_ends j.is e i z)
   emits_moved (r.after_mark sp e i) c = let j = spaces_moved sp (filled (any c)) in moved _ j.swaps (r.after_mark j.is e (alone i refl c))
   emits_moved (r.past_mark {mark} {b} sp e w z) c =
@@ -242,8 +242,8 @@ module _ (x y : List ℕ) where
       item_moved (s.directive e i) c = let m = directive_moved i c in moved _ (settled_two (any m.swaps)) (s.directive e m.is)
 
       -- a directive is the same
-      directive_moved : {c : ListContext} {f : Directive} {t u v : List ℕ} {item : Item} → IsDirective size c f t item u → Settled u v
-          → Moved Filled t (λ w. IsDirective whole c f w item v)
+      directive_moved : {c : ListContext} {directive : Directive} {t u v : List ℕ} {item : Item}
+          → IsDirective size c directive t item u → Settled u v → Moved Filled t (λ w. IsDirective whole c directive w item v)
       directive_moved s.whole c = moved _ (loose c) s.whole
       directive_moved s.named c = moved _ (loose c) s.named
       directive_moved (s.temp_name i) c = let m = suffix_moved i c in moved _ m.swaps (s.temp_name m.is)
@@ -319,22 +319,22 @@ module _ (x y : List ℕ) where
           let m = in_moved o c in moved _ (settled_two (any m.swaps)) (r.in_directive (place _ p (grow (37 ∷ b ∷ []) m.swaps)) e m.is)
 
       -- a directive leads to the same place
-      in_moved : {c : ListContext} {n : ℕ} {f : Directive} {due : Due} {t u v : List ℕ} → ReachesIn size c n f t due u → Ready due u v
-          → Moved Filled t (λ w. ReachesIn whole c n f w due v)
+      in_moved : {c : ListContext} {at : ℕ} {directive : Directive} {due : Due} {t u v : List ℕ}
+          → ReachesIn size c at directive t due u → Ready due u v → Moved Filled t (λ w. ReachesIn whole c at directive w due v)
       in_moved (r.in_call name e is o) c =
           let m = reaches_moved o c in moved _ (grow name (filled (any (loose m.swaps)))) (r.in_call name e is m.is)
       in_moved (r.in_place e o) c = let m = inside_moved o c in moved _ m.swaps (r.in_place e m.is)
       in_moved (r.in_marked e o) c = let m = inside_moved o c in moved _ (filled (any m.swaps)) (r.in_marked e m.is)
 
       -- the inside of braces leads to the same place
-      inside_moved : {c : ListContext} {n : ℕ} {due : Due} {t u v : List ℕ} → ReachesBrace size c n t due u → Ready due u v
-          → Moved Filled t (λ w. ReachesBrace whole c n w due v)
+      inside_moved : {c : ListContext} {at : ℕ} {due : Due} {t u v : List ℕ}
+          → ReachesBrace size c at t due u → Ready due u v → Moved Filled t (λ w. ReachesBrace whole c at w due v)
       inside_moved (r.in_emits o) c = let m = emits_moved o c in moved _ m.swaps (r.in_emits m.is)
       inside_moved (r.in_choices o) c = let m = first_moved o c in moved _ m.swaps (r.in_choices m.is)
 
       -- alternatives lead to the same place
-      first_moved : {c : ListContext} {n : ℕ} {order : Order} {due : Due} {t u v : List ℕ} → ReachesChoices size c n order t due u
-          → Ready due u v → Moved Filled t (λ w. ReachesChoices whole c n order w due v)
+      first_moved : {c : ListContext} {at : ℕ} {order : Order} {due : Due} {t u v : List ℕ}
+          → ReachesChoices size c at order t due u → Ready due u v → Moved Filled t (λ w. ReachesChoices whole c at order w due v)
       first_moved (r.to_tests o) c = let m = asks_moved o c in moved _ m.swaps (r.to_tests m.is)
       first_moved (r.to_x i o) c =
           let m = reaches_moved o c in let k = tests_moved i (filled (any (loose m.swaps))) in moved _ k.swaps (r.to_x k.is m.is)
@@ -343,8 +343,8 @@ module _ (x y : List ℕ) where
           let k = tests_moved i (filled (any (loose m.swaps))) in moved _ k.swaps (r.after_x k.is m.is j.is)
 
       -- alternatives after the first lead to the same place
-      next_moved : {c : ListContext} {n : ℕ} {due : Due} {t u v : List ℕ} → ReachesLater size c n t due u → Ready due u v
-          → Moved Filled t (λ w. ReachesLater whole c n w due v)
+      next_moved : {c : ListContext} {at : ℕ} {due : Due} {t u v : List ℕ}
+          → ReachesLater size c at t due u → Ready due u v → Moved Filled t (λ w. ReachesLater whole c at w due v)
       next_moved (r.to_next o) c = let m = first_moved o c in moved _ m.swaps (r.to_next m.is)
       next_moved (r.to_default sp o) c =
           let m = reaches_moved o c in let k = spaces_moved sp (filled (any (loose m.swaps))) in moved _ k.swaps (r.to_default k.is m.is)
@@ -353,8 +353,8 @@ module _ (x y : List ℕ) where
           moved _ k.swaps (r.after_default k.is m.is)
 
       -- tests lead to the same place
-      asks_moved : {c : ListContext} {n : ℕ} {order : Order} {due : Due} {t u v : List ℕ} → ReachesTests size c n order t due u
-          → Ready due u v → Moved Filled t (λ w. ReachesTests whole c n order w due v)
+      asks_moved : {c : ListContext} {at : ℕ} {order : Order} {due : Due} {t u v : List ℕ}
+          → ReachesTests size c at order t due u → Ready due u v → Moved Filled t (λ w. ReachesTests whole c at order w due v)
       asks_moved (r.in_test sp sign o) c =
           let m = due_moved o c in let g = sign_moved sign m.swaps in let j = spaces_moved sp g.swaps in
           moved _ j.swaps (r.in_test j.is g.is m.is)
@@ -363,8 +363,9 @@ module _ (x y : List ℕ) where
           let g = sign_moved sign k.swaps in let j = spaces_moved sp g.swaps in moved _ j.swaps (r.after_bar j.is g.is k.is m.is n.is)
 
       -- what a test asks leads to the same place
-      due_moved : {c : ListContext} {n : ℕ} {order : Order} {negated : Bool} {due : Due} {t u v : List ℕ}
-          → ReachesAsked size c n order negated t due u → Ready due u v → Moved Filled t (λ w. ReachesAsked whole c n order negated w due v)
+      due_moved : {c : ListContext} {at : ℕ} {order : Order} {negated : Bool} {due : Due} {t u v : List ℕ}
+          → ReachesAsked size c at order negated t due u
+          → Ready due u v → Moved Filled t (λ w. ReachesAsked whole c at order negated w due v)
       due_moved r.asked_due c = moved _ c r.asked_due
       due_moved (r.word_due e m) c = moved _ (filled (any c)) (r.word_due e m)
       due_moved (r.in_function name e is o) c =
@@ -403,4 +404,4 @@ module _ (q : List ℕ) where
       → IsItem (size + length q) c (t ++ q) item (u ++ q)
   item_longer {size} {c} {u = u} {item = item} i j =
       let m = item_moved [] q {whole = size + length q} (omega arith) i (begins j) in
-      subst (λ (w : List ℕ). IsItem (size + length q) c w item (u ++ q)) (swaps_back [] q refl (any [] q (loose [] q m.swaps))) m.is
+      subst (λ (front : List ℕ). IsItem (size + length q) c front item (u ++ q)) (swaps_back [] q refl (any [] q (loose [] q m.swaps))) m.is

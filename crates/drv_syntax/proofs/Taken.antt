@@ -15,8 +15,9 @@ use Rattle.std.specs.Result.{IsErrAnd}
 -- From what the code gives of a part to what Descent makes of it: where the code goes on, the part was read (`taken`), and where it returns
 -- a fault, the part has that fault (`Fails`). So each way through a function of src/descent/ follows the words of Descent. `given` turns
 -- what Descent makes of a part into the code's result. `outer` is the place of the outermost directive that is open, if one is.
--- Names: `X`, `Y`: any type. `r`: what was read. `v`, `u`: what is left of the text, with the parts so far, before and after. `end`: what
--- is left after a part. `tail`: where a list ends. `then_read`: goes on with what was read and with what is left.
+-- Names: `X`, `Y`: any type. `r`, `part`: what was read. `v`, `u`: what is left of the text, with the parts so far, before and after.
+-- `end`: what is left after a part. `tail`: where a list ends. `then_read`: goes on with what was read and with what is left. `make`,
+-- `made`: what the code makes of a part. `follow`: what it does after that.
 
 -- a result and what follows it, unless it is a fault
 abbrev pub then_ok : {X Y : Type 0} → Result X SyntaxFault → (X → Result Y SyntaxFault) → Result Y SyntaxFault
@@ -28,28 +29,28 @@ pub ok_same : {X : Type 0} {x y : X} → ◌≡◌ {A = Result X SyntaxFault} (O
 ok_same e = cc
 
 -- what the code gives of two parts in a row, by what it gives of the first
-pub given_then : {X Y Z W : Type 0} (outer : Option ℕ) (f : Y → Left → Z) (goes : X → Left → Read Y) (h : X → Left → W)
-    (k : W → Result Z SyntaxFault) (r : Read X) → ((x : X) (end : Left) → given outer f (goes x end) ≡ k (h x end))
-    → given outer f (then_read r goes) ≡ then_ok (given outer h r) k
-given_then outer f goes h k (Took x end) e = e x end
-given_then outer f goes h k (Ends n) e = refl
-given_then outer f goes h k (Stops n fault) e = refl
+pub given_then : {X Y Z W : Type 0} (outer : Option ℕ) (make : Y → Left → Z) (goes : X → Left → Read Y) (made : X → Left → W) (follow : W
+    → Result Z SyntaxFault) (part : Read X) → ((value : X) (end : Left) → given outer make (goes value end) ≡ follow (made value end))
+    → given outer make (then_read part goes) ≡ then_ok (given outer made part) follow
+given_then outer make goes made follow (Took value end) e = e value end
+given_then outer make goes made follow (Ends n) e = refl
+given_then outer make goes made follow (Stops n fault) e = refl
 
 -- what the code gives of two parts in a row, where the first has the property P if it is read
-pub given_on : {X Y Z W : Type 0} (P : X → Left → Type 0) (outer : Option ℕ) (f : Y → Left → Z) (goes : X → Left → Read Y) (h : X → Left
-    → W)
-    (k : W → Result Z SyntaxFault) (r : Read X) → Has P r → ((x : X) (end : Left) → P x end → given outer f (goes x end) ≡ k (h x end))
-    → given outer f (then_read r goes) ≡ then_ok (given outer h r) k
-given_on P outer f goes h k (Took x end) p e = e x end p
-given_on P outer f goes h k (Ends n) p e = refl
-given_on P outer f goes h k (Stops n fault) p e = refl
+pub given_on : {X Y Z W : Type 0} (Holds : X → Left → Type 0) (outer : Option ℕ)
+    (make : Y → Left → Z) (goes : X → Left → Read Y) (made : X → Left → W) (follow : W → Result Z SyntaxFault) (part : Read X)
+    → Has Holds part → ((value : X) (end : Left) → Holds value end → given outer make (goes value end) ≡ follow (made value end))
+    → given outer make (then_read part goes) ≡ then_ok (given outer made part) follow
+given_on Holds outer make goes made follow (Took value end) p e = e value end p
+given_on Holds outer make goes made follow (Ends n) p e = refl
+given_on Holds outer make goes made follow (Stops n fault) p e = refl
 
 -- what is written of a function of what was read
-pub given_mapped : {X Y Z : Type 0} (outer : Option ℕ) (f : Y → Left → Z) (g : X → Y) (r : Read X)
-    → given outer f (mapped g r) ≡ given outer (λ x rest. f (g x) rest) r
-given_mapped outer f g (Took x rest) = refl
-given_mapped outer f g (Ends at) = refl
-given_mapped outer f g (Stops n fault) = refl
+pub given_mapped : {X Y Z : Type 0} (outer : Option ℕ) (make : Y → Left → Z) (change : X → Y) (part : Read X)
+    → given outer make (mapped change part) ≡ given outer (λ x rest. make (change x) rest) part
+given_mapped outer make change (Took x rest) = refl
+given_mapped outer make change (Ends at) = refl
+given_mapped outer make change (Stops n fault) = refl
 
 -- a part that was read, with what is left, of which the code made y
 pub record Taken {X Y : Type 0} (f : X → Left → Y) (r : Read X) (y : Y) : Type 0 where
@@ -59,14 +60,15 @@ pub record Taken {X Y : Type 0} (f : X → Left → Y) (r : Read X) (y : Y) : Ty
   pub on : f part rest ≡ y
 
 -- where the code goes on after a part, the part was read
-pub taken : {X Y : Type 0} (outer : Option ℕ) (f : X → Left → Y) (r : Read X) {y : Y} → given outer f r ≡ Ok y → Taken f r y
-taken outer f (Took x rest) e = record { part = x; rest = rest; is = refl; on = ok_same e }
-taken outer f (Ends n) e = absurd cc
-taken outer f (Stops n fault) e = absurd cc
+pub taken : {X Y : Type 0} (outer : Option ℕ) (make : X → Left → Y) (part : Read X) {y : Y}
+    → given outer make part ≡ Ok y → Taken make part y
+taken outer make (Took x rest) e = record { part = x; rest = rest; is = refl; on = ok_same e }
+taken outer make (Ends n) e = absurd cc
+taken outer make (Stops n fault) e = absurd cc
 
 -- where the code goes on after a part of which it writes nothing, it has read the part's value
-pub value_taken : {X : Type 0} (outer : Option ℕ) (v : Reading) (r : Read X) {x : X} {u : Reading} → value_given outer v r ≡ Ok (x, u)
-    → (r ≡ Took x u.rest) × (v.parts ≡ u.parts)
+pub value_taken : {X : Type 0} (outer : Option ℕ) (v : Reading) (part : Read X) {x : X} {u : Reading}
+    → value_given outer v part ≡ Ok (x, u) → (part ≡ Took x u.rest) × (v.parts ≡ u.parts)
 value_taken outer v (Took x rest) e = (ap (λ y. Took y.0 y.1.rest) (ok_same e), ap (λ y. y.1.parts) (ok_same e))
 value_taken outer v (Ends n) e = absurd cc
 value_taken outer v (Stops n fault) e = absurd cc
@@ -78,8 +80,8 @@ pub record Listed (v : Reading) (r : Read (Items × ℕ)) (u : Reading) : Type 0
   pub parts_are : list_written list.0 v.parts ≡ u.parts
 
 -- where the code goes on after a list, it has read the list
-pub listed : (outer : Option ℕ) (tail : Tail) (v : Reading) (r : Read (Items × ℕ)) {last : Tail} {u : Reading}
-    → listed_given outer tail v r ≡ Ok (last, u) → Listed v r u
+pub listed : (outer : Option ℕ) (tail : Tail) (v : Reading) (part : Read (Items × ℕ)) {last : Tail} {u : Reading}
+    → listed_given outer tail v part ≡ Ok (last, u) → Listed v part u
 listed outer tail v (Took list rest) e = record {
   list = list;
   is = ap (λ y. Took list y.1.rest) (ok_same e);
@@ -94,27 +96,27 @@ pub data Fails {X : Type 0} (outer : Option ℕ) (fault : SyntaxFault) : Read X 
   at_byte : {n : ℕ} {f : SyntaxFault} → f ≡ fault → Fails outer fault (Stops n f)
 
 -- where the code returns a fault of a part, the part has that fault
-pub fails : {X Y : Type 0} (outer : Option ℕ) (f : X → Left → Y) (r : Read X) {fault : SyntaxFault} → given outer f r ≡ Err fault
-    → Fails outer fault r
-fails outer f (Took x rest) e = absurd cc
-fails outer f (Ends n) e = at_end cc
-fails outer f (Stops n g) e = at_byte cc
+pub fails : {X Y : Type 0} (outer : Option ℕ) (make : X → Left → Y) (part : Read X) {fault : SyntaxFault}
+    → given outer make part ≡ Err fault → Fails outer fault part
+fails outer make (Took x rest) e = absurd cc
+fails outer make (Ends n) e = at_end cc
+fails outer make (Stops n g) e = at_byte cc
 
 -- of a part with a fault the code returns that fault
-pub given_fails : {X Y : Type 0} (outer : Option ℕ) (f : X → Left → Y) {r : Read X} {fault : SyntaxFault} → Fails outer fault r
-    → given outer f r ≡ Err fault
-given_fails outer f (at_end e) = ap (λ e. Err e) e
-given_fails outer f (at_byte e) = ap (λ e. Err e) e
+pub given_fails : {X Y : Type 0} (outer : Option ℕ) (make : X → Left → Y) {part : Read X} {fault : SyntaxFault}
+    → Fails outer fault part → given outer make part ≡ Err fault
+given_fails outer make (at_end e) = ap (λ e. Err e) e
+given_fails outer make (at_byte e) = ap (λ e. Err e) e
 
 -- two parts in a row have the fault of the first
-pub fails_then : {X Y : Type 0} {outer : Option ℕ} {fault : SyntaxFault} {r : Read X} (goes : X → Left → Read Y) → Fails outer fault r
-    → Fails outer fault (then_read r goes)
+pub fails_then : {X Y : Type 0} {outer : Option ℕ} {fault : SyntaxFault} {part : Read X} (goes : X → Left → Read Y)
+    → Fails outer fault part → Fails outer fault (then_read part goes)
 fails_then goes (at_end e) = at_end e
 fails_then goes (at_byte e) = at_byte e
 
 -- where a text ends in a part, the outermost directive is what isn't closed
-pub fails_within : {X : Type 0} {outer : Option ℕ} {fault : SyntaxFault} (at : ℕ) {r : Read X}
-    → Fails (Some (open_at outer at)) fault r → Fails outer fault (within at r)
+pub fails_within : {X : Type 0} {outer : Option ℕ} {fault : SyntaxFault} (at : ℕ) {part : Read X}
+    → Fails (Some (open_at outer at)) fault part → Fails outer fault (within at part)
 fails_within at (at_end e) = at_end e
 fails_within at (at_byte e) = at_byte e
 
@@ -140,12 +142,13 @@ err_gives view (Ok x) e h = absurd e
 err_gives view (Err f) e h = inr (rw e h)
 
 -- code that passes on the fault of a part meets its clause, if by the definition the part is read first
-pub err_then : {U V W X Y : Type 0} {fault : SyntaxFault} (view : U → V) (result : Result U SyntaxFault) (outer : Option ℕ)
-    (f : X → Left → W) (g : Y → Left → V) (r : Read X) (goes : X → Left → Read Y) → IsErrAnd result (λ e. e ≡ fault)
-    → (fault ≡ Memory) ⊎ (given outer f r ≡ Err fault) → Gives Memory view result (given outer g (then_read r goes))
-err_then {W = W} {X = X} {Y = Y} {fault = fault} view result outer f g r goes e h = gives_err view result e h (by r)
+pub err_then : {Returned V W X Y : Type 0} {fault : SyntaxFault} (view : Returned → V) (result : Result Returned SyntaxFault)
+    (outer : Option ℕ) (make : X → Left → W) (make_all : Y → Left → V) (part : Read X) (goes : X → Left → Read Y)
+    → IsErrAnd result (λ e. e ≡ fault)
+    → (fault ≡ Memory) ⊎ (given outer make part ≡ Err fault) → Gives Memory view result (given outer make_all (then_read part goes))
+err_then {W = W} {X = X} {Y = Y} {fault = fault} view result outer make make_all part goes e h = gives_err view result e h (by part)
   where
-    by : (r : Read X) → given outer f r ≡ Err fault → given outer g (then_read r goes) ≡ Err fault
+    by : (part : Read X) → given outer make part ≡ Err fault → given outer make_all (then_read part goes) ≡ Err fault
     by (Took x rest) e = absurd cc
     by (Ends at) e = cc
     by (Stops n fault) e = cc

@@ -27,7 +27,8 @@ use Rattle.std.specs.Prelude.{◌-◌, ◌==◌, Some}
 -- suffix or of a language. `one`: one byte on. `is_white`: a space, a tab or a newline. `AreSpaces`: the text begins with white space, or
 -- with none. `Loops`: a loop from this rest on gives r, with any number of turns that is enough. `IsQuoted`: the longest run of bytes of
 -- the class f and of escapes. `mapped`: what was read, as this function of it. `in_braces`: the context in the braces of a list, before the
--- colon of an alternative.
+-- colon of an alternative. `unspaced`, `asking`, `behind`: the text without the white space before it, from what a test asks on, and after
+-- that. `own`: the place of a function's own %. `part`: what was read.
 
 -- the byte that a list ends at; 0 at the end of a text
 abbrev pub byte_of : List ℕ → ℕ
@@ -58,10 +59,11 @@ pub call_level : {size : ℕ} {c : ListContext} {t name q : List ℕ} {items : I
 call_level (s.call e is l) = e
 
 -- what is read, as a function of it and then as another, is what is read as both at once
-pub mapped_mapped : {X Y Z : Type 0} (f : X → Y) (g : Y → Z) (r : Read X) → mapped (λ x. g (f x)) r ≡ mapped g (mapped f r)
-mapped_mapped f g (Took x rest) = refl
-mapped_mapped f g (d.Ends n) = refl
-mapped_mapped f g (d.Stops n fault) = refl
+pub mapped_mapped : {X Y Z : Type 0} (change : X → Y) (further : Y → Z) (part : Read X)
+    → mapped (λ x. further (change x)) part ≡ mapped further (mapped change part)
+mapped_mapped change further (Took x rest) = refl
+mapped_mapped change further (d.Ends n) = refl
+mapped_mapped change further (d.Stops n fault) = refl
 
 -- a text of this size
 module _ (size : ℕ) where
@@ -71,23 +73,22 @@ module _ (size : ℕ) where
       within at (then_read (lists (in_arguments c) (here size t)) (λ list end. Took (make name list.0) (after 1 end)))
 
   -- after a function's name and its parenthesis, Descent goes on with its arguments
-  pub call_on : {X : Type 0} (make : List ℕ → Items → X) (lists : Lists) (c : ListContext) (at n : ℕ) (name t : List ℕ)
-      → is_function name ≡ true → length (name ++ 40 ∷ t) ≤ size
-      → d.call_as make lists c at n (here size (name ++ 40 ∷ t)) ≡ called make lists c at name t
-  call_on make lists c at n name t is h =
+  pub call_on : {X : Type 0} (make : List ℕ → Items → X) (lists : Lists) (c : ListContext) (at own : ℕ) (name t : List ℕ) → is_function name
+      ≡ true → length (name ++ 40 ∷ t) ≤ size → d.call_as make lists c at own (here size (name ++ 40 ∷ t)) ≡ called make lists c at name t
+  call_on make lists c at own name t is h =
       let front : is_function (name ++ []) ≡ true = ap is_function (append-nil name) ∙ is in rw (
-        function_on size name (40 ∷ t) n (function_front name [] front) (bracket_ends name) h,
+        function_on size name (40 ∷ t) own (function_front name [] front) (bracket_ends name) h,
         is,
         one size t (omega (arith, length-append name (40 ∷ t), h)),
       ) refl
 
   -- a call by the grammar is read
-  pub call_is : {X : Type 0} (make : List ℕ → Items → X) (lists : Lists) {c : ListContext} (at n : ℕ) {t name q : List ℕ} {items : Items}
-      → ((c.levels == 0) ≡ false → ListReads size lists (in_arguments c)) → IsCall size c t name items q → length t ≤ size
-      → d.call_as make lists c at n (here size t) ≡ Took (make name items) (here size q)
-  call_is make lists {c} at n {q = q} reads (s.call {text = t} {name = name} {arguments = items} e is l) h =
+  pub call_is : {X : Type 0} (make : List ℕ → Items → X) (lists : Lists) {c : ListContext} (at own : ℕ) {t name q : List ℕ} {items : Items}
+      → ((c.levels == 0) ≡ false → ListReads size lists (in_arguments c))
+      → IsCall size c t name items q → length t ≤ size → d.call_as make lists c at own (here size t) ≡ Took (make name items) (here size q)
+  call_is make lists {c} at own {q = q} reads (s.call {text = t} {name = name} {arguments = items} e is l) h =
       let f : length t ≤ size = omega (arith, length-append name (40 ∷ t), h) in
-      rw (call_on make lists c at n name t is h, reads e t (41 ∷ q) items l f, one size q (omega (arith, items_shorter l, f))) refl
+      rw (call_on make lists c at own name t is h, reads e t (41 ∷ q) items l f, one size q (omega (arith, items_shorter l, f))) refl
 
   -- the braces of a directive whose % has the place `at`, in a list with the context c
   module _ (deep : Lists) (c : ListContext) (at : ℕ) where
@@ -149,10 +150,12 @@ module _ (size : ℕ) where
           signed (s.not_sign {text} i) w l = let m = spaces_on size i w (omega (arith, l)) in rw (one size text l, m.0, m.1) refl
 
       -- once what it asks is read, a test is read with white space and the byte after it
-      pub tried_is : {t u v w q : List ℕ} {negated : Bool} {o : Operand} {b : ℕ} → AreSpaces t u → IsSign u negated v → s.Stops is_white v
-          → d.asked deep c at (may_emit order negated) (here size v) ≡ Took o (here size w)
-          → AreSpaces w (b ∷ q) → is_white b ≡ false → length t ≤ size → length w ≤ size → d.one_test deep c at order (here size t)
-          ≡ Took (record { place = span (size - length u) (size - length w); negated = negated; operand = o; byte = b }) (here size (b ∷ q))
+      pub tried_is : {t unspaced asking behind q : List ℕ} {negated : Bool} {operand : Operand} {b : ℕ}
+          → AreSpaces t unspaced → IsSign unspaced negated asking → s.Stops is_white asking
+          → d.asked deep c at (may_emit order negated) (here size asking) ≡ Took operand (here size behind) → AreSpaces behind (b ∷ q)
+          → is_white b ≡ false → length t ≤ size → length behind ≤ size → d.one_test deep c at order (here size t)
+          ≡ Took (record { place = span (size - length unspaced) (size - length behind); negated = negated; operand = operand; byte = b })
+          (here size (b ∷ q))
       tried_is sp sign w e z white h l = let m = spaces_on size z (s.at_byte white) l in rw (test_on sp sign w h, e, m.0, m.1) refl
 
     -- lists two levels deeper are read
@@ -228,20 +231,21 @@ module _ (size at : ℕ) where
   and_turn mid = d.pattern_from at (past_white mid)
 
   -- a pattern after an ampersand is read with white space around it, and Descent goes on by the byte after that
-  pub pattern_on : {t u v w : List ℕ} {p : Pattern} {b : ℕ} → AreSpaces t u → IsPattern u p v → AreSpaces v (b ∷ w) → is_white b ≡ false
-      → length t ≤ size → and_turn (here size t) ≡ d.pattern_turn at (span (size - length u) (size - length v), p) (here size (b ∷ w))
-  pattern_on {u = u} {v} sp i z white h =
-      let f : length u ≤ size = omega (arith, spaces_shorter sp, h) in let m = spaces_on size sp (pattern_head no_white i) h in
+  pub pattern_on : {t unspaced behind rest : List ℕ} {p : Pattern} {b : ℕ}
+      → AreSpaces t unspaced → IsPattern unspaced p behind → AreSpaces behind (b ∷ rest) → is_white b ≡ false → length t ≤ size
+      → and_turn (here size t) ≡ d.pattern_turn at (span (size - length unspaced) (size - length behind), p) (here size (b ∷ rest))
+  pattern_on {unspaced = unspaced} {behind} sp i z white h =
+      let f : length unspaced ≤ size = omega (arith, spaces_shorter sp, h) in let m = spaces_on size sp (pattern_head no_white i) h in
       let x = spaces_on size z (s.at_byte white) (omega (arith, pattern_shorter i, f)) in
       rw (m.0, m.1, pattern_is size at i f, x.0, x.1) refl
 
   -- after a pattern and an ampersand, Descent goes on with the patterns after that
-  pub and_on : {t u v w : List ℕ} {p : Pattern} {r : Read (List (Span × Pattern))} → AreSpaces t u → IsPattern u p v
-      → AreSpaces v (38 ∷ w) → length t ≤ size → Loops and_turn (here size w) r
-      → Loops and_turn (here size t) (mapped (λ ps. (span (size - length u) (size - length v), p) ∷ ps) r)
-  and_on {t} {w = w} sp i z h k =
-      let f : suc (length w) ≤ length t = omega (arith, spaces_shorter sp, pattern_shorter i, spaces_shorter z) in
-      loop_goes (rw (pattern_on sp i z refl h, one size w (omega (arith, f, h))) refl) f k
+  pub and_on : {t unspaced behind rest : List ℕ} {p : Pattern} {part : Read (List (Span × Pattern))} → AreSpaces t unspaced
+      → IsPattern unspaced p behind → AreSpaces behind (38 ∷ rest) → length t ≤ size → Loops and_turn (here size rest) part
+      → Loops and_turn (here size t) (mapped (λ ps. (span (size - length unspaced) (size - length behind), p) ∷ ps) part)
+  and_on {t} {rest = rest} sp i z h k =
+      let f : suc (length rest) ≤ length t = omega (arith, spaces_shorter sp, pattern_shorter i, spaces_shorter z) in
+      loop_goes (rw (pattern_on sp i z refl h, one size rest (omega (arith, f, h))) refl) f k
 
   -- in a list with the context c
   module _ (deep : Lists) (c : ListContext) where
@@ -298,11 +302,11 @@ module _ (size at : ℕ) where
         bare (follows {b = x} {q} k) m (s.quoted_stop n o) (s.at_byte e) l =
             (d.bare_operand b, refl, bare_is b x q m (s.quoted_stop n o) e k l)
 
-        marked : (w : List ℕ) → is_mark b ≡ true → IsQuoted is_word t w v → Operates (b ∷ t) (pattern (b ∷ w) false) v
+        marked : (run : List ℕ) → is_mark b ≡ true → IsQuoted is_word t run v → Operates (b ∷ t) (pattern (b ∷ run) false) v
         marked [] m i = bare f m i e h
-        marked (x ∷ w) m i = (d.marked_operand b (x ∷ w), refl, marked_is size deep c at true b m i e h)
+        marked (x ∷ run) m i = (d.marked_operand b (x ∷ run), refl, marked_is size deep c at true b m i e h)
 
-        by : (z : Bool) → is_mark b ≡ z → Operates (b ∷ t) (pattern (b ∷ word) false) v
+        by : (marks : Bool) → is_mark b ≡ marks → Operates (b ∷ t) (pattern (b ∷ word) false) v
         by true m = marked word m i
         by false m = switch (s.unstarred (s.quoted_byte y g i) e) (s.at_byte m) h
 
@@ -316,10 +320,10 @@ module _ (size at : ℕ) where
     }) (here size (b ∷ q)))
 
     -- what is read as a pattern is read as one with white space around it and the byte after it
-    pub emitting : {t u v q : List ℕ} {p : Pattern} {b : ℕ} → AreSpaces t u → IsPattern u p v → Operates u p v → AreSpaces v (b ∷ q)
-        → is_white b ≡ false → length t ≤ size → Emitting t u v p b q
-    emitting {v = v} sp i m z white h =
-        let g : length v ≤ size = omega (arith, spaces_shorter sp, pattern_shorter i, h) in (
+    pub emitting : {t unspaced behind q : List ℕ} {p : Pattern} {b : ℕ} → AreSpaces t unspaced → IsPattern unspaced p behind
+        → Operates unspaced p behind → AreSpaces behind (b ∷ q) → is_white b ≡ false → length t ≤ size → Emitting t unspaced behind p b q
+    emitting {behind = behind} sp i m z white h =
+        let g : length behind ≤ size = omega (arith, spaces_shorter sp, pattern_shorter i, h) in (
           m.0,
           m.1,
           tried_is size deep c at AtFront sp (s.plain_sign (pattern_head no_sign i)) (pattern_head no_white i) m.2 z white h g,
@@ -330,13 +334,17 @@ module _ (size at : ℕ) where
     GiveEmits t r = (d.form deep c at AtFront (here size t) ≡ mapped Patterns r) × Loops and_turn (here size t) r
 
     -- after a pattern and an ampersand, Descent goes on with the patterns after that
-    pub emits_on : {t u v w : List ℕ} {p : Pattern} {r : Read (List (Span × Pattern))} → AreSpaces t u → IsPattern u p v
-        → AreSpaces v (38 ∷ w) → length t ≤ size → Loops and_turn (here size w) r
-        → GiveEmits t (mapped (λ ps. (span (size - length u) (size - length v), p) ∷ ps) r)
-    emits_on {u = u} {w = w} {r = r} sp i z h k =
+    pub emits_on : {t unspaced behind rest : List ℕ} {p : Pattern} {part : Read (List (Span × Pattern))} → AreSpaces t unspaced
+        → IsPattern unspaced p behind → AreSpaces behind (38 ∷ rest) → length t ≤ size → Loops and_turn (here size rest) part
+        → GiveEmits t (mapped (λ ps. (span (size - length unspaced) (size - length behind), p) ∷ ps) part)
+    emits_on {unspaced = unspaced} {rest = rest} {part = part} sp i z h k =
         let m = emitting sp i (operates i (follow z refl) (omega (arith, spaces_shorter sp, h))) z refl h in (
-          rw (m.2, m.1, one size w (omega (arith, spaces_shorter sp, pattern_shorter i, spaces_shorter z, h)), k.gives w (omega arith))
-              (mapped_mapped _ _ r),
+          rw (
+            m.2,
+            m.1,
+            one size rest (omega (arith, spaces_shorter sp, pattern_shorter i, spaces_shorter z, h)),
+            k.gives rest (omega arith),
+          ) (mapped_mapped _ _ part),
           and_on sp i z h k,
         )
 

@@ -20,7 +20,7 @@ use Rattle.std.specs.Prelude.{◌==◌, None, Option, Some}
 -- text behind. `t`: a test's value, so that `by` can go by both cases. `more_ran`: more of a run, after these bytes of it. `in_class`: the
 -- byte belongs to a class that `word_run` of words.rt reads. `quoted_at`: the longest run of bytes of the class f and of escapes.
 -- `runs_in`: the bytes of a class that are no backslash. `quoted`: the longest run of bytes of the class f and of escapes. `after`: what is
--- left so many bytes on. `first_of`: the byte that comes next, if there is one.
+-- left so many bytes on. `first_of`: the byte that comes next, if there is one. `so_far`: what was read of the run.
 
 -- a byte more of what was taken is a byte less of the run
 ran_byte : (w : List ℕ) (b : ℕ) (run : Run) (v : Reading) → more_ran (w ++ b ∷ []) run v ≡ more_ran w (with_byte b run) v
@@ -48,32 +48,30 @@ differs b c h = by (b == c) refl
     by false e = refl
 
 -- the loop that reads a run keeps its result over a backslash and the byte after it
-pub escape_kept : (f : ℕ → Bool) (w more : List ℕ) (v : Reading) (rest : Left) (b e : ℕ) (whole : Option (List ℕ) × Reading)
-    → first_of v.rest.bytes ≡ Some b → b ≡ ascii.backslash → second_of v.rest.bytes ≡ Some e
-    → more ≡ w ++ e ∷ [] → rest ≡ after 2 v.rest → more_ran w (quoted f v.rest) v ≡ whole
-    → more_ran more (quoted f rest) (at_rest rest v) ≡ whole
-escape_kept f w more v rest b e whole g h i j k l = rw (j, k) (by v.rest.bytes g i l)
+pub escape_kept : (f : ℕ → Bool) (so_far more : List ℕ) (v : Reading) (rest : Left) (b escaped : ℕ) (whole : Option (List ℕ) × Reading)
+    → first_of v.rest.bytes ≡ Some b → b ≡ ascii.backslash → second_of v.rest.bytes ≡ Some escaped → more ≡ so_far ++ escaped ∷ []
+    → rest ≡ after 2 v.rest → more_ran so_far (quoted f v.rest) v ≡ whole → more_ran more (quoted f rest) (at_rest rest v) ≡ whole
+escape_kept f so_far more v rest b escaped whole g h i j k l = rw (j, k) (by v.rest.bytes g i l)
   where
-    by : (bs : List ℕ) → first_of bs ≡ Some b → second_of bs ≡ Some e → more_ran w (quoted_at f v.rest.at bs) v ≡ whole
-        → more_ran (w ++ e ∷ []) (quoted_at f (v.rest.at + 2) (drop 2 bs)) v ≡ whole
+    by : (bs : List ℕ) → first_of bs ≡ Some b → second_of bs ≡ Some escaped → more_ran so_far (quoted_at f v.rest.at bs) v ≡ whole
+        → more_ran (so_far ++ escaped ∷ []) (quoted_at f (v.rest.at + 2) (drop 2 bs)) v ≡ whole
     by [] x y z = absurd cc
     by (c ∷ []) x y z = absurd cc
     by (c ∷ d ∷ text) x y z =
-        let p : c ≡ b = cc in let q : d ≡ e = cc in ap (λ (u : ℕ). more_ran (w ++ u ∷ []) (quoted_at f (v.rest.at + 2) text) v) (sym q)
-        ∙ ran_byte w d (quoted_at f (v.rest.at + 2) text) v ∙ (rw (p ∙ h) at z)
+        let p : c ≡ b = cc in let q : d ≡ escaped = cc in ap (λ (u : ℕ). more_ran (so_far ++ u ∷ []) (quoted_at f (v.rest.at + 2) text) v)
+        (sym q) ∙ ran_byte so_far d (quoted_at f (v.rest.at + 2) text) v ∙ (rw (p ∙ h) at z)
 
 -- the loop that reads a run keeps its result over a byte of the class
-pub plain_kept : (f : ℕ → Bool) (w more : List ℕ) (v : Reading) (rest : Left) (b : ℕ) (whole : Option (List ℕ) × Reading)
-    → first_of v.rest.bytes ≡ Some b → (b ≡ ascii.backslash → ⊥) → f b ≡ true
-    → more ≡ w ++ b ∷ [] → rest ≡ after 1 v.rest → more_ran w (quoted f v.rest) v ≡ whole
-    → more_ran more (quoted f rest) (at_rest rest v) ≡ whole
-plain_kept f w more v rest b whole g h i j k l = rw (j, k) (by v.rest.bytes g l)
+pub plain_kept : (f : ℕ → Bool) (so_far more : List ℕ) (v : Reading) (rest : Left) (b : ℕ) (whole : Option (List ℕ) × Reading)
+    → first_of v.rest.bytes ≡ Some b → (b ≡ ascii.backslash → ⊥) → f b ≡ true → more ≡ so_far ++ b ∷ []
+    → rest ≡ after 1 v.rest → more_ran so_far (quoted f v.rest) v ≡ whole → more_ran more (quoted f rest) (at_rest rest v) ≡ whole
+plain_kept f so_far more v rest b whole g h i j k l = rw (j, k) (by v.rest.bytes g l)
   where
-    by : (bs : List ℕ) → first_of bs ≡ Some b → more_ran w (quoted_at f v.rest.at bs) v ≡ whole
-        → more_ran (w ++ b ∷ []) (quoted_at f (v.rest.at + 1) (drop 1 bs)) v ≡ whole
+    by : (bs : List ℕ) → first_of bs ≡ Some b → more_ran so_far (quoted_at f v.rest.at bs) v ≡ whole
+        → more_ran (so_far ++ b ∷ []) (quoted_at f (v.rest.at + 1) (drop 1 bs)) v ≡ whole
     by [] x z = absurd cc
-    by (c ∷ text) x z = let p : c ≡ b = cc in ran_byte w b (quoted_at f (v.rest.at + 1) text) v
-        ∙ ap (λ r. more_ran w r v) (sym (byte_quoted f v.rest.at text (differs b ascii.backslash h) i)) ∙ (rw p at z)
+    by (c ∷ text) x z = let p : c ≡ b = cc in ran_byte so_far b (quoted_at f (v.rest.at + 1) text) v
+        ∙ ap (λ r. more_ran so_far r v) (sym (byte_quoted f v.rest.at text (differs b ascii.backslash h) i)) ∙ (rw p at z)
 
 -- runs without a backslash at their front
 
@@ -87,14 +85,14 @@ counted class b e = by (b == ascii.backslash) refl e
     by false g h = (g, h)
 
 -- the run after the bytes that the code counts, with these before it, is the run from its start
-run_from : (class : Class) (w : List ℕ) (n : ℕ) {t run u : List ℕ} (v : Reading) → IsRun (runs_in class) t run u
-    → more_ran (w ++ run) (quoted_at (in_class class) (n + length run) u) v ≡ more_ran w (quoted_at (in_class class) n t) v
-run_from class w n v (s.run_ends h) = let e : n + 0 ≡ n = omega arith in rw (append-nil w, e) refl
-run_from class w n v (s.run_goes {b} {text} {run} {rest} h i) =
+run_from : (class : Class) (so_far : List ℕ) (n : ℕ) {t run u : List ℕ} (v : Reading) → IsRun (runs_in class) t run u
+    → more_ran (so_far ++ run) (quoted_at (in_class class) (n + length run) u) v ≡ more_ran so_far (quoted_at (in_class class) n t) v
+run_from class so_far n v (s.run_ends h) = let e : n + 0 ≡ n = omega arith in rw (append-nil so_far, e) refl
+run_from class so_far n v (s.run_goes {b} {text} {run} {rest} h i) =
     let c = counted class b h in let e : n + length (b ∷ run) ≡ n + 1 + length run = omega arith in
-    rw e (ap (λ x. more_ran x (quoted_at (in_class class) (n + 1 + length run) rest) v) (sym (append_assoc w (b ∷ []) run))
-    ∙ run_from class (w ++ b ∷ []) (n + 1) v i ∙ ran_byte w b (quoted_at (in_class class) (n + 1) text) v
-    ∙ ap (λ r. more_ran w r v) (sym (byte_quoted (in_class class) n text c.0 c.1)))
+    rw e (ap (λ x. more_ran x (quoted_at (in_class class) (n + 1 + length run) rest) v) (sym (append_assoc so_far (b ∷ []) run))
+    ∙ run_from class (so_far ++ b ∷ []) (n + 1) v i ∙ ran_byte so_far b (quoted_at (in_class class) (n + 1) text) v
+    ∙ ap (λ r. more_ran so_far r v) (sym (byte_quoted (in_class class) n text c.0 c.1)))
 
 -- where no backslash follows the bytes that the code counts, the run has ended there
 run_stops : (class : Class) (n : ℕ) {t run u : List ℕ} → IsRun (runs_in class) t run u → begins_with ascii.backslash u ≡ false

@@ -14,8 +14,9 @@ use Rattle.drv_syntax.specs.Tree.{Asked, HasResult, Item, Items, Pattern, Tests,
 use Rattle.std.specs.Prelude.{◌≡◌, ◌≤◌, ◌==◌, Bool, false, true, List, [], ◌∷◌, ◌++◌, codes, length, ℕ}
 
 -- Which fault a text is refused for, by the place of its last byte in the grammar. All is over the shortest prefix that is no front: it
--- ends in the byte that no longer fits (GCC manual, "Spec Files"; this project's profile). `Reaches` and its like lead from the text's front
--- to its last place, where something is due (`Due`); `Refuses` says with which byte that fails. `size` is the length of the whole text.
+-- ends in the byte that no longer fits (GCC manual, "Spec Files"; this project's profile). `Reaches` and its like lead from the text's
+-- front to its last place, where something is due (`Due`); `Refuses` says with which byte that fails. `size` is the length of the whole
+-- text.
 
 -- the place of a test in braces
 pub data Order : Type 0 where

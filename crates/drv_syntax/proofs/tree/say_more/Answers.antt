@@ -8,9 +8,9 @@ use Rattle.std.proofs.Common.{◌∙◌}
 
 -- the kept parts with the longer message are the whole text's, which goes on in it
 pub invariant_of-result : goal.invariant_of-result
-invariant_of-result c =
-    said_kept c.args.text.items c.args.more.now c.extend_from_slice.new.self.items c.args.old c.in_ok-read.read c.len.result c.requires.kept
-    c.requires.open c.requires.says c.requires.size c.in_ok-extend_from_slice.ensures.items (c.len.ensures ∙ c.extend_from_slice.new.self.ok.0) c.in_ok-read.ensures
+invariant_of-result c = said_kept c.args.text.items c.args.more.now c.extend_from_slice.new.self.items c.args.old c.in_ok-read.read
+    c.len.result c.requires.kept c.requires.open c.requires.says c.requires.size c.in_ok-extend_from_slice.ensures.items
+    (c.len.ensures ∙ c.extend_from_slice.new.self.ok.0) c.in_ok-read.ensures
 
 -- the tree of the whole text is one by the grammar
 pub returns-clause-spelled : goal.returns-clause-spelled

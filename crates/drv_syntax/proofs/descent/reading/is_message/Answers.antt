@@ -14,9 +14,9 @@ use Rattle.std.proofs.Common.{◌∙◌, ap, drop, false, sym}
 pub returns-in_default-first : goal.returns-in_default-first
 returns-in_default-first c h =
     message_by c.args.text.now c.in-Some.percent c.in-Some-second.letter c.take.new.self
-    (record { rest = c.take.new.self; parts = record { tokens = c.new-2.result; labels = c.new-3.result; holds = false } }) (seen c.word_run.new.r)
-    (spelled c.in-Ok-Some._word c.word_run.new.r.word.items) (sym c.first.ensures ∙ c.in-Some.is) c.if-percent-ne37.false
-    (sym c.second.ensures ∙ c.in-Some-second.is) (sym c.directive_of.ensures ∙ c.in-WithSaying.is)
+    (record { rest = c.take.new.self; parts = record { tokens = c.new-2.result; labels = c.new-3.result; holds = false } })
+    (seen c.word_run.new.r) (spelled c.in-Ok-Some._word c.word_run.new.r.word.items) (sym c.first.ensures ∙ c.in-Some.is)
+    c.if-percent-ne37.false (sym c.second.ensures ∙ c.in-Some-second.is) (sym c.directive_of.ensures ∙ c.in-WithSaying.is)
     (ap (λ r. r.bytes) c.take.ensures.left ∙ ap (λ r. drop 2 r.bytes) c.new.ensures) (ok_same c.in-Ok-Some.ensures
     ∙ ap (λ w. words_seen w c.word_run.new.r.word.items (seen c.word_run.new.r)) c.in-Ok-Some.field-0-is)
     (sym c.first-2.ensures ∙ c.in_default-first.is)

@@ -11,7 +11,7 @@ use Rattle.std.proofs.Common.{◌-◌, ◌∙◌, ap, arith, drop, length, sym, 
 -- what precedes the message has a tree, and the message begins a new item
 pub returns : goal.returns
 returns c h =
-    open_at c.args.text.now c.in-Some.token.now.start c.in-Ok.front.tokens c.in-Ok.front.labels (omega (arith, c.if-start-text.false)) c.in-Ok.ensures
-    (ap (λ e. goes_on e (take (length c.args.text.now - c.in-Some.token.now.start) (drop c.in-Some.token.now.start c.args.text.now)))
-    (sym (c.ending_in-2.ensures ∙ ap (λ ts. ending_in c.in-Some.token.now.start ts) c.as_slice.ensures)) ∙ sym c.if-not-goes_on.ensures)
-    (c.is_message-2.ensures h)
+    open_at c.args.text.now c.in-Some.token.now.start c.in-Ok.front.tokens c.in-Ok.front.labels (omega (arith, c.if-start-text.false))
+    c.in-Ok.ensures (ap (λ e. goes_on e (take (length c.args.text.now - c.in-Some.token.now.start)
+    (drop c.in-Some.token.now.start c.args.text.now))) (sym (c.ending_in-2.ensures
+    ∙ ap (λ ts. ending_in c.in-Some.token.now.start ts) c.as_slice.ensures)) ∙ sym c.if-not-goes_on.ensures) (c.is_message-2.ensures h)
