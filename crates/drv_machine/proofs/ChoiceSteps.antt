@@ -41,7 +41,7 @@ use Rattle.std.specs.Option.{IfSome}
 -- default. `each_from`: X for the switches from a place on. `is_hit`: the switch at a place is hit. `test_nodes`: the parts that the tests
 -- of an alternative are. `Stands`: these parts go from one place of a text's flat list up to another. `items_step`: items one after
 -- another, each counted before it is run. `names`: the names of the line's switches, in order. `nodes_of`: the parts that items are, each
--- with those inside it. `first_true`: the first test that is true.
+-- with those inside it. `first_true`: the first test that is true. `f`: the first alternative that is left.
 
 -- the first of the alternatives at a place, and the others
 pub record FrontChoice (text : List ℕ) (at : ℕ) (choices : Choices) (end : ℕ) : Type 0 where

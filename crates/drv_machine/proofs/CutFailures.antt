@@ -21,7 +21,8 @@ use Rattle.std.specs.Prelude.{◌&&◌, if◌then◌else◌}
 -- atoms. `is_word_before`: the run that ends after these atoms is a word. `path_of`: what a word of these atoms ends as, of which its marks
 -- say whether it is looked for. `has_begun`: a %W begins before, that ends after these atoms. `is_output`: the mark of %w. `list_of`: a
 -- list of none or one, of what there may be. `bare`: the cut after a run that is no word. `pipe_kept`: a pipe changes only the commands of
--- a cut. `each`: answers for the items of a list. `opens_word`: the atom opens a word, if none is open.
+-- a cut. `each`: answers for the items of a list. `opens_word`: the atom opens a word, if none is open. `n`: which %W, counted from the
+-- innermost. `x`: the cut between `c` and `d`.
 
 -- for each %W that is open the last word that ended in it, the innermost first, of the atoms before, the nearest first
 abbrev ended_parts : Bool → List Atom → List (Option (List Atom)) → List (Option (List Atom))

@@ -28,7 +28,8 @@ use Rattle.std.specs.Prelude.{if◌then◌else◌}
 -- `bounds_file`: the file of a %@ begins or ends. `pipe_ended`: where words go to a file, no command ends with a pipe. `path`: what a word
 -- that ended is a path of. `without_file`: what is left where files are taken out. `broken`: the word that is open, if one is, ends.
 -- `stretch_atoms`: a word that is open ends before the file and in it. `nothing_cut`: what has been cut before the first atom. `words`: the
--- words that end in a list of atoms.
+-- words that end in a list of atoms. `x`, `y`: cuts that are compared. `m`: the fields of another cut's commands. `w`: a run that is a
+-- word.
 
 -- A cut without its output, removed files and failure files: the words of a file may add to these, and the commands do not depend on them.
 -- What two lists give is compared as plain cuts.

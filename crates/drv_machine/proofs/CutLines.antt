@@ -23,7 +23,8 @@ use Rattle.std.specs.Prelude.{if◌then◌else◌, not, option_to_list}
 -- open. `is_stray`: a pipe of this command is stray. `line_of`: the words of a command, and whether it has a pipe. `is_end_of_word`: the
 -- piece is a word that ended. `open_command`: the command that has not ended. `word_of`: the word that a run ends as, if it is one.
 -- `texts`: the words of the command that it gives. `commands`: the commands that end. `is_pipe`: the piece is a pipe. `any_after`: whether
--- any of a list with one more has a property. `lacks_word`: a pipe is stray where no word precedes it in its command.
+-- any of a list with one more has a property. `lacks_word`: a pipe is stray where no word precedes it in its command. `w`: a run that is a
+-- word. `ts`: the words that it gives. `s`: whether a pipe of a command before is stray.
 
 -- an `or` with a true side is true: a pipe that was stray stays so
 or_true : (a : Bool) → (a || true) ≡ true

@@ -13,7 +13,7 @@ use Rattle.std.specs.Prelude.{option_and_then, option_to_list}
 -- Names: `c`: what has been cut so far. `enclosed`: what has a beginning and an end among atoms: a `%W`, or the file of a `%@`. `atoms`:
 -- what the text gives, from here on. `outer`: the command around the file of a `%@`, if one is open. `run`: the atoms since a word ended.
 -- `inside`: for each open `%W` the last word that ended in it. `F`: what is known of the outside. `C`: what the text is run for (switches,
--- texts). `nothing_cut`: what has been cut before the first atom.
+-- texts). `nothing_cut`: what has been cut before the first atom. `n`: how many are open.
 
 -- how many %W are open in a cut, or files (one at most)
 abbrev pub open_parts : Enclosed → Cut → ℕ

@@ -24,7 +24,7 @@ use Rattle.std.specs.Prelude.{◌&&◌, if◌then◌else◌, not}
 -- precede, since a word ended. `whether`: that there is an answer, or what stops it. `is_bar`: the atom is a %V, which bars outputs that
 -- began before it. `each`: answers for the items of a list. `last_of`: the last item of a list, if it has one. `opened_by`: what the atoms
 -- of a run have opened. `moved`: what an atom that ends no word does to a cut. `all_taken`: atoms, one after another. `moves_on`: what is
--- open in the cut is what the run opens, also after one atom more.
+-- open in the cut is what the run opens, also after one atom more. `w`: a run that is a word.
 
 -- the end of a %W leaves the removed files
 inside_removed : (c : Cut) (inside : List (Option (List ℕ))) → (inside_done inside c).removed ≡ c.removed

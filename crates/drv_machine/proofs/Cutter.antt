@@ -19,10 +19,10 @@ use Rattle.std.specs.Prelude.{◌==◌, None, Some, get_or, replicate}
 -- the state after atoms xs are cut in state s, or the refusal that stops it. The lemmas put lists together: what two calls put is what one
 -- list of both puts.
 -- Names: `s`, `t`, `u`: the machine (what has been cut, and the world) before, between and after steps. `xs`, `ys`: atoms, and those after
--- them. `C`: what the text is run for (switches, texts). `F`: what is known of the outside. `c`: what has been cut so far. `a`, `b`: a
--- test's value, so that `by` can go by both cases. `a`: an answer: what is known, a refusal, or nothing yet. `given`: what a step gives.
--- `b`: a byte. `puts`: puts these atoms. `run`: runs a step after what has been cut, in its world. `in_word`: bytes go into the word that
--- is open, or open one. `word_of`: the atoms of a word, if there is one.
+-- them. `C`: what the text is run for (switches, texts). `F`: what is known of the outside. `c`: what has been cut so far. `a`: an answer:
+-- what is known, a refusal, or nothing yet. `given`: what a step gives. `b`: a byte. `puts`: puts these atoms. `run`: runs a step after
+-- what has been cut, in its world. `in_word`: bytes go into the word that is open, or open one. `word_of`: the atoms of a word, if there is
+-- one. `bs`: the bytes after `b`.
 
 -- a second touch of a cut changes nothing
 pub or_again : (a b : Bool) → ((a || b) || b) ≡ (a || b)

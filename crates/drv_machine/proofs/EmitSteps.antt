@@ -32,7 +32,8 @@ use Rattle.std.specs.List.{filter, flat_map, list_any, range_with_len}
 -- outside. `i`: a place on the line. `s`, `t`: the machine (what has been cut, and the world) before, between and after steps. `A`: any
 -- type. `places`: the places of the switches, in order. `matching`: a pattern of a text, for the switches of a line. `put_at`: the atoms of
 -- the switches at these places of the line. `names`: the names of the line's switches, in order. `run`: runs a step after what has been
--- cut, in its world. `puts`: puts these atoms. `switch_atoms`: a switch as the line has it, and its argument.
+-- cut, in its world. `puts`: puts these atoms. `switch_atoms`: a switch as the line has it, and its argument. `n`: the number of switches.
+-- `k`: an index in `places`.
 
 -- the invariant of the loop over the patterns of a brace: those that were taken, and those that are left at a place
 abbrev pub PatternsLeft : List ℕ → ℕ → ℕ → List switches.Pattern → List (Span × Pattern) → Type 0

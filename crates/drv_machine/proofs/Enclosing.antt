@@ -21,7 +21,7 @@ use Rattle.std.specs.Prelude.{◌+◌, ⊤, if◌then◌else◌, is_some, nat_lt
 -- those after them. `X`, `Y`: any type. `w`: what the run of a text changes as it goes. `enclosed`: what has a beginning and an end among
 -- atoms: a `%W`, or the file of a `%@`. `items`: the items of a part. `bounds_file`: the file of a %@ begins or ends. `is_broken`: a file
 -- begins or ends that is not one of the list's, or is in one. `stretch_atoms`: a word that is open ends before the file and in it. `puts`:
--- puts these atoms.
+-- puts these atoms. `f`: what gives atoms, or a step, for a value.
 
 -- whether an atom begins or ends a %W or a file
 abbrev bounds_any : Atom → Bool

@@ -20,10 +20,10 @@ use Rattle.std.specs.Prelude.{nat_eq, nat_lt, not}
 
 -- For the end of `run` (whole.rt): the job of a text is made of its finished cut. A loop puts the commands into groups (`grouped`: groups
 -- that have ended, and commands of one that is begun), and others keep each file once and leave out the job's own temporaries.
--- Names: `a`, `b`: a test's value, so that `by` can go by both cases. `C`: what the text is run for (switches, texts). `a`: an answer: what
--- is known, a refusal, or nothing yet. `F`: what is known of the outside. `A`: any type. `w`: what the run of a text changes as it goes.
--- `c`: what has been cut so far. `is_among`: whether a word is among these. `once`: each once, at its first place. `made`: the group of
--- some commands. `add_command`: a command before the groups of those after it.
+-- Names: `C`: what the text is run for (switches, texts). `a`: an answer: what is known, a refusal, or nothing yet. `F`: what is known of
+-- the outside. `A`: any type. `w`: what the run of a text changes as it goes. `c`: what has been cut so far. `is_among`: whether a word is
+-- among these. `once`: each once, at its first place. `made`: the group of some commands. `add_command`: a command before the groups of
+-- those after it. `f`: a test of files. `b`: a test's value, so that `by` can go by both cases.
 
 -- the last command of a list, by its index, says whether the list ends with a pipe
 ends_piped_from : (lines : List NamedLine) (n : ℕ) (last : NamedLine) → length lines ≡ suc n → last ≡ get_or lines n last

@@ -18,7 +18,7 @@ use Rattle.std.proofs.lemmas.Option.{slice_get_within}
 -- byte. `tree_of`: the tree of a text. `tokens_of`: the tokens of a tree. `choice_nodes`: the parts that alternatives are. `Stands`: these
 -- parts go from one place of a text's flat list up to another. `PartAt tokens labels at kind label next`: at this place is a part of this
 -- kind with this label. `alternative_label`: the label of an alternative with these items as its X. `labels_of`: the labels of a tree, in
--- the order of its tokens.
+-- the order of its tokens. `xs`: the items, or alternatives, before the others.
 
 -- some alternatives, and others after them: they are passed over together
 abbrev choices_joined : Choices → Choices → Choices

@@ -46,7 +46,8 @@ use Rattle.std.proofs.Common.{inl, inr, length, length-append, refl, slice_get, 
 -- one after another, each counted before it is run. `star_of`: the value of %* in the innermost part. `levels_in`: what may be opened in
 -- the parts around. `item_step`: the row of an item. `Following text w at step s given`: a step, and then what is left from a place on,
 -- give this. `Framed`: the open parts, the innermost first. `levels_left`: what items mean where so many parts may still be opened, the
--- next one first. `onward`: what is left of the innermost part, and what follows it. `Lies`: the items that are left of an open part.
+-- next one first. `onward`: what is left of the innermost part, and what follows it. `Lies`: the items that are left of an open part. `k`:
+-- what follows in the whole walk.
 
 -- a list with one more at its end
 abbrev head_or : {A : Type 0} → A → List A → A

@@ -20,7 +20,8 @@ use Rattle.std.proofs.Math.Seq.{get_or-append_seam}
 -- n of the list on. `tree_of`: the tree of a text. `labels`: the labels of parts, in the order of their tokens. `tokens_of`: the tokens of
 -- a tree. `tests_in`: the tests that parts begin with. `Stand`: these parts go from one place of the flat list up to another.
 -- `after_tests`: what follows the tests that these parts begin with. `PartAt tokens labels at kind label next`: at this place is a part of
--- this kind with this label. `is_test`: the part is a test. `nodes_of`: the parts that items are, each with those inside it.
+-- this kind with this label. `is_test`: the part is a test. `nodes_of`: the parts that items are, each with those inside it. `xs`, `ys`:
+-- parts, and those after them.
 
 -- the item after a list is at the place that is the list's length
 slice_seam : {A : Type 0} (xs : List A) (y : A) (ys : List A) → slice_get (xs ++ y ∷ ys) (length xs) ≡ Some y

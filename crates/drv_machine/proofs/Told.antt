@@ -23,11 +23,11 @@ use Rattle.std.specs.Prelude.{if◌then◌else◌, nat_lt}
 -- For text_law: the job of a text is that of its list of atoms. `Told` (specs/Told) says by definitions over the whole list what output,
 -- marked files, failure files and groups the job has.
 -- Names: `c`: what has been cut so far. `F`: what is known of the outside. `C`: what the text is run for (switches, texts). `w`: what the
--- run of a text changes as it goes. `items`: the items of a part. `a`, `b`: a test's value, so that `by` can go by both cases. `a`: an
--- answer: what is known, a refusal, or nothing yet. `all_taken`: atoms, one after another. `nothing_cut`: what has been cut before the
--- first atom. `came`: where two steps, one after the other, give a value, the first one gives one. `Came`: the value of the first of two
--- steps, from which the second gives this one. `atoms`: what the items of a whole text mean from its start. `most_piped`: the most commands
--- of a group. `ends_piped`: no further command follows a pipe.
+-- run of a text changes as it goes. `items`: the items of a part. `a`: an answer: what is known, a refusal, or nothing yet. `all_taken`:
+-- atoms, one after another. `nothing_cut`: what has been cut before the first atom. `came`: where two steps, one after the other, give a
+-- value, the first one gives one. `Came`: the value of the first of two steps, from which the second gives this one. `atoms`: what the
+-- items of a whole text mean from its start. `most_piped`: the most commands of a group. `ends_piped`: no further command follows a pipe.
+-- `o`: the outcome of a text. `b`: a test's value, so that `by` can go by both cases.
 
 -- an `or` that is false has its first side false
 neither : (a b : Bool) → (a || b) ≡ false → a ≡ false

@@ -29,7 +29,8 @@ use mathlib.Core.Bool.{beq}
 -- the value of `%*`. `run`: runs a step after what has been cut, in its world. `tree_of`: the tree of a text. `label_at`: the label of the
 -- part at this place of the list. `turned negated holds`: the answer of a test, its ! considered. In equations `n` is that of the code's
 -- `negated`, `e` that of its answer. `test_label`: the label of a test, with a ! or without. `asked_step`: what a test asks, its ! aside.
--- `is_call`: the label is that of a test by a function. `test_nodes`: the parts that the tests of an alternative are.
+-- `is_call`: the label is that of a test by a function. `test_nodes`: the parts that the tests of an alternative are. `f`: the first test
+-- that is left. `b`: a test's value, so that a lemma can go by both cases.
 
 -- a test that is not by a function is answered at once, by its label
 pub asked_is : (F : Facts) (C : Context) (negated : Bool) (asked : Asked) (levels : Levels) (star : List ℕ)

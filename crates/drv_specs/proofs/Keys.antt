@@ -10,7 +10,8 @@ use Rattle.std.specs.List.{position_or_len}
 use Rattle.std.specs.Prelude.{nat_eq, nat_lt, position, unwrap_or, vec_len}
 
 -- For the map of named texts: it finds a name where the list of the set has it.
--- Names: `i` is an index. `X` is the type of what a list has.
+-- Names: `i` is an index. `X` is the type of what a list has. `K` is the type of keys, and `t` a test of them. `es` is entries: keys and
+-- values. `x` and `y` are values.
 
 -- whether a key is this name
 abbrev pub is_key_of : List ℕ → Vec ℕ → Bool

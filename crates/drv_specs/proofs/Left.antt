@@ -17,7 +17,7 @@ use Rattle.std.specs.Prelude.{⊤, slice_get, vec_len}
 -- For the map of named texts (named_texts.rt): a deleted name keeps its entry, which has no text, so no other name moves. `texts_left` is
 -- the list of the texts that are left. Each change of the map changes that list as the definitions change the list of a set.
 -- Names: `name` is the name of a text. `text` is a text. `hit` says whether the entry at hand has the name. `old` is the old name.
--- `texts_left` is the entries that have a text.
+-- `texts_left` is the entries that have a text. `es` is the entries of the map.
 
 -- a name has no entry, or one with a text
 abbrev pub IsHeld : Option (Option (List ℕ)) → Type 0
