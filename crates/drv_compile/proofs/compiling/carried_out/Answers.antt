@@ -3,8 +3,8 @@ use Rattle.drv_compile.proofs.compiling.carried_out.Goals as goal
 
 -- carried_out (src/compiling.rt). Sets the variables for the children of what is prepared, says what is said first, and does it.
 
--- Names: `carried`: `carried_out` hands on what was done after all variables were set. `nothing_carried`: `carried_out` did nothing where
--- memory lacked for a variable.
+-- Names: `carried`: after all variables were set, the line was carried out. `nothing_carried`: `carried_out` did nothing where memory
+-- lacked for a variable.
 
 pub returns-in-Ok-clause-carries : goal.returns-in-Ok-clause-carries
 returns-in-Ok-clause-carries g c =

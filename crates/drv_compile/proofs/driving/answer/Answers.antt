@@ -4,8 +4,9 @@ use Rattle.drv_system.proofs.AskedCalls.{extends_before}
 
 -- answer (src/driving.rt). What the spec files of a line give it.
 
--- Names: `F`: what is known of the outside. `e`: that `F` extends the facts of this call. `answer_told`: `answer` hands on how the driver
--- ends where the line's self spec can't be carried out. `extends_before`: what extends the facts after a call extends those before it.
+-- Names: `F`: what is known of the outside. `e`: that `F` extends the facts of this call. `answer_told`: where the line's self spec can't
+-- be carried out, there is no answer, and the driver's ending says why. `extends_before`: what extends the facts after a call extends those
+-- before it.
 
 pub returns-in-Err-clause-answers : goal.returns-in-Err-clause-answers
 returns-in-Err-clause-answers g c F e =

@@ -6,8 +6,8 @@ use Rattle.drv_system.proofs.AskedCalls.{asked_further, extends_before}
 -- worker_after (src/driving.rt). Who carries out a line that the driver would be called with so, with the options that the spec files of
 -- the line give it.
 
--- Names: `none_noted`: nothing was noted. `undriven_answer`: `worker_after` hands on why its spec files give no answer. `undriven_denied`:
--- `worker_after` hands on why what they give is refused.
+-- Names: `none_noted`: nothing was noted. `undriven_answer`: a line whose spec files give no answer is refused for that. `undriven_denied`:
+-- a line for which they give what is refused is refused too.
 
 pub returns-in_err-answer-clause-drives : goal.returns-in_err-answer-clause-drives
 returns-in_err-answer-clause-drives g c =

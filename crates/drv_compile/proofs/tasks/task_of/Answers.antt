@@ -3,8 +3,8 @@ use Rattle.drv_compile.proofs.tasks.task_of.Goals as goal
 
 -- task_of (src/tasks.rt). What a call does by what its words ask for.
 
--- Names: `compiler_declined`: `task_of` lends the parts of the call to the text about the compiler. `damaged_declined`: `task_of` lends the
--- parts of the call to the text about a file that isn't whole.
+-- Names: `compiler_declined`: the text about a compiler that is not named declines the line. `damaged_declined`: the text about a file that
+-- isn't whole declines it.
 
 pub returns-in_ok-text-in-NoCompiler : goal.returns-in_ok-text-in-NoCompiler
 returns-in_ok-text-in-NoCompiler c =
