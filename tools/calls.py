@@ -23,6 +23,7 @@ PUBLIC_MODULE = re.compile(r"^pub mod (\w+)", re.M)
 UNCALLED = "Drop", "Model"
 # Why no body of a call can be refused.
 NO_CLAUSE = "no clause says what the runtime gives"
+IN_TABLES = "rows of tests/tables say what it reads or prints, and no clause does"
 NO_PROMISE = "what it answers is a hint for the order of a run, of which nothing is promised"
 REASONS = {
     "drv_syntax::SpecTree::empty": "it can't be refused memory, and a text with a byte takes some",
@@ -32,6 +33,9 @@ REASONS = {
     "drv_system::called_as": NO_CLAUSE,
     "drv_system::call": NO_CLAUSE,
     "drv_system::HostSystem::has_ended": NO_PROMISE,
+    "trial_parts::read_lines": NO_CLAUSE,
+    "trial_parts::plan": IN_TABLES,
+    "trial_parts::add_events": IN_TABLES,
     "drv_search::SearchFault::from": "its other refusal carries a word, which it can't make",
 }
 

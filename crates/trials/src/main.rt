@@ -2,105 +2,65 @@
 //! printed:
 //!
 //! ```text
-//! call CALL ARG..         a single call of the library, see `calls`, over a script
+//! call CALL ARG..         a single call of the library, over a script
 //! call host CALL ARG..    the same on this machine
-//! steps FILE              the steps of a run in a file, see `steps`, on this machine
+//! steps FILE              the steps of a run in a file, on this machine
 //! plan WINDOW [pass]      the plan of standard input, see `runs`, over a script; with `pass` exit codes are passed on
 //! choose WINDOW [pass]    the run of such a plan with chosen sources
 //! drive WORD..            a whole call of the driver with these arguments and the seed 42, over a script
 //! compile NAME WORD..     a whole call of gdrv-cc by that name, as `compiling` says
-//! measure JOB COUNT ..    a job that `bench/run` measures, see `measuring`
+//! measure JOB COUNT ..    a job that `bench/run` measures
 //! ```
 //!
-//! Standard input holds the script, see `script`.
+//! `plan`, `drive` and `compile` are here, and all others in `trial_parts`. Standard input holds the
+//! script, as the file `script` there says.
 #![tactic(auto)]
 
-mod answers;
-mod calls;
-mod lists;
-mod measuring;
-mod names;
+mod compiling;
 mod runs;
-mod script;
-mod steps;
-mod transcript;
 
-use calls::try_call;
+use compiling::try_compile;
 use drv_core::FailureStatus;
 use drv_system::arguments;
 use drv_words::Word;
-use measuring::try_measured;
-use names::look_up;
-use runs::{Manner, try_compile, try_drive, try_plan};
+use runs::{try_drive, try_plan};
 use std::io::{self, Write};
-use steps::try_file;
-use transcript::Transcript;
+use trial_parts::{Transcript, try_part};
 
 /// What is printed where the words name nothing to be tried.
 const USAGE: &[u8] =
     b"usage: trials call [host] CALL ARG.. | steps FILE | plan WINDOW [pass] | choose WINDOW [pass] | drive WORD.. | compile NAME WORD.. | measure JOB COUNT [LENGTH]\n";
 
-/// A part that can be tried.
-#[derive(Clone, Copy)]
-enum Part {
-    Call,
-    Steps,
-    Plan(Manner),
-    Drive,
-    Compile,
-    Measure,
+/// Whether a word is this name.
+fn is_named(word: &Word, name: &[u8]) -> bool {
+    word.as_bytes() == name
 }
 
-/// The names of parts.
-const PARTS: [(&[u8], Part); 7] = [
-    (b"call", Part::Call),
-    (b"steps", Part::Steps),
-    (b"plan", Part::Plan(Manner::CarriedOut)),
-    (b"choose", Part::Plan(Manner::Chosen)),
-    (b"drive", Part::Drive),
-    (b"compile", Part::Compile),
-    (b"measure", Part::Measure),
-];
-
-/// Tries a part.
-fn try_part(rt: &HostRuntime, part: Part, words: &[Word], out: &mut Transcript) -> io::Result<()> {
-    match (part, words) {
-        (Part::Call, call) => try_call(rt, call, out),
-        (Part::Steps, [path]) => try_file(rt, path, out),
-        (Part::Plan(manner), [window]) => { try_plan(rt, manner, window, FailureStatus::One, out) }
-        (Part::Plan(manner), [window, _, ..]) => {
-            try_plan(rt, manner, window, FailureStatus::GreatestCode, out)
+/// Carries out a plan or makes a whole call, as these words say. Returns whether they say one.
+fn try_whole(rt: &HostRuntime, words: &[Word], out: &mut Transcript) -> io::Result<bool> {
+    match words {
+        [part, window] if is_named(part, b"plan") => {
+            try_plan(rt, window, FailureStatus::One, out)?
         }
-        (Part::Drive, args) => try_drive(rt, args, out),
-        (Part::Compile, [name, args @ ..]) => try_compile(rt, name, args, out),
-        (Part::Measure, job) => try_measure(rt, job, out),
-        _ => Ok(out.add(USAGE)?),
+        [part, window, _, ..] if is_named(part, b"plan") => {
+            try_plan(rt, window, FailureStatus::GreatestCode, out)?
+        }
+        [part, args @ ..] if is_named(part, b"drive") => try_drive(rt, args, out)?,
+        [part, name, args @ ..] if is_named(part, b"compile") => {
+            try_compile(rt, name, args, out)?
+        }
+        _ => return Ok(false),
     }
-}
-
-/// Does a job that is measured.
-fn try_measure(rt: &HostRuntime, job: &[Word], out: &mut Transcript) -> io::Result<()> {
-    if !try_measured(rt.alloc(), job, out)? {
-        out.add(USAGE)?;
-    }
-    Ok(())
-}
-
-/// Tries the part that these words name.
-fn try_words(rt: &HostRuntime, words: &[Word], out: &mut Transcript) -> io::Result<()> {
-    let [name, rest @ ..] = words else {
-        return Ok(out.add(USAGE)?);
-    };
-    match look_up(&PARTS, name.as_bytes()) {
-        Some(part) => try_part(rt, part, rest, out),
-        None => Ok(out.add(USAGE)?),
-    }
+    Ok(true)
 }
 
 /// Tries what the words name, and prints the transcript at the end.
 fn main(rt: HostRuntime) -> io::Result<()> {
     let words = arguments(&rt)?;
     let mut out = Transcript::new(rt.alloc());
-    try_words(&rt, words.as_slice(), &mut out)?;
+    let words = words.as_slice();
+    if !(try_whole(&rt, words, &mut out)? || try_part(&rt, words, &mut out)?) {
+        out.add(USAGE)?;
+    }
     io::writer(&rt).write_all(out.as_bytes())
 }

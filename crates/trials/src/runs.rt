@@ -1,71 +1,21 @@
-//! Runs over the script of standard input: of a plan, and of whole calls of the driver. Prints the
+//! Whole runs over the script of standard input: of a plan, and of a call of the driver. Prints the
 //! steps with their answers, and the status; for a plan also the most events that it needs; for a
 //! call also the messages and the ending.
 
 ghost use Rattle.std.specs.Prelude.{◌≡◌, []};
 
-mod choosing;
-mod compiling;
-mod planning;
-mod showing;
-
-use crate::lists::copies_of;
-use crate::script::{read_lines, system};
-use crate::transcript::Transcript;
-use choosing::choose_blocks;
-pub use compiling::try_compile;
-use drv_core::{FailureStatus, Window, events_needed};
+use drv_core::{FailureStatus, events_needed};
 use drv_run::{Ending, Refusal, drive, execute, fault_line};
 use drv_system::{Event, ScriptSystem, System};
-use drv_words::{Listing, Plan, Word};
-use planning::plan;
-use showing::{add_event, add_line};
+use drv_words::{Listing, Plan, Word, copy_words};
 use std::alloc::{AllocError, Global};
 use std::io;
-use std::str::from_utf8;
+use trial_parts::{
+    NO_WINDOW, Running, Transcript, add_events, plan, read_lines, running_of, system,
+};
 
 /// The seed of the names of temporaries: they begin with `cc0000002a_`.
-const SEED: u32 = 42;
-
-/// How many sources may be under way at once, as a word.
-fn window_of(word: &Word) -> Option<Window> {
-    let window: usize = from_utf8(word.as_bytes()).ok()?.parse().ok()?;
-    if 1 <= window && window <= 64 {
-        return Some(Window::new(window));
-    }
-    None
-}
-
-/// Adds the messages, and the steps with their answers. Without the plan, its parts are named by
-/// their numbers.
-fn add_events(
-    events: &[Event],
-    plan: Option<&Plan>,
-    out: &mut Transcript,
-) -> Result<(), AllocError> {
-    for event in events {
-        add_event(event, plan, out)?;
-    }
-    Ok(())
-}
-
-/// What becomes of a plan.
-#[derive(Clone, Copy)]
-pub enum Manner {
-    /// Carried out over the script.
-    CarriedOut,
-    /// Block by block, as the lines choose.
-    Chosen,
-}
-
-/// How a plan is run.
-#[derive(Clone, Copy)]
-struct Running {
-    /// How many sources are under way at once, at most.
-    window: Window,
-    /// The exit status where a command failed.
-    pass_codes: FailureStatus,
-}
+pub const SEED: u32 = 42;
 
 /// Carries out a plan on a fresh system.
 fn carry_out_on(
@@ -80,51 +30,34 @@ fn carry_out_on(
     let sources = running.window.sources();
     let status = execute(alloc, sys, plan, running.pass_codes, sources)?;
     add_events(sys.journal(), Some(plan), out)?;
-    add_line(b"status ", usize::from(status), out)?;
-    add_line(b"needed ", events_needed(plan).unwrap_or(0), out)
+    out.add_line(b"status ", usize::from(status))?;
+    out.add_line(b"needed ", events_needed(plan).unwrap_or(0))
 }
 
-/// Carries out a plan over the script of these lines.
+/// Carries out the plan of these lines over the script of these lines.
 fn carry_out(
     alloc: Global,
-    plan: &Plan,
     lines: &[Listing<Word>],
-    running: Running,
-    out: &mut Transcript,
-) -> Result<(), AllocError> {
-    let mut sys = system(alloc, lines)?;
-    carry_out_on(alloc, &mut sys, plan, running, out)
-}
-
-/// Runs the plan of these lines.
-fn run_lines(
-    alloc: Global,
-    lines: &[Listing<Word>],
-    manner: Manner,
     running: Running,
     out: &mut Transcript,
 ) -> Result<(), AllocError> {
     let plan = plan(alloc, lines)?;
-    match manner {
-        Manner::CarriedOut => carry_out(alloc, &plan, lines, running, out),
-        Manner::Chosen => choose_blocks(alloc, &plan, lines, running, out),
-    }
+    let mut sys = system(alloc, lines)?;
+    carry_out_on(alloc, &mut sys, &plan, running, out)
 }
 
-/// Runs the plan from standard input, with at most this many sources under way at once.
+/// Carries out the plan from standard input, with at most this many sources under way at once.
 pub fn try_plan(
     rt: &HostRuntime,
-    manner: Manner,
     window: &Word,
     pass_codes: FailureStatus,
     out: &mut Transcript,
 ) -> io::Result<()> {
-    let Some(window) = window_of(window) else {
-        return Ok(out.add(b"a window is 1 to 64\n")?);
+    let Some(running) = running_of(window, pass_codes) else {
+        return Ok(out.add(NO_WINDOW)?);
     };
-    let running = Running { window, pass_codes };
     let lines = read_lines(rt)?;
-    Ok(run_lines(rt.alloc(), lines.as_slice(), manner, running, out)?)
+    Ok(carry_out(rt.alloc(), lines.as_slice(), running, out)?)
 }
 
 /// Adds a refusal as the user reads it.
@@ -136,15 +69,17 @@ fn add_refusal(alloc: Global, refusal: &Refusal, out: &mut Transcript) -> Result
 /// Adds how a call ended.
 fn add_ending(alloc: Global, ending: &Ending, out: &mut Transcript) -> Result<(), AllocError> {
     match ending {
-        Ending::Done(status) => add_line(b"status ", usize::from(*status), out),
+        Ending::Done(status) => out.add_line(b"status ", usize::from(*status)),
         Ending::Refused(refusal) => add_refusal(alloc, refusal, out),
         Ending::OutOfMemory => out.add(b"out of memory\n"),
     }
 }
 
-/// Whether an event is a step of a run.
-fn is_step(event: &Event) -> bool {
-    matches!(event, Event::Run(_))
+/// Whether a step of a run was made.
+pub fn has_step(events: &[Event]) -> bool {
+    events
+        .iter()
+        .any(|event: &Event| matches!(event, Event::Run(_)))
 }
 
 /// Adds what a call did, and how it ended.
@@ -158,7 +93,7 @@ fn add_call(
     ending: &Ending,
     out: &mut Transcript,
 ) -> Result<(), AllocError> {
-    if matches!(ending, Ending::OutOfMemory) && !events.iter().any(is_step) {
+    if matches!(ending, Ending::OutOfMemory) && !has_step(events) {
         return Err(AllocError);
     }
     if events.is_empty() {
@@ -183,6 +118,6 @@ fn drive_over(
 /// Calls the driver with these arguments.
 pub fn try_drive(rt: &HostRuntime, args: &[Word], out: &mut Transcript) -> io::Result<()> {
     let lines = read_lines(rt)?;
-    let args = copies_of(rt.alloc(), args)?;
+    let args = copy_words(rt.alloc(), args)?;
     Ok(drive_over(rt.alloc(), lines.as_slice(), args, out)?)
 }

@@ -1,4 +1,4 @@
-use Rattle.trials.proofs.runs.choosing.is_new.Given as goal
+use Rattle.trial_parts.proofs.choosing.is_new.Given as goal
 use Rattle.drv_words.specs.Stepping.{is_new}
 use Rattle.std.proofs.Common.{◌≡◌, drop}
 

@@ -20,6 +20,9 @@ use std::alloc::{AllocError, Global};
 use std::io;
 
 /// The lines of standard input, split into words.
+///
+/// # Errors
+/// A lack of memory, and a standard input that can't be read.
 pub fn read_lines(rt: &HostRuntime) -> io::Result<Vec<Listing<Word>>> {
     let mut lines = Vec::new(rt.alloc());
     for line in rt.lines(rt.alloc()) {
@@ -155,6 +158,9 @@ fn script_of(alloc: Global, lines: &[Listing<Word>]) -> Result<Script, AllocErro
 }
 
 /// A system that answers as the lines say.
+///
+/// # Errors
+/// A lack of memory.
 pub fn system(alloc: Global, lines: &[Listing<Word>]) -> Result<ScriptSystem, AllocError>
     ensures { IfOk result (λ sys. sys.journal ≡ []) }
 {

@@ -2,17 +2,8 @@
 
 ghost use Rattle.std.specs.Prelude.{◌≡◌, ◌∷◌, [], IfOk};
 
-use drv_words::{Listing, Word};
+use drv_words::Listing;
 use std::alloc::{AllocError, Global};
-
-/// The list of these words.
-pub fn copies_of(alloc: Global, words: &[Word]) -> Result<Listing<Word>, AllocError> {
-    let mut copies = Listing::new(alloc);
-    for word in words {
-        copies.push(word.clone()?)?;
-    }
-    Ok(copies)
-}
 
 /// A list of one item.
 pub fn only<T: Drop>(alloc: Global, item: T) -> Result<Listing<T>, AllocError>

@@ -109,6 +109,9 @@ fn jobs(alloc: Global, lines: &[Listing<Word>], what: &[u8]) -> Result<Listing<J
 }
 
 /// The plan of these lines.
+///
+/// # Errors
+/// A lack of memory.
 pub fn plan(alloc: Global, lines: &[Listing<Word>]) -> Result<Plan, AllocError> {
     Ok(Plan {
         notices: Listing::new(alloc),

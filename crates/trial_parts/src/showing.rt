@@ -63,13 +63,6 @@ fn add_place(place: Place, plan: Option<&Plan>, out: &mut Transcript) -> Result<
     }
 }
 
-/// Adds a text, a number and a newline.
-pub fn add_line(before: &[u8], number: usize, out: &mut Transcript) -> Result<(), AllocError> {
-    out.add(before)?;
-    out.add_count(number)?;
-    out.add(b"\n")
-}
-
 /// The name of a step, with a bar for a start that reads a pipe.
 fn step_text(step: Step) -> &'static [u8] {
     match step {
@@ -156,15 +149,27 @@ pub fn add_made(
 }
 
 /// Adds a step and its answer on a line, or a message. Questions are left out.
-pub fn add_event(
-    event: &Event,
-    plan: Option<&Plan>,
-    out: &mut Transcript,
-) -> Result<(), AllocError> {
+fn add_event(event: &Event, plan: Option<&Plan>, out: &mut Transcript) -> Result<(), AllocError> {
     match event {
         Event::Run(made) => add_made(*made, plan, out),
         Event::Say(told, answer) => add_told(b"say", told, *answer, out),
         Event::Put(told, answer) => add_told(b"put", told, *answer, out),
         _ => Ok(()),
     }
+}
+
+/// Adds the messages, and the steps with their answers. Without the plan, its parts are named by
+/// their numbers.
+///
+/// # Errors
+/// A lack of memory.
+pub fn add_events(
+    events: &[Event],
+    plan: Option<&Plan>,
+    out: &mut Transcript,
+) -> Result<(), AllocError> {
+    for event in events {
+        add_event(event, plan, out)?;
+    }
+    Ok(())
 }

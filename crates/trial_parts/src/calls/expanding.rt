@@ -3,17 +3,8 @@
 use crate::transcript::Transcript;
 use drv_args::{ArgsFault, Expanded, expand};
 use drv_system::{Event, FactTable, System};
-use drv_words::{Listing, Word};
+use drv_words::{Word, copy_words};
 use std::alloc::{AllocError, Global};
-
-/// A copy of words.
-fn copies_of(alloc: Global, words: &[Word]) -> Result<Listing<Word>, AllocError> {
-    let mut copies = Listing::new(alloc);
-    for word in words {
-        copies.push(word.clone()?)?;
-    }
-    Ok(copies)
-}
 
 /// Adds the words, or that they are refused.
 fn add_expanded(
@@ -46,7 +37,7 @@ pub fn try_expand<S: System>(
     out: &mut Transcript,
 ) -> Result<(), AllocError> {
     let mut facts = FactTable::new(alloc);
-    let words = copies_of(alloc, words)?;
+    let words = copy_words(alloc, words)?;
     add_expanded(&expand(alloc, words, sys, &mut facts), out)?;
     add_reads(sys.journal(), out)
 }

@@ -1,4 +1,4 @@
-use Rattle.trials.proofs.steps.journal.is_open.Given as goal
+use Rattle.trial_parts.proofs.steps.journal.is_open.Given as goal
 use Rattle.drv_system.specs.Running.{is_child_open, open_from, run_of}
 use Rattle.drv_words.specs.declared.steps.Place.TheVariants as the
 use Rattle.std.proofs.Common.{◌≡◌, drop}

@@ -1,11 +1,11 @@
 //! Plans of one job with one command, one temporary file and one marked file.
 
 // In clauses: `HasSites` says that the plan has the places at which steps are tried.
-ghost use Rattle.trials.specs.Sites.{HasSites};
+ghost use Rattle.trial_parts.specs.Sites.{HasSites};
 ghost use Rattle.std.specs.Prelude.{◌≡◌, ◌∷◌, [], IfOk, None};
 
-use crate::lists::{copies_of, only};
-use drv_words::{Command, Group, Job, Listing, Place, Plan, Temp, Word};
+use crate::lists::only;
+use drv_words::{Command, Group, Job, Listing, Place, Plan, Temp, Word, copy_words};
 use std::alloc::{AllocError, Global};
 
 /// The place of the command.
@@ -37,7 +37,7 @@ fn group_of(alloc: Global, command: Command) -> Result<Listing<Group>, AllocErro
 fn command_of(alloc: Global, program: &Word, words: &[Word]) -> Result<Command, AllocError> {
     Ok(Command {
         program: program.clone()?,
-        words: copies_of(alloc, words)?,
+        words: copy_words(alloc, words)?,
     })
 }
 

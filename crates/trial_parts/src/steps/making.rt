@@ -1,7 +1,7 @@
 //! Makes a step if its conditions hold.
 
 // In clauses: `HasSites` says that the plan has the places at which steps are tried.
-ghost use Rattle.trials.specs.Sites.{HasSites};
+ghost use Rattle.trial_parts.specs.Sites.{HasSites};
 ghost use Rattle.drv_words.specs.Places.{is_note};
 ghost use Rattle.drv_words.specs.declared.plan.Plan.{Plan};
 ghost use Rattle.std.specs.Prelude.{◌≡◌, IfSome, true};

@@ -6,18 +6,15 @@
 
 ghost use Rattle.std.specs.Prelude.{◌≡◌, [], IfOk, IfSome};
 
-use super::{SEED, add_events};
-use crate::lists::copies_of;
-use crate::runs::showing::add_line;
-use crate::script::{read_lines, system};
-use crate::transcript::Transcript;
+use crate::runs::{SEED, has_step};
 use drv_cc::Variable;
 use drv_compile::{Host, HostEvent, Outcome, Request, beside, calling_of, compile};
-use drv_system::{Event, ScriptSystem, System};
-use drv_words::{Listing, Word};
+use drv_system::{ScriptSystem, System};
+use drv_words::{Listing, Word, copy_word, copy_words};
 use std::alloc::{AllocError, Global};
 use std::io;
 use std::marker::Model;
+use trial_parts::{Transcript, add_events, read_lines, system};
 
 /// A host that answers from a list.
 #[derive(Drop)]
@@ -103,16 +100,6 @@ fn path_of(paths: &[(Word, Word)], name: &Word) -> Result<Option<Word>, AllocErr
     Ok(None)
 }
 
-/// A copy of a path, if there is one.
-fn path_copied(path: &Option<Word>) -> Result<Option<Word>, AllocError>
-    ensures { IfOk result (λ copy. copy ≡ path.now) }
-{
-    match path {
-        Some(path) => Ok(Some(path.clone()?)),
-        None => Ok(None),
-    }
-}
-
 impl Host<ScriptSystem> for ScriptHost {
     ghost notes = { λ host. host };
 
@@ -120,7 +107,7 @@ impl Host<ScriptSystem> for ScriptHost {
     fn resolve(&mut self, name: &Word) -> Result<Option<Word>, AllocError> {
         let asked = name.clone()?;
         let path = path_of(self.paths.as_slice(), name)?;
-        let noted = path_copied(&path)?;
+        let noted = copy_word(&path)?;
         self.notes.push(HostEvent::Resolved(asked, noted))?;
         Ok(path)
     }
@@ -217,11 +204,6 @@ fn add_notes(notes: &[HostEvent], out: &mut Transcript) -> Result<(), AllocError
     Ok(())
 }
 
-/// Whether an event is a step of a run.
-fn is_step(event: &Event) -> bool {
-    matches!(event, Event::Run(_))
-}
-
 /// What a call did and how it ended.
 ///
 /// # Errors
@@ -233,14 +215,14 @@ fn add_call(
     outcome: &Outcome,
     out: &mut Transcript,
 ) -> Result<(), AllocError> {
-    if matches!(outcome, Outcome::OutOfMemory) && !sys.journal().iter().any(is_step) {
+    if matches!(outcome, Outcome::OutOfMemory) && !has_step(sys.journal()) {
         return Err(AllocError);
     }
     add_notes(host.notes.as_slice(), out)?;
     add_events(sys.journal(), None, out)?;
     match outcome {
-        Outcome::Done(status) => add_line(b"status ", usize::from(*status), out),
-        Outcome::Unnoted(status) => add_line(b"unnoted, status ", usize::from(*status), out),
+        Outcome::Done(status) => out.add_line(b"status ", usize::from(*status)),
+        Outcome::Unnoted(status) => out.add_line(b"unnoted, status ", usize::from(*status)),
         Outcome::OutOfMemory => out.add(b"out of memory\n"),
     }
 }
@@ -289,6 +271,6 @@ pub fn try_compile(
     out: &mut Transcript,
 ) -> io::Result<()> {
     let lines = read_lines(rt)?;
-    let args = copies_of(rt.alloc(), args)?;
+    let args = copy_words(rt.alloc(), args)?;
     Ok(compile_over(rt.alloc(), lines.as_slice(), name, &args, out)?)
 }

@@ -1,4 +1,4 @@
-use Rattle.trials.proofs.steps.journal.is_pipe_pending.Given as goal
+use Rattle.trial_parts.proofs.steps.journal.is_pipe_pending.Given as goal
 use Rattle.drv_system.specs.Running.{run_of}
 use Rattle.drv_words.specs.Stepping.{pending_from, pipe_pending}
 use Rattle.std.proofs.Common.{◌≡◌, drop}
