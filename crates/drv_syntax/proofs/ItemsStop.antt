@@ -46,8 +46,7 @@ use Rattle.std.specs.Prelude.{◌-◌, ◌==◌, None, nat_le}
 -- white space, or with none. `Loops`: a loop from this rest on gives r, with any number of turns that is enough. `in_braces`: the context
 -- in the braces of a list, before the colon of an alternative. `differs`: true is not false, so a case in which they are equal can't arise.
 -- `IsSign`: a test's ! and the white space after it, or none. `unspaced`, `asking`, `behind`: the text without the white space before it,
--- from what a test asks on, and after that. `own`: the place of a function's own %. Numbers are bytes: 10 is a newline, 32 a blank, 37 %,
--- 38 &, 40 (, 42 *, 44 a comma, 46 a period, 58 :, 92 a backslash, 124 |, 125 }.
+-- from what a test asks on, and after that. `own`: the place of a function's own %. The number 40 is the byte (.
 
 -- a byte that f doesn't allow differs from one that f allows
 pub unlike : (f : ℕ → Bool) (b x : ℕ) → f b ≡ false → f x ≡ true → (b == x) ≡ false
@@ -72,16 +71,17 @@ module _ (at : ℕ) (order : Order) (place : Span) (negated : Bool) (o : Operand
   -- a byte that ends neither a test nor a pattern doesn't fit
   none_fits : is_of ends_either b ≡ false → d.decided at order tried ≡ Fails (BadDirective at)
   none_fits h = rw (
-    unlike (is_of ends_either) b 125 h refl,
-    unlike (is_of ends_either) b 38 h refl,
-    unlike (is_of ends_either) b 58 h refl,
-    unlike (is_of ends_either) b 124 h refl,
+    unlike (is_of ends_either) b ascii.closing_brace h refl,
+    unlike (is_of ends_either) b ascii.ampersand h refl,
+    unlike (is_of ends_either) b ascii.colon h refl,
+    unlike (is_of ends_either) b ascii.bar h refl,
   ) refl
 
   -- after what can be no pattern, a byte that ends no test doesn't fit
   no_pattern_fits : is_of ends_test b ≡ false → (may_emit order negated ≡ false) ⊎ (o.as_pattern ≡ None)
       → d.decided at order tried ≡ Fails (BadDirective at)
-  no_pattern_fits h p = rw (unlike (is_of ends_test) b 58 h refl, unlike (is_of ends_test) b 124 h refl) (by (b == 125) (b == 38))
+  no_pattern_fits h p = rw (unlike (is_of ends_test) b ascii.colon h refl, unlike (is_of ends_test) b ascii.bar h refl)
+      (by (b == ascii.closing_brace) (b == ascii.ampersand))
     where
       -- Plan: by what the byte ends (`by`); neither a pattern (`never`) nor a test fits (`either`).
       never : (goes : Span × Pattern → d.After) → (may_emit order negated ≡ false) ⊎ (o.as_pattern ≡ None)
@@ -160,8 +160,8 @@ module _ (k : ℕ) (q : List ℕ) where
       let m = spaces_on whole sp (s.at_byte w) h in loop_ends (λ goes. rw (m.0, m.1, pattern_stops at b e) refl)
   patterns_stop {at} {t = t} (r.pattern_ends sp i z) (stops_at (r.no_end {b = b} w e)) h = loop_ends (λ goes. rw (
     pattern_on whole at sp i z w h,
-    unlike (is_of ends_pattern) b 125 e refl,
-    unlike (is_of ends_pattern) b 38 e refl,
+    unlike (is_of ends_pattern) b ascii.closing_brace e refl,
+    unlike (is_of ends_pattern) b ascii.ampersand e refl,
     last_at,
   ) refl)
   patterns_stop {at} {t = t} (r.after_and {w = w} sp i z o) f h = and_on whole at sp i z h
@@ -222,8 +222,8 @@ module _ (k : ℕ) (q : List ℕ) where
         rw (
           quoted_is whole (s.quoted_stop {rest = q} y.0 y.1) (omega arith),
           y.2,
-          unlike (is_of ends_pattern) b 125 e refl,
-          unlike (is_of ends_pattern) b 38 e refl,
+          unlike (is_of ends_pattern) b ascii.closing_brace e refl,
+          unlike (is_of ends_pattern) b ascii.ampersand e refl,
           w,
           last_at,
         ) refl
@@ -240,7 +240,8 @@ module _ (k : ℕ) (q : List ℕ) where
       where
         -- after a starred word with a mark, a byte that ends no pattern doesn't fit
         bad : (place : Span) → d.decided at AtFront (tried at AtFront place false (d.starred_operand mark word) b) ≡ Fails (BadDirective at)
-        bad place = rw (unlike (is_of ends_pattern) b 125 x refl, unlike (is_of ends_pattern) b 38 x refl) (by (b == 58) (b == 124))
+        bad place = rw (unlike (is_of ends_pattern) b ascii.closing_brace x refl, unlike (is_of ends_pattern) b ascii.ampersand x refl)
+            (by (b == ascii.colon) (b == ascii.bar))
           where
             by : (colon bar : Bool)
                 → (if colon then Fails (BadDirective at) else if bar then Fails (BadDirective at) else Fails (BadDirective at))
@@ -259,18 +260,21 @@ module _ (k : ℕ) (q : List ℕ) where
             → ((place : Span) → d.decided at AtFront (tried at AtFront place false (d.bare_operand mark) byte) ≡ Fails fault)
             → d.form deep c at AtFront (here whole t) ≡ Stops k fault
         past byte z w g =
-            let n : is_word b ≡ false = each (λ byte. is_word byte ≡ false) (32 ∷ 9 ∷ 10 ∷ []) b white (refl, (refl, (refl, tt))) in
-            let e : d.ends_bare b ≡ true = rw (other is_white b 125 white refl, other is_white b 38 white refl, white) refl in
+            let n : is_word b ≡ false =
+            each (λ byte. is_word byte ≡ false) (ascii.space ∷ ascii.tab ∷ ascii.newline ∷ []) b white (refl, (refl, (refl, tt))) in
+            let e : d.ends_bare b ≡ true =
+            rw (other is_white b ascii.closing_brace white refl, other is_white b ascii.ampersand white refl, white) refl in
             let l : length (mark ∷ b ∷ u) ≤ whole = omega (arith, spaces_shorter sp, h) in
             (tested_stops AtFront sp (mark_sign m) (mark_white m) h (bare_is whole at deep c mark b u m
-            (s.quoted_stop (other is_white b 92 white refl) n) (other is_white b 42 white refl) e l) (s.space white z)
-            w g (omega (arith, l))).0
+            (s.quoted_stop (other is_white b ascii.backslash white refl) n) (other is_white b ascii.asterisk white refl) e l)
+            (s.space white z) w g (omega (arith, l))).0
 
         by : {v : List ℕ} {fault : SyntaxFault} → StopsAt (r.PastMark at) v fault → AreSpaces u v
             → d.form deep c at AtFront (here whole t) ≡ Stops k fault
-        by (stops_at (r.mark_is_no_test {b = x} e)) z = past x z (each (λ x. is_white x ≡ false) (58 ∷ 124 ∷ []) x e (refl, (refl, tt)))
+        by (stops_at (r.mark_is_no_test {b = x} e)) z =
+            past x z (each (λ x. is_white x ≡ false) (ascii.colon ∷ ascii.bar ∷ []) x e (refl, (refl, tt)))
             (λ place. each (λ x. d.decided at AtFront (tried at AtFront place false (d.bare_operand mark) x) ≡ Fails (EmptyTest at))
-            (58 ∷ 124 ∷ []) x e (refl, (refl, tt)))
+            (ascii.colon ∷ ascii.bar ∷ []) x e (refl, (refl, tt)))
         by (stops_at (r.no_end_past_mark {b = x} w e)) z = past x z w (λ place. none_fits at AtFront place false (d.bare_operand mark) x e)
     emits_stop {t = t} (r.after_first {w = w} sp i z o) f h = (emits_on whole at deep c sp i z h
         (patterns_stop o f (omega (arith, spaces_shorter sp, pattern_shorter i, spaces_shorter z, h)))).0
@@ -311,17 +315,17 @@ module _ (k : ℕ) (q : List ℕ) where
 
       -- a star after a mark and its word is refused where the braces can't be patterns
       star_stops : {emits : Bool} {u word : List ℕ} {x : ℕ} (mark : ℕ) → emits ≡ false → is_mark mark ≡ true → IsQuoted is_word u (x ∷ word)
-          (42 ∷ q) → suc (length u) ≤ whole → d.asked deep c at emits (here whole (mark ∷ u)) ≡ Stops k (BadDirective at)
+          (ascii.asterisk ∷ q) → suc (length u) ≤ whole → d.asked deep c at emits (here whole (mark ∷ u)) ≡ Stops k (BadDirective at)
       star_stops {emits} {u} mark e m i h =
           rw (mark_on whole deep c at emits mark u m h, quoted_is whole i (omega (arith, h)), e, last_at) refl
 
       -- white space and the byte after a test begin with no star, or that byte is a star without white space before it
-      star_or : {w : List ℕ} {b : ℕ} → AreSpaces w (b ∷ q) → s.Stops (λ x. x == ascii.asterisk) w ⊎ (w ≡ 42 ∷ q)
-      star_or (s.space {b = x} h i) = inl (s.at_byte (other is_white x 42 h refl))
-      star_or {b = b} s.no_space = by (b == 42) refl
+      star_or : {w : List ℕ} {b : ℕ} → AreSpaces w (b ∷ q) → s.Stops (λ x. x == ascii.asterisk) w ⊎ (w ≡ ascii.asterisk ∷ q)
+      star_or (s.space {b = x} h i) = inl (s.at_byte (other is_white x ascii.asterisk h refl))
+      star_or {b = b} s.no_space = by (b == ascii.asterisk) refl
         where
-          by : (x : Bool) → (b == 42) ≡ x → s.Stops (λ x. x == ascii.asterisk) (b ∷ q) ⊎ (b ∷ q ≡ 42 ∷ q)
-          by true e = inr (ap (λ (y : ℕ). y ∷ q) (same b 42 e))
+          by : (x : Bool) → (b == ascii.asterisk) ≡ x → s.Stops (λ x. x == ascii.asterisk) (b ∷ q) ⊎ (b ∷ q ≡ ascii.asterisk ∷ q)
+          by true e = inr (ap (λ (y : ℕ). y ∷ q) (same b ascii.asterisk e))
           by false e = inl (s.at_byte e)
 
       -- after a test by the grammar that can be no pattern, Descent stops at a byte that ends no test
@@ -334,7 +338,7 @@ module _ (k : ℕ) (q : List ℕ) where
         where
           -- Plan: by what the test asks.
           by : {asking : List ℕ} {asked : Asked} → IsSign unspaced negated asking → IsAsked whole (in_braces c) asking asked x
-              → s.Stops (λ x. x == ascii.asterisk) x ⊎ (x ≡ 42 ∷ q) → length x ≤ whole → length asking ≤ whole
+              → s.Stops (λ x. x == ascii.asterisk) x ⊎ (x ≡ ascii.asterisk ∷ q) → length x ≤ whole → length asking ≤ whole
               → Stopped order t (BadDirective at)
           by {asked = asked} sign i (inl f) n l = tested_stops order sp sign (asked_head no_white refl i) h
               (asked_is whole deep c at deeper (may_emit order negated) i f l) z w
@@ -343,9 +347,9 @@ module _ (k : ℕ) (q : List ℕ) where
               (switch_is whole deep c at (may_emit order negated) g i l) z w
               (λ place. no_pattern_fits at order place negated (d.switch_operand p) b y (inl e)) n
           by sign (s.suffix {b = m} {text = u} {word = word} i) (inr f) n l = asking_stops order sp sign (s.at_byte refl) h
-              (star_stops 46 e refl (subst (λ (x : List ℕ). IsQuoted is_word u (m ∷ word) x) f i) l)
+              (star_stops ascii.period e refl (subst (λ (x : List ℕ). IsQuoted is_word u (m ∷ word) x) f i) l)
           by sign (s.language {b = m} {text = u} {word = word} i) (inr f) n l = asking_stops order sp sign (s.at_byte refl) h
-              (star_stops 44 e refl (subst (λ (x : List ℕ). IsQuoted is_word u (m ∷ word) x) f i) l)
+              (star_stops ascii.comma e refl (subst (λ (x : List ℕ). IsQuoted is_word u (m ∷ word) x) f i) l)
           by sign (s.result {name = name} {arguments = items} i) (inr f) n l = tested_stops order sp sign (s.at_byte refl) h
               (result_is whole deep c at deeper (may_emit order negated) i l) z w
               (λ place. no_pattern_fits at order place negated (d.result_operand name items) b y (inl e)) n
@@ -492,8 +496,8 @@ module _ (k : ℕ) (q : List ℕ) (lists deep : Lists) (c : ListContext) (known 
       → length last ≤ k + 1 → d.directive_by lists deep c at n directive (here size (last ++ q)) ≡ Stops k (BadDirective at)
   breaks_stop at n (r.no_option e) h = rw (e, last_at k q) refl
   breaks_stop at n r.empty_option h =
-      let i : IsQuoted is_option (125 ∷ q) [] (125 ∷ q) = s.quoted_stop refl refl in
-      rw (one size (125 ∷ q) (omega (arith, h)), quoted_is size i (omega (arith, h)), last_at k q) refl
+      let i : IsQuoted is_option (ascii.closing_brace ∷ q) [] (ascii.closing_brace ∷ q) = s.quoted_stop refl refl in
+      rw (one size (ascii.closing_brace ∷ q) (omega (arith, h)), quoted_is size i (omega (arith, h)), last_at k q) refl
   breaks_stop at n (r.no_name e) h =
       let z : size - suc (length q) + 0 ≡ k = omega arith in rw e (ap (λ (i : ℕ). Stops i (BadDirective at)) z)
   breaks_stop at n (r.open_name {b = b} {text = t} {name = name} i l e) h =
@@ -532,9 +536,9 @@ module _ (k : ℕ) (q : List ℕ) (lists deep : Lists) (c : ListContext) (known 
   nested_stop at n OfStar t h e = differs (sym h)
 
   -- where Descent stops after the byte of this directive, it stops there in the list
-  byte_stops : {f : Directive} {fault : SyntaxFault} (n b : ℕ) (t : List ℕ) → is_allowed c.in_arguments b ≡ true → At size n (37 ∷ b ∷ t)
-      → directive_of b ≡ f → d.directive_by lists deep c n (size - suc (length t)) f (here size t) ≡ Stops k fault
-      → Loops (turn size lists deep c) (here size (37 ∷ b ∷ t)) (Stops k fault)
+  byte_stops : {f : Directive} {fault : SyntaxFault} (n b : ℕ) (t : List ℕ) → is_allowed c.in_arguments b ≡ true
+      → At size n (ascii.percent ∷ b ∷ t) → directive_of b ≡ f → d.directive_by lists deep c n (size - suc (length t)) f (here size t)
+      ≡ Stops k fault → Loops (turn size lists deep c) (here size (ascii.percent ∷ b ∷ t)) (Stops k fault)
   byte_stops n b t al p e g =
       let j : size - suc (suc (length t)) ≡ n = omega (arith, p) in
       let on = ap (λ x. d.directive_by lists deep c n (size - suc (length t)) x (here size t)) e ∙ g in
@@ -548,23 +552,23 @@ module _ (k : ℕ) (q : List ℕ) (lists deep : Lists) (c : ListContext) (known 
   due_stop : {u : List ℕ} {fault : SyntaxFault} → StopsAt k q (AnItem c) u fault → length u ≤ size
       → Loops (turn size lists deep c) (here size u) (Stops k fault)
   due_stop (stops_at (r.star_outside {n = n} {b = b} p al e f)) h =
-      byte_stops n b q al (due_place n (37 ∷ b ∷ []) p) e (rw (f, last_at k q) refl)
+      byte_stops n b q al (due_place n (ascii.percent ∷ b ∷ []) p) e (rw (f, last_at k q) refl)
   due_stop (stops_at (r.mixed_star {n = n} {b = b} p al e f)) h =
-      byte_stops n b q al (due_place n (37 ∷ b ∷ []) p) e (rw (f, last_at k q) refl)
-  due_stop (stops_at (r.item_within_all {n = n} {b = b} p al e f)) h = byte_stops n b q al (due_place n (37 ∷ b ∷ []) p) refl
+      byte_stops n b q al (due_place n (ascii.percent ∷ b ∷ []) p) e (rw (f, last_at k q) refl)
+  due_stop (stops_at (r.item_within_all {n = n} {b = b} p al e f)) h = byte_stops n b q al (due_place n (ascii.percent ∷ b ∷ []) p) refl
       (nested_stop n (size - suc (length q)) (directive_of b) q e f ∙ ap (λ (i : ℕ). Stops i (TooNested n)) (last_at k q))
   due_stop (stops_at (r.item_no_function {n = n} {b = b} {last = last} p al e f i)) h =
-      byte_stops n b (last ++ q) al (due_place n (37 ∷ b ∷ last) p) e
+      byte_stops n b (last ++ q) al (due_place n (ascii.percent ∷ b ∷ last) p) e
       (rw (f, function_stops k q n i (omega (arith, length-append last q, h)), last_at k q) refl)
   due_stop (stops_at (r.hides_nothing {n = n} {b = b} {x = x} p al e y)) h =
-      byte_stops n b (x ∷ q) al (due_place n (37 ∷ b ∷ x ∷ []) p) e (rw (pattern_stops k q n x y) refl)
+      byte_stops n b (x ∷ q) al (due_place n (ascii.percent ∷ b ∷ x ∷ []) p) e (rw (pattern_stops k q n x y) refl)
   due_stop (stops_at (r.not_allowed {n = n} {b = b} p al)) h =
       let j : size - suc (length (b ∷ q)) ≡ n = omega (arith, p) in
       loop_ends (λ goes. rw (one size (b ∷ q) (omega (arith, h)), al, last_at k q, j) refl)
   due_stop (stops_at (r.no_directive {n = n} {b = b} p al e)) h =
-      byte_stops n b q al (due_place n (37 ∷ b ∷ []) p) e (rw (last_at k q) refl)
+      byte_stops n b q al (due_place n (ascii.percent ∷ b ∷ []) p) e (rw (last_at k q) refl)
   due_stop (stops_at (r.breaks_off {n = n} {b = b} {last = last} p al i)) h =
-      byte_stops n b (last ++ q) al (due_place n (37 ∷ b ∷ last) p) refl
+      byte_stops n b (last ++ q) al (due_place n (ascii.percent ∷ b ∷ last) p) refl
       (breaks_stop n (size - suc (length (last ++ q))) i (omega (arith, length-append last q, h)))
 
   -- in a list, Descent stops at the byte that doesn't fit

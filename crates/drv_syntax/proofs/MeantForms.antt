@@ -32,8 +32,7 @@ use Rattle.std.specs.Prelude.{◌-◌, ◌==◌}
 -- says. A mark is the `.` or `,` of a test. `Tried` is a test that may still be a pattern, with the byte after it. Names: at: the place of
 -- the directive; c: its context; t, u, v, q: what is left of the text from step to step. `unspaced`, `asking`, `behind`: the text without
 -- the white space before it, from what a test asks on, and after that. `from`, `to`: the places of a test. `k`, `misfit`: the place of the
--- byte that is refused. `TestBad` and `emit_bad`: the test, or the pattern, is refused there with that fault. Numbers in statements are
--- bytes: 37 %, 38 &, 40 (, 41 ), 42 *, 44 a comma, 46 a period, 58 :, 124 |, 125 }.
+-- byte that is refused. `TestBad` and `emit_bad`: the test, or the pattern, is refused there with that fault.
 
 -- right after a mark alone: white space, or the end of a pattern
 pub data Bared : List ℕ → Type 0 where
@@ -64,18 +63,18 @@ pub data AskedBad (at size : ℕ) (g : ListContext) (order : Order) (negated : B
 
 -- a mark is no backslash
 pub mark_plain : (mark : ℕ) → is_mark mark ≡ true → (mark == ascii.backslash) ≡ false
-mark_plain mark e = other is_mark mark 92 e refl
+mark_plain mark e = other is_mark mark ascii.backslash e refl
 
 -- a mark and a word after it ask for a suffix or a language
 pub asked_marked : {size : ℕ} (mark b : ℕ) {c : ListContext} {t : List ℕ} (word : List ℕ) {q : List ℕ}
     → is_mark mark ≡ true → IsQuoted is_word t (b ∷ word) q → IsAsked size c (mark ∷ t) (d.marked mark (b ∷ word)) q
-asked_marked {size} mark b {c} {t} word {q} e i = by (mark == 46) (mark == 44) refl refl e
+asked_marked {size} mark b {c} {t} word {q} e i = by (mark == ascii.period) (mark == ascii.comma) refl refl e
   where
-    by : (suffix language : Bool)
-        → (mark == 46) ≡ suffix → (mark == 44) ≡ language → (if suffix then true else if language then true else false) ≡ true
+    by : (suffix language : Bool) → (mark == ascii.period) ≡ suffix
+        → (mark == ascii.comma) ≡ language → (if suffix then true else if language then true else false) ≡ true
         → IsAsked size c (mark ∷ t) (if suffix then HasSuffix (b ∷ word) else HasLanguage (b ∷ word)) q
-    by true language h k f = rw (same mark 46 h) (s.suffix i)
-    by false true h k f = rw (same mark 44 k) (s.language i)
+    by true language h k f = rw (same mark ascii.period h) (s.suffix i)
+    by false true h k f = rw (same mark ascii.comma k) (s.language i)
     by false false h k f = differs (sym f)
 
 -- a mark is a pattern where neither a word, an escape nor a star follows it
@@ -85,18 +84,18 @@ mark_pattern {mark} e f g h = s.unstarred (s.quoted_byte (mark_plain mark e) (ma
 
 -- what may follow a mark alone is white space or the end of a pattern
 bared : (b : ℕ) (rest : List ℕ) → d.ends_bare b ≡ true → Bared (b ∷ rest)
-bared b rest e = by (b == 125) (b == 38) refl refl
+bared b rest e = by (b == ascii.closing_brace) (b == ascii.ampersand) refl refl
   where
-    by : (x y : Bool) → (b == 125) ≡ x → (b == 38) ≡ y → Bared (b ∷ rest)
+    by : (x y : Bool) → (b == ascii.closing_brace) ≡ x → (b == ascii.ampersand) ≡ y → Bared (b ∷ rest)
     by true y f g = by_end (rw f refl)
     by false true f g = by_end (rw (f, g) refl)
     by false false f g = by_white (rw (f, g) at e)
 
 -- what may not follow a mark alone is neither white space nor the end of a pattern
 not_bared : (b : ℕ) → d.ends_bare b ≡ false → (is_white b ≡ false) × (is_of ends_pattern b ≡ false)
-not_bared b e = by (b == 125) (b == 38) refl refl
+not_bared b e = by (b == ascii.closing_brace) (b == ascii.ampersand) refl refl
   where
-    by : (x y : Bool) → (b == 125) ≡ x → (b == 38) ≡ y → (is_white b ≡ false) × (is_of ends_pattern b ≡ false)
+    by : (x y : Bool) → (b == ascii.closing_brace) ≡ x → (b == ascii.ampersand) ≡ y → (is_white b ≡ false) × (is_of ends_pattern b ≡ false)
     by true y f g = differs (rw f at e)
     by false true f g = differs (rw (f, g) at e)
     by false false f g = (rw (f, g) at e, rw (f, g) refl)
@@ -116,38 +115,41 @@ module _ (size : ℕ) (deep : Lists) (c : ListContext) (meets : (c.levels - 1 ==
       else d.marked_end at emits mark word (left m rest))
   mark_end_meant mark is m [] [] place i emits h = meant_ends (cuts.cut_marked is (runs_out i))
   mark_end_meant mark is m [] (b ∷ rest) place (s.quoted_stop e g) true h =
-      meant_byte b 42 (λ f. meant_took (omega (arith, place)) (rw f (by_star h is (s.quoted_stop refl refl))))
+      meant_byte b ascii.asterisk (λ f. meant_took (omega (arith, place)) (rw f (by_star h is (s.quoted_stop refl refl))))
       (λ f. meant_if (d.ends_bare b) (λ k. meant_took place (by_bare h is (mark_pattern is e g f) (bared b rest k)))
       (λ k. meant_stops (mark_bad place h is (mark_pattern is e g f) (not_bared b k).0 (not_bared b k).1)))
   mark_end_meant mark is m [] (b ∷ rest) place (s.quoted_stop e g) false h =
       meant_stops (asked_bad (r.word_due h is) (refuses_byte (r.no_word e g) place))
   mark_end_meant mark is m (x ∷ word) [] place i emits h = meant_took place (by_mark is i s.at_end)
   mark_end_meant mark is m (x ∷ word) (b ∷ rest) place i true h =
-      meant_byte b 42 (λ e. meant_took (omega (arith, place)) (by_star h is (rw e at i))) (λ e. meant_took place (by_mark is i
+      meant_byte b ascii.asterisk (λ e. meant_took (omega (arith, place)) (by_star h is (rw e at i))) (λ e. meant_took place (by_mark is i
       (s.at_byte e)))
   mark_end_meant mark is m (x ∷ word) (b ∷ rest) place i false h =
-      meant_byte b 42 (λ e. meant_stops (asked_bad (r.test_ends {rest = 42 ∷ rest} h (asked_marked mark x word is (rw e at i)) s.no_space)
-      (refuses_byte (r.no_end refl refl) place))) (λ e. meant_took place (by_mark is i (s.at_byte e)))
+      meant_byte b ascii.asterisk (λ e. meant_stops (asked_bad (r.test_ends {rest = ascii.asterisk ∷ rest} h
+      (asked_marked mark x word is (rw e at i)) s.no_space) (refuses_byte (r.no_end refl refl) place)))
+      (λ e. meant_took place (by_mark is i (s.at_byte e)))
 
   -- a byte that doesn't fit in the call of a test doesn't fit in the test
-  call_asked : (n : ℕ) {t : List ℕ} {k : ℕ} {fault : SyntaxFault} → (c.levels - 1 == 0) ≡ false → At size n (37 ∷ 58 ∷ t)
-      → CallBad (in_braces c) n size t k fault → AskedBad at size (in_braces c) order negated (37 ∷ 58 ∷ t) k fault
+  call_asked : (n : ℕ) {t : List ℕ} {k : ℕ} {fault : SyntaxFault}
+      → (c.levels - 1 == 0) ≡ false → At size n (ascii.percent ∷ ascii.colon ∷ t)
+      → CallBad (in_braces c) n size t k fault → AskedBad at size (in_braces c) order negated (ascii.percent ∷ ascii.colon ∷ t) k fault
   call_asked n e place (no_function (name_bad i h)) =
-      let f = up_more (37 ∷ 58 ∷ []) h in asked_bad r.asked_due (refuses_at (r.test_no_function (up_place n place f) e i) f)
+      let f = up_more (ascii.percent ∷ ascii.colon ∷ []) h in
+      asked_bad r.asked_due (refuses_at (r.test_no_function (up_place n place f) e i) f)
   call_asked n e place (in_list name is (unfit reaches refuses)) = asked_bad (r.in_function name e is reaches) refuses
 
   -- the call of a function that a test asks for is what the grammar says
-  result_meant : (n : ℕ) (text : List ℕ) → At size n (37 ∷ text) → (c.levels - 1 == 0) ≡ false
-      → AskedMeant (37 ∷ text) (d.result deep c at n (left (n + 1) text))
+  result_meant : (n : ℕ) (text : List ℕ) → At size n (ascii.percent ∷ text) → (c.levels - 1 == 0) ≡ false
+      → AskedMeant (ascii.percent ∷ text) (d.result deep c at n (left (n + 1) text))
   result_meant n [] place e = meant_ends (cuts.cut_call e)
   result_meant n (b ∷ text) place e =
-      meant_byte b 58 (λ f. rw f (meant_as (call_meant d.result_operand (in_braces c) e deep size (meets e) at n (n + 1 + 1) text
+      meant_byte b ascii.colon (λ f. rw f (meant_as (call_meant d.result_operand (in_braces c) e deep size (meets e) at n (n + 1 + 1) text
       (omega (arith, place))) (λ operand q i. result i) (λ o. cuts.cut_result o) (λ j fault o. call_asked n e (omega (arith, place)) o)))
       (λ f. meant_stops (asked_bad r.asked_due (refuses_at (r.no_call (omega arith) e f)
-      (up_more (37 ∷ []) (let p : At size (n + 1) (b ∷ text) = omega (arith, place) in up_byte p)))))
+      (up_more (ascii.percent ∷ []) (let p : At size (n + 1) (b ∷ text) = omega (arith, place) in up_byte p)))))
     where
       result : {t q : List ℕ} {operand : Operand} → CallIs d.result_operand size (in_braces c) t operand q
-          → IsOperand size (in_braces c) (may_emit order negated) (37 ∷ 58 ∷ t) operand q
+          → IsOperand size (in_braces c) (may_emit order negated) (ascii.percent ∷ ascii.colon ∷ t) operand q
       result (call_is i) = by_result i
 
   -- what a test asks, after its white space and `!`, is what the grammar says
@@ -159,12 +161,13 @@ module _ (size : ℕ) (deep : Lists) (c : ListContext) (meets : (c.levels - 1 ==
       if d.is_empty word then by_byte (first_of end.bytes) (Ends at) (λ x. d.bare_end at (may_emit order negated) b end x)
       else d.marked_end at (may_emit order negated) b word end) (λ end o. meant_ends (cuts.cut_marked e o))
       (λ word rest there i. mark_end_meant b e rest.at word rest.bytes there i (may_emit order negated) refl))
-      (λ e. meant_byte b 37 (λ g. rw g (meant_if (c.levels - 1 == 0)
+      (λ e. meant_byte b ascii.percent (λ g. rw g (meant_if (c.levels - 1 == 0)
       (λ h. meant_stops (asked_bad r.asked_due (refuses_byte (r.test_within_all (omega arith) h) place)))
       (λ h. result_meant n text place h))) (λ g. meant_then (λ p rest. Took (d.switch_operand p) rest) (pattern_meant at n (b ∷ text) place)
       (λ p rest there i. meant_took there (by_switch (s.at_byte e) i)) (λ o. cuts.cut_switch (s.at_byte e) o) (λ j fault i. none text g i)))
     where
-      none : (t : List ℕ) {k : ℕ} {fault : SyntaxFault} → (b == 37) ≡ false → PatternBad size at (b ∷ t) k fault
+      -- a byte that begins no pattern doesn't fit where a test is due
+      none : (t : List ℕ) {k : ℕ} {fault : SyntaxFault} → (b == ascii.percent) ≡ false → PatternBad size at (b ∷ t) k fault
           → AskedBad at size (in_braces c) order negated (b ∷ t) k fault
       none t g (no_pattern i h) = asked_bad r.asked_due (refuses_byte (r.no_test_there i w g f) h)
 
@@ -269,8 +272,8 @@ module _ (size : ℕ) (deep : Lists) (c : ListContext) (meets : (c.levels - 1 ==
       → TestMeant t (d.signed deep c at order (left n u))
   signed_meant n [] sp place w f = from_meant n n false [] sp place (s.plain_sign s.at_end) place w f
   signed_meant n (b ∷ u) sp place w f =
-      meant_byte b 33 (λ e. meant_white (λ mid. d.asked_from deep c at order n true mid) (n + 1) u (omega (arith, place))
-      (λ m v there z x. from_meant n m true v (rw e at sp) place (s.not_sign z) there x (no_default order v)))
+      meant_byte b ascii.exclamation_mark (λ e. meant_white (λ mid. d.asked_from deep c at order n true mid) (n + 1) u
+      (omega (arith, place)) (λ m v there z x. from_meant n m true v (rw e at sp) place (s.not_sign z) there x (no_default order v)))
       (λ e. from_meant n n false (b ∷ u) sp place (s.plain_sign (s.at_byte e)) place w f)
 
   -- a whole test with the byte after it is what the grammar says, unless it is the colon of a default
@@ -280,8 +283,7 @@ module _ (size : ℕ) (deep : Lists) (c : ListContext) (meets : (c.levels - 1 ==
       let i = runs is_white text in signed_meant (n + prefix_len is_white text) (drop (prefix_len is_white text) text) (spaces i.0)
       (omega (arith, place, run_size i.0, i.1)) (run_stops i.0) f
 
--- What braces or an alternative begin with, patterns or tests: what Descent makes of them is what the grammar says. The numbers in the
--- statements are bytes: 38 is &, 58 :, 124 |, 125 }.
+-- What braces or an alternative begin with, patterns or tests: what Descent makes of them is what the grammar says.
 
 -- patterns
 
@@ -306,12 +308,13 @@ module _ (at size : ℕ) where
       → At size k rest → AreSpaces behind rest → s.Stops is_white rest → OneMeant t (d.pattern_turn at (span from to, p) (left k rest))
   turn_meant from to k [] sp a i b place z x = meant_ends (cuts.after_pattern sp i z)
   turn_meant {t} {unspaced} {behind} {p} from to k (y ∷ rest) sp a i b place z (s.at_byte x) =
-      meant_byte y 125 (λ e. meant_took place (rw e (to_brace (s.last_pattern sp a i b (rw e at z)))))
-      (λ e. meant_byte y 38 (λ f. meant_took (omega (arith, place)) (goes (rw f at z)))
+      meant_byte y ascii.closing_brace (λ e. meant_took place (rw e (to_brace (s.last_pattern sp a i b (rw e at z)))))
+      (λ e. meant_byte y ascii.ampersand (λ f. meant_took (omega (arith, place)) (goes (rw f at z)))
       (λ f. meant_stops (unfit (r.pattern_ends sp i z) (refuses_byte (r.no_end x (rw (e, f) refl)) place))))
     where
       -- Plan: by the byte that comes next; after an ampersand what is meant of the rest is meant of all (`goes`, `next`).
-      goes : AreSpaces behind (38 ∷ rest) → Leads (ToBrace size) CutsPatterns (PatternsBad at size) t (λ ps. (span from to, p) ∷ ps) rest
+      goes : AreSpaces behind (ascii.ampersand ∷ rest)
+          → Leads (ToBrace size) CutsPatterns (PatternsBad at size) t (λ ps. (span from to, p) ∷ ps) rest
       goes z = record {
         is = λ ps q o. next z o;
         cut = λ o. cuts.after_and sp i z o;
@@ -319,7 +322,8 @@ module _ (at size : ℕ) where
         shorter = omega (arith, spaces_shorter sp, pattern_shorter i, spaces_shorter z);
       }
         where
-          next : AreSpaces behind (38 ∷ rest)
+          -- patterns after this one and an ampersand, with this one before them
+          next : AreSpaces behind (ascii.ampersand ∷ rest)
               → {ps : List (Span × Pattern)} {q : List ℕ} → ToBrace size rest ps q → ToBrace size t ((span from to, p) ∷ ps) q
           next z (to_brace o) = to_brace (s.next_pattern sp a i b z o)
 
@@ -354,14 +358,14 @@ pub data Questioned (size : ℕ) (g : ListContext) : List ℕ → Span → Bool 
 
 -- what the byte after a test decides is what the grammar says: patterns end or go on, tests end or go on, or the byte doesn't fit
 pub data Decided (at size : ℕ) (g : ListContext) (order : Order) (t : List ℕ) : After → List ℕ → Type 0 where
-  is_emits : {place : Span} {p : Pattern} {q : List ℕ} → order ≡ AtFront → Emitted size t place p (125 ∷ q)
-      → Decided at size g order t (Emits (place, p)) (125 ∷ q)
-  is_joins : {place : Span} {p : Pattern} {q : List ℕ} → order ≡ AtFront → Emitted size t place p (38 ∷ q)
-      → Decided at size g order t (Joins (place, p)) (38 ∷ q)
-  is_asks : {place : Span} {negated : Bool} {a : Asked} {q : List ℕ} → Questioned size g t place negated a (58 ∷ q)
-      → Decided at size g order t (Asks place negated a) (58 ∷ q)
-  is_bars : {place : Span} {negated : Bool} {a : Asked} {q : List ℕ} → Questioned size g t place negated a (124 ∷ q)
-      → Decided at size g order t (Bars place negated a) (124 ∷ q)
+  is_emits : {place : Span} {p : Pattern} {q : List ℕ} → order ≡ AtFront → Emitted size t place p (ascii.closing_brace ∷ q)
+      → Decided at size g order t (Emits (place, p)) (ascii.closing_brace ∷ q)
+  is_joins : {place : Span} {p : Pattern} {q : List ℕ} → order ≡ AtFront → Emitted size t place p (ascii.ampersand ∷ q)
+      → Decided at size g order t (Joins (place, p)) (ascii.ampersand ∷ q)
+  is_asks : {place : Span} {negated : Bool} {a : Asked} {q : List ℕ} → Questioned size g t place negated a (ascii.colon ∷ q)
+      → Decided at size g order t (Asks place negated a) (ascii.colon ∷ q)
+  is_bars : {place : Span} {negated : Bool} {a : Asked} {q : List ℕ} → Questioned size g t place negated a (ascii.bar ∷ q)
+      → Decided at size g order t (Bars place negated a) (ascii.bar ∷ q)
   is_fails : {fault : SyntaxFault} {b : ℕ} {q : List ℕ} → ((k : ℕ) → At size k (b ∷ q) → TestBad at size g order t k fault)
       → Decided at size g order t (Fails fault) (b ∷ q)
 
@@ -457,13 +461,15 @@ decided_is : {at size : ℕ} {c : ListContext} {order : Order} {t q : List ℕ} 
     → IsTried size c order t tr q → Decided at size c order t (d.decided at order tr) q
 decided_is {at} {size} {c} {order} {t}
     (is_tried {n = from} {m = to} {b} {u = unspaced} {v = asking} {w = behind} {q = q} {negated} {o} sp start sign i end z white) =
-    choose (λ a. Decided at size c order t a (b ∷ q)) (b == 125) _ _ (λ e. pattern_case Emits (rw (same b 125 e) refl) (λ p f j. rw
-    (same b 125 e) (is_emits f (rw (same b 125 e) at j)))) (λ f. choose (λ a. Decided at size c order t a (b ∷ q)) (b == 38) _ _
-    (λ e. pattern_case Joins (rw (same b 38 e) refl) (λ p f j. rw (same b 38 e) (is_joins f (rw (same b 38 e) at j))))
-    (λ h. choose (λ a. Decided at size c order t a (b ∷ q)) (b == 58) _ _ (λ e. test_case (Asks (span from to) negated) (rw
-    (same b 58 e) refl) (rw (same b 58 e) refl) (λ a j. rw (same b 58 e) (is_asks (rw (same b 58 e) at j))))
-    (λ k. choose (λ a. Decided at size c order t a (b ∷ q)) (b == 124) _ _ (λ e. test_case (Bars (span from to) negated) (rw
-    (same b 124 e) refl) (rw (same b 124 e) refl) (λ a j. rw (same b 124 e) (is_bars (rw (same b 124 e) at j))))
+    choose (λ a. Decided at size c order t a (b ∷ q)) (b == ascii.closing_brace) _ _ (λ e. pattern_case Emits
+    (rw (same b ascii.closing_brace e) refl) (λ p f j. rw (same b ascii.closing_brace e) (is_emits f
+    (rw (same b ascii.closing_brace e) at j)))) (λ f. choose (λ a. Decided at size c order t a (b ∷ q)) (b == ascii.ampersand) _ _
+    (λ e. pattern_case Joins (rw (same b ascii.ampersand e) refl) (λ p f j. rw (same b ascii.ampersand e) (is_joins f
+    (rw (same b ascii.ampersand e) at j)))) (λ h. choose (λ a. Decided at size c order t a (b ∷ q)) (b == ascii.colon) _ _
+    (λ e. test_case (Asks (span from to) negated) (rw (same b ascii.colon e) refl) (rw (same b ascii.colon e) refl)
+    (λ a j. rw (same b ascii.colon e) (is_asks (rw (same b ascii.colon e) at j))))
+    (λ k. choose (λ a. Decided at size c order t a (b ∷ q)) (b == ascii.bar) _ _ (λ e. test_case (Bars (span from to) negated) (rw
+    (same b ascii.bar e) refl) (rw (same b ascii.bar e) refl) (λ a j. rw (same b ascii.bar e) (is_bars (rw (same b ascii.bar e) at j))))
     (λ l. is_fails (λ j here. order_bad order negated here sp sign i z white (rw (k, l) refl) (rw (f, h) refl) (rw (k, l, f, h) refl))))))
   where
     -- the byte ends a pattern: the test is one, or is refused
@@ -507,28 +513,28 @@ not_front e = absurd cc
 -- a test and a bar lead to the tests after it
 module _ {size : ℕ} {g : ListContext} {t u : List ℕ} {place : Span} {negated : Bool} {a : Asked} where
   -- a test, a bar and the tests after it are tests
-  bar_is : {order : Order} {asks : Tests} {q : List ℕ} → Questioned size g t place negated a (124 ∷ u)
+  bar_is : {order : Order} {asks : Tests} {q : List ℕ} → Questioned size g t place negated a (ascii.bar ∷ u)
       → IsForm size g AtBar u (Alternative asks) q → IsForm size g order t (Alternative (test place negated a asks)) q
   bar_is (questioned sp b sign i c z) (form_tests o) = form_tests (s.next_test sp b sign i c z o)
 
   -- where the text ends in the tests after a bar, it ends in tests
-  bar_cut : {order : Order} → Questioned size g t place negated a (124 ∷ u) → TestCuts size g AtBar u → TestCuts size g order t
+  bar_cut : {order : Order} → Questioned size g t place negated a (ascii.bar ∷ u) → TestCuts size g AtBar u → TestCuts size g order t
   bar_cut (questioned sp b sign i c z) (cut_test o) = cut_test (cuts.after_bar sp sign i z o)
   bar_cut i (cut_pattern e o) = not_front e
 
   -- a byte that doesn't fit in the tests after a bar doesn't fit in the tests
-  bar_bad : {at k : ℕ} {order : Order} {fault : SyntaxFault} → Questioned size g t place negated a (124 ∷ u)
+  bar_bad : {at k : ℕ} {order : Order} {fault : SyntaxFault} → Questioned size g t place negated a (ascii.bar ∷ u)
       → TestBad at size g AtBar u k fault → TestBad at size g order t k fault
   bar_bad (questioned sp b sign i c z) (test_bad o h) = test_bad (r.after_bar sp sign i z o) h
   bar_bad i (emit_bad e o h) = not_front e
 
   -- a test and a bar take bytes of the text
-  bar_shorter : Questioned size g t place negated a (124 ∷ u) → suc (length u) ≤ length t
+  bar_shorter : Questioned size g t place negated a (ascii.bar ∷ u) → suc (length u) ≤ length t
   bar_shorter (questioned sp b sign i c z) = omega (arith, spaces_shorter sp, sign_shorter sign, asked_shorter i, spaces_shorter z)
 
 -- a test before its colon is the tests of an alternative by itself
 one_asked : {size : ℕ} {g : ListContext} {t q : List ℕ} {place : Span} {negated : Bool} {a : Asked}
-    → Questioned size g t place negated a (58 ∷ q) → AreTests size g t (test place negated a no_test) (58 ∷ q)
+    → Questioned size g t place negated a (ascii.colon ∷ q) → AreTests size g t (test place negated a no_test) (ascii.colon ∷ q)
 one_asked (questioned sp b sign i c z) = s.last_test sp b sign i c z
 
 -- where a first test would begin, and after a bar, a colon is never that of a default

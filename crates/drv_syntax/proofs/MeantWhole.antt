@@ -41,9 +41,8 @@ use Rattle.std.proofs.Math.Seq.{take-append_seam}
 use Rattle.std.specs.List.{prefix_len}
 use Rattle.std.specs.Prelude.{◌-◌, ◌==◌}
 
--- The inside of braces, patterns or alternatives: what Descent makes of it is what the grammar says. The numbers in the statements are
--- bytes: 58 is :, 59 ;, 125 }. Descent is the grammar as functions (specs/Descent). The grammar itself has cases (specs/Spelling, Fronts,
--- Refusals).
+-- The inside of braces, patterns or alternatives: what Descent makes of it is what the grammar says. Descent is the grammar as functions
+-- (specs/Descent). The grammar itself has cases (specs/Spelling, Fronts, Refusals).
 -- Names: `c`: where the list is, and what is around it. `size`: the length of the whole text. `t`, `u`, `q`: what is left of the text, from
 -- step to step. `b`: a byte. `at`: the place of the directive's `%`. `mid`, `last`: what is left of the text between two parts, and at
 -- last. `f`: a directive. `deep`, `lists`: how lists inside are read. `k`: a place in the text. `in_braces`: the context in the braces of a
@@ -55,15 +54,15 @@ use Rattle.std.specs.Prelude.{◌-◌, ◌==◌}
 -- the grammar says. `misfit`: the place of the byte that doesn't fit.
 
 -- a byte that ends an X and is no closing brace is a semicolon
-ends_x : (b : ℕ) → is_end InX b ≡ true → (b == 125) ≡ false → b ≡ 59
-ends_x b e f = by (b == 59) refl
+ends_x : (b : ℕ) → is_end InX b ≡ true → (b == ascii.closing_brace) ≡ false → b ≡ ascii.semicolon
+ends_x b e f = by (b == ascii.semicolon) refl
   where
-    by : (x : Bool) → (b == 59) ≡ x → b ≡ 59
-    by true g = same b 59 g
+    by : (x : Bool) → (b == ascii.semicolon) ≡ x → b ≡ ascii.semicolon
+    by true g = same b ascii.semicolon g
     by false g = let z : is_end InX b ≡ false = rw (g, f) refl in differs (sym e ∙ z)
 
 -- where a later alternative begins with no colon, there is no default
-pub next_stops : (text : List ℕ) → begins_with 58 text ≡ false → s.Stops (is_default AtNext false) text
+pub next_stops : (text : List ℕ) → begins_with ascii.colon text ≡ false → s.Stops (is_default AtNext false) text
 next_stops [] e = s.at_end
 next_stops (b ∷ text) e = s.at_byte e
 
@@ -74,10 +73,12 @@ front_stops (b ∷ text) = s.at_byte refl
 
 -- an alternative from its tests on is the last of its braces, with the closing brace, or others follow its semicolon
 data IsTurn (size : ℕ) (g : ListContext) (t : List ℕ) : Turn Choices → List ℕ → Type 0 where
-  is_last : {asks : Tests} {list : Items} (colon : ℕ) {mid q : List ℕ} → AreTests size g t asks (58 ∷ mid) → At size colon (58 ∷ mid)
-      → AreItems size (in_x g asks) mid list (125 ∷ q) → IsTurn size g t (Last (alternative colon asks list no_choice)) q
-  is_more : {asks : Tests} {list : Items} (colon : ℕ) {mid q : List ℕ} → AreTests size g t asks (58 ∷ mid) → At size colon (58 ∷ mid)
-      → AreItems size (in_x g asks) mid list (59 ∷ q) → IsTurn size g t (More (λ others. alternative colon asks list others)) q
+  is_last : {asks : Tests} {list : Items} (colon : ℕ) {mid q : List ℕ} → AreTests size g t asks (ascii.colon ∷ mid)
+      → At size colon (ascii.colon ∷ mid) → AreItems size (in_x g asks) mid list (ascii.closing_brace ∷ q)
+      → IsTurn size g t (Last (alternative colon asks list no_choice)) q
+  is_more : {asks : Tests} {list : Items} (colon : ℕ) {mid q : List ℕ} → AreTests size g t asks (ascii.colon ∷ mid)
+      → At size colon (ascii.colon ∷ mid) → AreItems size (in_x g asks) mid list (ascii.semicolon ∷ q)
+      → IsTurn size g t (More (λ others. alternative colon asks list others)) q
 
 -- alternatives after the first lead to a byte that doesn't fit where something is due
 abbrev pub LaterBad : ℕ → ℕ → ListContext → List ℕ → ℕ → SyntaxFault → Type 0
@@ -100,16 +101,18 @@ module _ (size : ℕ) (lists deep : Lists) (c : ListContext) (near : (asks : Tes
     (meets : (c.levels - 1 == 0) ≡ false → Reads size (in_arguments (in_braces c)) deep) (at : ℕ) where
   -- after an X, by the byte that ends it, the alternative is the last one or others follow
   x_end_meant : {t mid q : List ℕ} {asks : Tests} {list : Items} {b : ℕ} {Cuts : Type 0} {Bad : ℕ → SyntaxFault → Type 0} (colon m : ℕ)
-      → AreTests size (in_braces c) t asks (58 ∷ mid) → At size colon (58 ∷ mid) → AreItems size (in_x (in_braces c) asks) mid list q
+      → AreTests size (in_braces c) t asks (ascii.colon ∷ mid)
+      → At size colon (ascii.colon ∷ mid) → AreItems size (in_x (in_braces c) asks) mid list q
       → Ended InX b q → At size m q → Meant size (IsTurn size (in_braces c) t) Cuts Bad (d.choice_turn colon asks (list, b) (left m q))
   x_end_meant {b = b} colon m i a l (ended_by e) place =
-      meant_byte b 125 (λ f. meant_took (omega (arith, place)) (is_last colon i a (rw f at l)))
+      meant_byte b ascii.closing_brace (λ f. meant_took (omega (arith, place)) (is_last colon i a (rw f at l)))
       (λ f. meant_took (omega (arith, place)) (is_more colon i a (rw (ends_x b e f) at l)))
 
   -- an alternative from its colon on is what the grammar says
-  x_meant : {t mid : List ℕ} {asks : Tests} (order : Order) (m : ℕ) → AreTests size (in_braces c) t asks (58 ∷ mid) → At size m (58 ∷ mid)
+  x_meant : {t mid : List ℕ} {asks : Tests} (order : Order) (m : ℕ)
+      → AreTests size (in_braces c) t asks (ascii.colon ∷ mid) → At size m (ascii.colon ∷ mid)
       → Meant size (IsTurn size (in_braces c) t) (CutsChoices size (in_braces c) t) (ChoicesBad at size (in_braces c) order t)
-      (then_read (d.x_of lists c at asks (left m (58 ∷ mid))) (λ x end. d.choice_turn m asks x end))
+      (then_read (d.x_of lists c at asks (left m (ascii.colon ∷ mid))) (λ x end. d.choice_turn m asks x end))
   x_meant {t} {mid} {asks} order m i place = meant_then (λ x end. d.choice_turn m asks x end)
       (meant_within at (near asks (m + 1) mid (omega (arith, place))))
       (λ x end there j. x_end_meant m end.at i place j.0 j.1 there) (λ o. cuts.in_choice i o)
@@ -152,23 +155,24 @@ module _ (size : ℕ) (lists deep : Lists) (c : ListContext) (near : (asks : Tes
   next_cuts (cut_pattern e o) = next_front e
 
   -- after the X of a default, only the closing brace fits
-  default_end_meant : {t mid q : List ℕ} {list : Items} {b : ℕ} (colon m : ℕ) → AreSpaces t (58 ∷ mid) → At size colon (58 ∷ mid)
-      → AreItems size (in_x (in_braces c) no_test) mid list q → Ended InX b q → At size m q
+  default_end_meant : {t mid q : List ℕ} {list : Items} {b : ℕ} (colon m : ℕ) → AreSpaces t (ascii.colon ∷ mid)
+      → At size colon (ascii.colon ∷ mid) → AreItems size (in_x (in_braces c) no_test) mid list q → Ended InX b q → At size m q
       → LaterMeant t (if b == ascii.closing_brace then Took (Last (alternative colon no_test list no_choice)) (after 1 (left m q))
       else Stops m (EmptyTest at))
   default_end_meant {b = b} colon m sp a l (ended_by e) place =
-      meant_byte b 125 (λ f. meant_took (omega (arith, place)) (s.default colon sp a (rw f at l)))
+      meant_byte b ascii.closing_brace (λ f. meant_took (omega (arith, place)) (s.default colon sp a (rw f at l)))
       (λ f. meant_stops (unfit (r.after_default sp (rw (ends_x b e f) at l)) (refuses_byte r.default_goes_on place)))
 
   -- a default is what the grammar says
-  default_meant : {t : List ℕ} (m : ℕ) (u : List ℕ) → AreSpaces t u → At size m u → begins_with 58 u ≡ true
+  default_meant : {t : List ℕ} (m : ℕ) (u : List ℕ) → AreSpaces t u → At size m u → begins_with ascii.colon u ≡ true
       → LaterMeant t (d.default lists c at (left m u))
   default_meant m [] sp place e = differs (sym e)
   default_meant m (b ∷ mid) sp place e = meant_then (λ x end. if x.1 == ascii.closing_brace
       then Took (Last (alternative m no_test x.0 no_choice)) (after 1 end) else Stops end.at (EmptyTest at))
       (meant_within at (near no_test (m + 1) mid (omega (arith, place))))
-      (λ x end there j. default_end_meant m end.at (rw (same b 58 e) at sp) place j.0 j.1 there)
-      (λ o. cuts.in_default (rw (same b 58 e) at sp) o) (λ j fault o. unfit_in o (λ due last k. r.to_default (rw (same b 58 e) at sp) k))
+      (λ x end there j. default_end_meant m end.at (rw (same b ascii.colon e) at sp) place j.0 j.1 there)
+      (λ o. cuts.in_default (rw (same b ascii.colon e) at sp) o)
+      (λ j fault o. unfit_in o (λ due last k. r.to_default (rw (same b ascii.colon e) at sp) k))
 
   -- one turn of the later alternatives is what the grammar says: a default, or an alternative with tests
   pub turn_meant : (n : ℕ) (text : List ℕ) → At size n text
@@ -176,7 +180,7 @@ module _ (size : ℕ) (lists deep : Lists) (c : ListContext) (near : (asks : Tes
       else then_read (d.form deep c at AtNext (left n text)) (λ f end. d.later_by lists c at f end))
   turn_meant n text place =
       let i = runs is_white text in
-      meant_if (begins_with 58 (drop (prefix_len is_white text) text)) (λ e. default_meant (n + prefix_len is_white text)
+      meant_if (begins_with ascii.colon (drop (prefix_len is_white text) text)) (λ e. default_meant (n + prefix_len is_white text)
       (drop (prefix_len is_white text) text) (spaces i.0) (omega (arith, place, run_size i.0, i.1)) e)
       (λ e. meant_then (λ f end. d.later_by lists c at f end) (form_meant size deep c meets at AtNext n text place (next_stops _ e))
       (λ f end there o. later_by_meant end.at there o) (λ o. next_cuts o) (λ j fault o. next_bad o))
@@ -233,8 +237,7 @@ module _ (size : ℕ) (lists deep : Lists) (c : ListContext) (near : (asks : Tes
       bad (test_bad o h) = unfit (r.in_choices (r.to_tests o)) h
       bad (emit_bad e o h) = unfit (r.in_emits o) h
 
--- Items and lists of items: what Descent makes of them is what the grammar says. The numbers in the statements are bytes: 37 is %, 92 a
--- backslash.
+-- Items and lists of items: what Descent makes of them is what the grammar says.
 
 -- what Descent makes of an item is what the grammar says
 abbrev pub ItemMeant : ListContext → ℕ → List ℕ → Read Item → Type 0
@@ -243,16 +246,16 @@ ItemMeant c size text x = Meant size (λ item q. IsItem size c text item q) (Cut
 -- a byte that doesn't fit inside a directive doesn't fit in the list
 burst_item : {c : ListContext} {size b misfit : ℕ} {directive : Directive} {t : List ℕ} {fault : SyntaxFault} (n : ℕ)
     → directive_of b ≡ directive → is_allowed c.in_arguments b ≡ true
-    → At size n (37 ∷ b ∷ t) → Bursts c n size directive t misfit fault → ListBad size c (37 ∷ b ∷ t) misfit fault
+    → At size n (ascii.percent ∷ b ∷ t) → Bursts c n size directive t misfit fault → ListBad size c (ascii.percent ∷ b ∷ t) misfit fault
 burst_item {c} {size} n e al place (inside {t = t} {last} {due} reaches refuses) =
     unfit (r.in_directive place al (subst (λ (other : Directive). ReachesIn size c n other t due last) (sym e) reaches)) refuses
 burst_item {c} {b = b} n e al place (breaks {last = last} i h) =
-    let f = up_more (37 ∷ b ∷ []) h in
+    let f = up_more (ascii.percent ∷ b ∷ []) h in
     unfit r.item_due (refuses_at (r.breaks_off (up_place n place f) al (subst (λ (other : Directive). Breaks c other last) (sym e) i)) f)
 burst_item {b = b} n e al place (hides (no_pattern i h)) =
-    let f = up_more (37 ∷ b ∷ []) (up_byte h) in unfit r.item_due (refuses_at (r.hides_nothing (up_place n place f) al e i) f)
+    let f = up_more (ascii.percent ∷ b ∷ []) (up_byte h) in unfit r.item_due (refuses_at (r.hides_nothing (up_place n place f) al e i) f)
 burst_item {b = b} n e al place (unknown level (name_bad i h)) =
-    let f = up_more (37 ∷ b ∷ []) h in unfit r.item_due (refuses_at (r.item_no_function (up_place n place f) al e level i) f)
+    let f = up_more (ascii.percent ∷ b ∷ []) h in unfit r.item_due (refuses_at (r.item_no_function (up_place n place f) al e level i) f)
 
 -- a byte that doesn't fit in a call doesn't fit in the directive %:
 call_burst : {c : ListContext} {n size k : ℕ} {t : List ℕ} {fault : SyntaxFault} → (c.levels == 0) ≡ false → CallBad c n size t k fault
@@ -293,14 +296,14 @@ module _ (size : ℕ) (lists deep : Lists) (c : ListContext)
       → DirMeant c at (WithMarkedBraces kind) size text (d.marked_braces lists deep c at kind (left n text))
   marked_read at kind n [] place e = meant_ends (cuts.cut_mark e)
   marked_read at kind n (b ∷ text) place e =
-      meant_byte b 123 (λ f. rw f (brace_read kind (n + 1) text (omega (arith, place)) e (λ brace q o. s.marked_braces o)
+      meant_byte b ascii.opening_brace (λ f. rw f (brace_read kind (n + 1) text (omega (arith, place)) e (λ brace q o. s.marked_braces o)
       (λ o. cuts.cut_marked_braces o) (λ due last o. r.in_marked e o))) (λ f. meant_stops (breaks (r.no_brace e f) (up_byte place)))
 
   -- a directive whose byte b, at the place n + 1, is allowed
-  module _ (n b : ℕ) (text : List ℕ) (place : At size n (37 ∷ b ∷ text)) (al : is_allowed c.in_arguments b ≡ true) where
+  module _ (n b : ℕ) (text : List ℕ) (place : At size n (ascii.percent ∷ b ∷ text)) (al : is_allowed c.in_arguments b ≡ true) where
     -- what Descent makes of a directive is what the grammar says
     abbrev ByteMeant : Read Item → Type 0
-    ByteMeant x = ItemMeant c size (37 ∷ b ∷ text) x
+    ByteMeant x = ItemMeant c size (ascii.percent ∷ b ∷ text) x
 
     -- a directive whose text after its byte is meant is meant
     through : {f : Directive} {x : Read Item} → directive_of b ≡ f → DirMeant c n f size text x → ByteMeant x
@@ -313,11 +316,11 @@ module _ (size : ℕ) (lists deep : Lists) (c : ListContext)
     inner = omega (arith, place)
 
     -- a byte that is refused as that of a directive doesn't fit
-    refused : (fault : SyntaxFault) → (At (n + 1 + 1) n (37 ∷ b ∷ []) → Refuses (n + 1 + 1) (AnItem c) (37 ∷ b ∷ []) fault)
-        → ByteMeant (Stops (n + 1) fault)
+    refused : (fault : SyntaxFault) → (At (n + 1 + 1) n (ascii.percent ∷ b ∷ [])
+        → Refuses (n + 1 + 1) (AnItem c) (ascii.percent ∷ b ∷ []) fault) → ByteMeant (Stops (n + 1) fault)
     refused fault f =
         let p : At size (n + 1) (b ∷ text) = omega (arith, place) in
-        meant_stops (unfit r.item_due (refuses_at (f (omega arith)) (up_more (37 ∷ []) (up_byte p))))
+        meant_stops (unfit r.item_due (refuses_at (f (omega arith)) (up_more (ascii.percent ∷ []) (up_byte p))))
 
     -- %* is what the grammar says, by what it finds around it
     star_read : directive_of b ≡ OfStar → (owner : Owner) → c.owner ≡ owner → ByteMeant (d.star n (n + 1) owner (left (n + 1 + 1) text))
@@ -349,12 +352,12 @@ module _ (size : ℕ) (lists deep : Lists) (c : ListContext)
     directive_read (WithMarkedBraces kind) e = nested_read e refl (λ h. marked_read n kind (n + 1 + 1) text inner h)
 
   -- what follows a percent sign is what the grammar says
-  pub percent_read : (n : ℕ) (text : List ℕ) → At size n (37 ∷ text)
-      → ItemMeant c size (37 ∷ text) (d.directive lists deep c n (left (n + 1) text))
+  pub percent_read : (n : ℕ) (text : List ℕ) → At size n (ascii.percent ∷ text)
+      → ItemMeant c size (ascii.percent ∷ text) (d.directive lists deep c n (left (n + 1) text))
   percent_read n [] place = meant_ends cuts.cut_percent
   percent_read n (b ∷ text) place = meant_if (is_allowed c.in_arguments b) (λ al. directive_read n b text place al (directive_of b) refl)
       (λ e. let p : At size (n + 1) (b ∷ text) = omega (arith, place) in
-      meant_stops (unfit r.item_due (refuses_at (r.not_allowed (omega arith) e) (up_more (37 ∷ []) (up_byte p)))))
+      meant_stops (unfit r.item_due (refuses_at (r.not_allowed (omega arith) e) (up_more (ascii.percent ∷ []) (up_byte p)))))
 
   -- a byte that Descent doesn't find to end a list, and that is no backslash or percent sign, ends none by the grammar
   open_list : (b : ℕ) → (b == ascii.backslash) ≡ false → (b == ascii.percent) ≡ false → d.ends_list c.kind b ≡ false
@@ -364,19 +367,24 @@ module _ (size : ℕ) (lists deep : Lists) (c : ListContext)
   -- an item that doesn't end the list is what the grammar says
   item_read : (n b : ℕ) (text : List ℕ) → At size n (b ∷ text) → d.ends_list c.kind b ≡ false
       → ItemMeant c size (b ∷ text) (d.item lists deep c b (left n (b ∷ text)))
-  item_read n b text place h = meant_byte b 92 (λ e. rw e (escape text place)) (λ e. meant_byte b 37 (λ g. rw g (percent_read n text place))
+  item_read n b text place h = meant_byte b ascii.backslash (λ e. rw e (escape text place))
+      (λ e. meant_byte b ascii.percent (λ g. rw g (percent_read n text place))
       (λ g. meant_if (is_blank b) (λ i. meant_took (omega (arith, place)) (s.blank i))
-      (λ i. meant_byte b 10 (λ j. meant_took (omega (arith, place)) (rw j s.newline))
-      (λ j. choose (λ z. ItemMeant c size (b ∷ text) (Took z (after 1 (left n (b ∷ text))))) (b == 124) _ _
-      (λ k. meant_took (omega (arith, place)) (rw (same b 124 k) s.pipe))
+      (λ i. meant_byte b ascii.newline (λ j. meant_took (omega (arith, place)) (rw j s.newline))
+      (λ j. choose (λ z. ItemMeant c size (b ∷ text) (Took z (after 1 (left n (b ∷ text))))) (b == ascii.bar) _ _
+      (λ k. meant_took (omega (arith, place)) (rw (same b ascii.bar k) s.pipe))
       (λ k. meant_took (omega (arith, place)) (s.plain (plain e g i j k) (open_list b e g h)))))))
     where
-      escape : (t : List ℕ) → At size n (92 ∷ t) → ItemMeant c size (92 ∷ t) (d.escape (left n (92 ∷ t)))
+      -- after a backslash, the byte that follows is the item
+      escape : (t : List ℕ)
+          → At size n (ascii.backslash ∷ t) → ItemMeant c size (ascii.backslash ∷ t) (d.escape (left n (ascii.backslash ∷ t)))
       escape [] p = meant_ends cuts.cut_escape
       escape (x ∷ t) p = meant_took (omega (arith, p)) s.escape
 
-      plain : (b == 92) ≡ false → (b == 37) ≡ false → is_blank b ≡ false → (b == 10) ≡ false → (b == 124) ≡ false → is_plain b ≡ true
-      plain e g i j k = let m = not_of 32 (9 ∷ []) b i in rw (e, g, k, m.0, (not_of 9 [] b m.1).0, j) refl
+      -- any other byte is a plain one
+      plain : (b == ascii.backslash) ≡ false
+          → (b == ascii.percent) ≡ false → is_blank b ≡ false → (b == ascii.newline) ≡ false → (b == ascii.bar) ≡ false → is_plain b ≡ true
+      plain e g i j k = let m = not_of ascii.space (ascii.tab ∷ []) b i in rw (e, g, k, m.0, (not_of ascii.tab [] b m.1).0, j) refl
 
   -- the items of a list
 
@@ -396,9 +404,9 @@ module _ (size : ℕ) (lists deep : Lists) (c : ListContext)
 
   -- a byte that Descent finds to end a list ends it by the grammar
   ends_read : (b : ℕ) → d.ends_list c.kind b ≡ true → is_end c.kind b ≡ true
-  ends_read b h = by (b == 92) (b == 37) refl refl
+  ends_read b h = by (b == ascii.backslash) (b == ascii.percent) refl refl
     where
-      by : (x y : Bool) → (b == 92) ≡ x → (b == 37) ≡ y → is_end c.kind b ≡ true
+      by : (x y : Bool) → (b == ascii.backslash) ≡ x → (b == ascii.percent) ≡ y → is_end c.kind b ≡ true
       by true y e g = differs (sym (rw e at h))
       by false true e g = differs (sym (rw (e, g) at h))
       by false false e g = rw (e, g) at h
