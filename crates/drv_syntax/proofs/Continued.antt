@@ -61,8 +61,7 @@ at_end m = grind (arith, nat_tests)
 -- a text that its last token ends with ends as that token's kind says
 ending_last : (ts : List Token) (t : Token) → ending_in t.end (ts ++ t ∷ []) ≡ ending_by t.kind
 ending_last ts t =
-    let e : length (ts ++ t ∷ []) - 1 ≡ length ts = omega (arith, length-append ts (t ∷ [])) in
-    cc (e, seam ts t, at_end t.end)
+    let e : length (ts ++ t ∷ []) - 1 ≡ length ts = omega (arith, length-append ts (t ∷ [])) in cc (e, seam ts t, at_end t.end)
 
 -- a text whose last item has no parts ends as the kind of this item says
 ends_so : (done : Items) (p : Span) (item : Item) → inner_nodes item ≡ no_node
@@ -102,11 +101,9 @@ item_fits : (before : Items) (p : Span) (item : Item) (rest : List ℕ)
 item_fits before p (TempName kind suffix) rest g = cc (ends_so before p (TempName kind suffix) refl, g)
 item_fits before p (Hide word) rest g = sym (ap (λ (e : Ending). goes_on e rest) (ends_so before p (Hide word) refl)) ∙ g
 item_fits before p (UserError words) rest g =
-    let h : false ≡ true = sym (ap (λ (e : Ending). goes_on e rest) (ends_so before p (UserError words) refl)) ∙ g in
-    differs (sym h)
+    let h : false ≡ true = sym (ap (λ (e : Ending). goes_on e rest) (ends_so before p (UserError words) refl)) ∙ g in differs (sym h)
 item_fits before p (Notice words) rest g =
-    let h : false ≡ true = sym (ap (λ (e : Ending). goes_on e rest) (ends_so before p (Notice words) refl)) ∙ g in
-    differs (sym h)
+    let h : false ≡ true = sym (ap (λ (e : Ending). goes_on e rest) (ends_so before p (Notice words) refl)) ∙ g in differs (sym h)
 item_fits before p (Plain b) rest g = tt
 item_fits before p (Escape b) rest g = tt
 item_fits before p Blank rest g = tt
@@ -166,8 +163,7 @@ suffix_on (b ∷ q) s.suffix_none h = s.suffix_other (blank_out b h).2 (blank_ou
 pattern_on : {t : List ℕ} {p : Pattern} (q : List ℕ) → IsPattern t p [] → begins_blank q ≡ true → IsPattern (t ++ q) p q
 pattern_on [] i h = differs (sym h)
 pattern_on (b ∷ q) (s.unstarred i e) h =
-    let o = blank_out b h in
-    s.unstarred (quoted_on i o.0 o.1) (s.at_byte o.4)
+    let o = blank_out b h in s.unstarred (quoted_on i o.0 o.1) (s.at_byte o.4)
 pattern_on (b ∷ q) (s.starred i) h = s.starred (longer (b ∷ q) (quoted_moved [] (b ∷ q) i (filled swaps_end)))
 
 -- nothing fits after %e and %n, so this case can't arise

@@ -313,6 +313,7 @@ module _ (size : ℕ) where
             let m = tests_cut deep c at known.deeper deeper_end i h in
             (rw (m.0 AtFront) refl, loop_ends (λ goes. rw (goes_on i, m.0 AtNext) refl))
           where
+            -- the tests that the text ends in don't begin with the colon of a default
             goes_on : CutsTests size (in_braces c) t → later_turn size lists deep c at (here size t)
                 ≡ then_read (d.form deep c at AtNext (here size t)) (λ f end. d.later_by lists c at f end)
             goes_on (cuts.in_asked sp sign i) = no_default size lists deep c at sp (sign_head sign (cut_head no_white refl i) refl)
@@ -372,6 +373,7 @@ module _ (size : ℕ) where
     nothing_cut : (place : ℕ) → ItemsCut [] place
     nothing_cut place = let m = nothing c.kind in (m.0, loop_ends m.1, m.2)
       where
+        -- by where the list is: a whole text may end here, and no other list
         nothing : (kind : Kind) → (r : Read (Items × ℕ))
             × ((goes : Left → Read (Items × ℕ)) → then_read (d.list_end kind (here size [])) (d.after_turn goes) ≡ r) × EndsIn kind place r
         nothing Top = (Took (none, 0) (here size []), λ goes. refl, (refl, refl, refl))

@@ -56,6 +56,7 @@ as_many n (node kind label place inner xs) =
     counted label (record { kind = kind; start = place.start; end = place.end; next = m }) (labels inner) (labels xs) (flat (n + 1) inner)
     (flat m xs) (as_many (n + 1) inner) (as_many m xs)
   where
+    -- a part counts as one on both sides, beside what is in it and what follows it
     counted : (label : Label) (token : Token) (inside later : List Label) (inside_tokens later_tokens : List Token)
         → length inside ≡ length inside_tokens
         → length later ≡ length later_tokens → length (label ∷ inside ++ later) ≡ length (token ∷ inside_tokens ++ later_tokens)

@@ -69,8 +69,7 @@ near_is c inner made h e f rest = by c.levels h e ∙ ap (λ (x : ListContext). 
     by : (level : ℕ) → 1 ≤ level → inner.levels ≡ level - 1 → (around level).0 inner rest ≡ (levels inner.levels).0 inner rest
     by zero h e = absurd (omega (arith, h))
     by (suc level) h e =
-        let n : level ≡ inner.levels = omega (arith, e) in
-        ap (λ (l : ℕ). (levels l).0 inner rest) n
+        let n : level ≡ inner.levels = omega (arith, e) in ap (λ (l : ℕ). (levels l).0 inner rest) n
 
 -- the lists in braces of a list of at least two levels, in a context that the code has made, are those with two levels less
 pub far_is : (c inner made : ListContext) → 2 ≤ c.levels
@@ -81,8 +80,7 @@ far_is c inner made h e f rest = by c.levels h e ∙ ap (λ (x : ListContext). (
     by zero h e = absurd (omega (arith, h))
     by (suc zero) h e = absurd (omega (arith, h))
     by (suc (suc level)) h e =
-        let n : level ≡ inner.levels = omega (arith, e) in
-        ap (λ (l : ℕ). (levels l).0 inner rest) n
+        let n : level ≡ inner.levels = omega (arith, e) in ap (λ (l : ℕ). (levels l).0 inner rest) n
 
 -- a part that opens, takes this list and closes is the part with the list inside, written at once
 pub filled : (kind : TokenKind) (label : Label) (start : ℕ) (v u : Reading) (part : Open) (list : Items) (z : Parts) (end : Left)
@@ -125,6 +123,7 @@ module _ (c : ListContext) (at : ℕ) (outer : Option ℕ) where
       (λ x end. then_read (d.test_turn at x end) (after_turn (d.more_tests (around c.levels).1 c at))) more_next
       (d.one_test (around c.levels).1 c at AtBar v.rest) decides
     where
+      -- by what the byte after the test decides
       decides : (x : d.After) (end : Left)
           → more_given outer choice v (then_read (d.test_turn at x end) (after_turn (d.more_tests (around c.levels).1 c at)))
           ≡ then_ok (after_given (Some choice) (at_rest end v) x) more_next
@@ -148,6 +147,7 @@ module _ (c : ListContext) (at : ℕ) (outer : Option ℕ) where
   form_given_by order v = tried_then order None v (form_on v.parts) (d.form_by (around c.levels).1 c at) form_next
       (d.one_test (around c.levels).1 c at order v.rest) decides
     where
+      -- by what the byte after the test decides
       decides : (x : d.After) (end : Left)
           → form_given outer v (d.form_by (around c.levels).1 c at x end) ≡ then_ok (after_given None (at_rest end v) x) form_next
       decides (d.Emits p) end = refl
@@ -235,6 +235,7 @@ module _ (c : ListContext) (at : ℕ) (outer : Option ℕ) where
             z,
           )) (tests_wrote tests (choice_open None (first_place tests colon.at) v.parts))
 
+      -- the lists of an X know whether all tests before them are starred
       context : (ts : Tests) → Tested (d.Alternative ts) → in_x (in_braces c) ts ≡ owner_when (all_starred ts) (in_braces c)
       context no_test h = absurd h
       context (test s negated a ts) h = refl
@@ -326,6 +327,7 @@ module _ (c : ListContext) (at : ℕ) (outer : Option ℕ) where
         y : Choice × Reading
         y = default_here (at_rest mid v)
 
+        -- by the byte after the X: a brace ends the alternatives, and no other fits
         turned : (x : Items × ℕ) (end : Left) (closes : Bool)
             → later_given outer v (then_read (if closes then Took (Last (alternative mid.at no_test x.0 no_choice)) (after 1 end)
             else Stops end.at (EmptyTest at)) (after_turn laters))

@@ -67,8 +67,7 @@ turn_shorter outer at v rest e p u is last f b end g =
     let k : Has (Takes (length v.rest.bytes)) (d.pattern_turn at (span rest.at u.rest.at, p) last) =
     subst (λ (r : Left). Has (Takes (length v.rest.bytes)) (d.pattern_turn at (span rest.at u.rest.at, p) r)) (sym f) (rw n.0 at t) in
     let m : length end.bytes ≡ length (drop 1 last.bytes) = ap (λ (r : Left). length r.bytes) g in
-    let i : suc (length (drop 1 last.bytes)) ≤ length v.rest.bytes = rw b at k in
-    omega (arith, m, i)
+    let i : suc (length (drop 1 last.bytes)) ≤ length v.rest.bytes = rw b at k in omega (arith, m, i)
 
 -- what holds of a list holds of it in its directive
 within_has : {X : Type 0} (P : X → Left → Type 0) (at : ℕ) (r : Read X) → Has P r → Has P (within at r)
@@ -89,6 +88,7 @@ module _ (c : ListContext) (at : ℕ) (outer : Option ℕ) where
       → suc (length u.rest.bytes) ≤ length v.rest.bytes
   test_shorter choice other v u h = by (d.one_test (around c.levels).1 c at AtBar v.rest) (tests_take c at v.rest) h
     where
+      -- what follows the test is no bar
       NoBar : Next → Type 0
       NoBar nexts.Emits = Unit {0}
       NoBar nexts.Joins = Unit {0}
@@ -101,8 +101,7 @@ module _ (c : ListContext) (at : ℕ) (outer : Option ℕ) where
       decides (d.Emits p) end k e = absurd (subst (λ (y : Next × Reading). NoBar y.0) (ok_same e) tt)
       decides (d.Joins p) end k e = absurd (subst (λ (y : Next × Reading). NoBar y.0) (ok_same e) tt)
       decides (d.Asks s negated a) end k e = absurd (subst (λ (y : Next × Reading). NoBar y.0) (ok_same e) tt)
-      decides (d.Bars s negated a) end k e =
-          subst (λ (y : Next × Reading). suc (length y.1.rest.bytes) ≤ length v.rest.bytes) (ok_same e) k
+      decides (d.Bars s negated a) end k e = subst (λ (y : Next × Reading). suc (length y.1.rest.bytes) ≤ length v.rest.bytes) (ok_same e) k
       decides (d.Fails fault) end k e = absurd cc
 
       by : (part : Read d.Tried) → Has (Takes (length v.rest.bytes)) (then_read part (λ t end. d.test_turn at (d.decided at AtBar t) end))
@@ -116,8 +115,7 @@ module _ (c : ListContext) (at : ℕ) (outer : Option ℕ) where
       → form_given outer v (d.form (around c.levels).1 c at AtNext v.rest) ≡ Ok (form, u) → suc (length u.rest.bytes) ≤ length v.rest.bytes
   form_shorter v u form e h =
       let t = taken outer (form_on v.parts) (d.form (around c.levels).1 c at AtNext v.rest) h in
-      let k = rw t.is at (form_has c at AtNext v.rest (next_stops _ e)) in
-      by t.part t.rest k.1 t.on
+      let k = rw t.is at (form_has c at AtNext v.rest (next_stops _ e)) in by t.part t.rest k.1 t.on
     where
       by : (f : d.Form) (end : Left) → suc (length (drop 1 end.bytes)) ≤ length v.rest.bytes → form_on v.parts f end ≡ (form, u)
           → suc (length u.rest.bytes) ≤ length v.rest.bytes
@@ -162,8 +160,7 @@ plains_shorter kind tail next v u h = by (prefix_len (runs kind) v.rest.bytes) h
   where
     by : (k : ℕ) → plains_after k tail v ≡ (next, u) → length u.rest.bytes ≤ length v.rest.bytes
     by zero g =
-        let p : length v.rest.bytes ≡ length u.rest.bytes = ap (λ z. length z.1.rest.bytes) g in
-        omega (arith, p)
+        let p : length v.rest.bytes ≡ length u.rest.bytes = ap (λ z. length z.1.rest.bytes) g in omega (arith, p)
     by (suc k) g =
         let p : length (drop (suc k) v.rest.bytes) ≡ length u.rest.bytes = ap (λ z. length z.1.rest.bytes) g in
         omega (arith, p, length-drop (suc k) v.rest.bytes)
@@ -206,14 +203,12 @@ plain_byte list_kinds.InArguments lists deep c b rest e =
 -- so many bytes on and then so many more
 after_after : (k size : ℕ) (r : Left) → after (k + size) r ≡ after size (after k r)
 after_after k size r =
-    let e : r.at + (k + size) ≡ r.at + k + size = omega arith in
-    cc (e, drop-drop size k r.bytes)
+    let e : r.at + (k + size) ≡ r.at + k + size = omega arith in cc (e, drop-drop size k r.bytes)
 
 -- a run of no bytes writes nothing
 run_none : (v : Reading) → run_after 0 v ≡ v
 run_none v =
-    let e : v.rest.at + 0 ≡ v.rest.at = omega arith in
-    rw (e, append-nil v.parts.tokens, append-nil v.parts.labels) refl
+    let e : v.rest.at + 0 ≡ v.rest.at = omega arith in rw (e, append-nil v.parts.tokens, append-nil v.parts.labels) refl
 
 -- a plain byte, and then a run of k bytes, write and leave the same as a run of k + 1 bytes
 run_more : (k : ℕ) (v : Reading) (b : ℕ) (text : List ℕ) → v.rest.bytes ≡ b ∷ text → run_after k (plain_here b v) ≡ run_after (suc k) v
@@ -363,8 +358,7 @@ module _ (c : ListContext) (outer : Option ℕ) (v : Reading) (at : ℕ) (at_is 
   pub percent_by : (x : Directive) → x ≡ directive_of b → directive_given outer c (around c.levels) v
       ≡ item_given outer at (at_rest two v) (d.directive_by (around c.levels).0 (around c.levels).1 c at one.at x two)
   percent_by x e =
-      let byte_is : first_of (after 1 v.rest).bytes ≡ Some b = rw one_is at byte in
-      rw (e, two_is, at_is, one_is, byte_is, allowed) refl
+      let byte_is : first_of (after 1 v.rest).bytes ≡ Some b = rw one_is at byte in rw (e, two_is, at_is, one_is, byte_is, allowed) refl
 
   -- a directive that holds no list is read
   pub percent_simple : (x : Directive) → x ≡ directive_of b → is_simple x ≡ true → directive_given outer c (around c.levels) v

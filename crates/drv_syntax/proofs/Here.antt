@@ -92,6 +92,7 @@ module _ (size : ℕ) where
       → (drop (prefix_len is_white t) t ≡ q) × (size - length t + prefix_len is_white t ≡ size - length q)
   spaces_on {t} i e h = let r = run i e in let m = run_is r.1 in rw (m.0) (m.2, run_place r.1 h)
     where
+      -- white space is the longest run of it
       run : {t q : List ℕ} → AreSpaces t q → s.Stops is_white q → (word : List ℕ) × IsRun is_white t word q
       run s.no_space e = ([], s.run_ends e)
       run (s.space {b} g i) e = let m = run i e in (b ∷ m.0, s.run_goes g m.1)
@@ -101,6 +102,7 @@ module _ (size : ℕ) where
       → quoted f (here t) ≡ record { word = Some word; rest = here q }
   quoted_is {t = t} i h = from (size - length t) i (omega (arith, h))
     where
+      -- the same from any place n, by the turns of the run
       from : {f : ℕ → Bool} {t word q : List ℕ} (n : ℕ) → IsQuoted f t word q → n + length t ≡ size
           → quoted_at f n t ≡ record { word = Some word; rest = here q }
       from n s.quoted_end h = let e : n ≡ size - 0 = omega (arith, h) in ap (λ (place : ℕ). d.run_ends place []) e

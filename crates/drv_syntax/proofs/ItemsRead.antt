@@ -62,6 +62,7 @@ module _ (size : ℕ) (lists deep : Lists) (c : ListContext) (at : ℕ) where
     later_on {t} {mid} {tests} i h =
         rw (goes i, (tests_are size deep c at deeper i h).0 AtNext, one size mid (omega (arith, tests_shorter i, h))) refl
       where
+        -- the tests don't begin with the colon of a default
         goes : {q : List ℕ} {tests : Tests} → AreTests size (in_braces c) t tests q
             → later_turn (here size t) ≡ then_read (d.form deep c at AtNext (here size t)) (λ f end. d.later_by lists c at f end)
         goes (s.last_test sp x sign i y z) =
@@ -138,6 +139,7 @@ ends_no_list f InArguments b e g h k = other f b 41 e k
 ends_here : (kind : Kind) (b : ℕ) → is_end kind b ≡ true → d.ends_list kind b ≡ true
 ends_here kind b e = rw (other (is_end kind) b 92 e (ends kind).0, other (is_end kind) b 37 e (ends kind).1) e
   where
+    -- no list ends at a backslash or a percent sign
     ends : (kind : Kind) → (is_end kind 92 ≡ false) × (is_end kind 37 ≡ false)
     ends Top = (refl, refl)
     ends InX = (refl, refl)

@@ -158,6 +158,7 @@ run_at words (b ∷ run) start h = ap (λ word. word_label word ∷ marked_label
     ∙ ap (λ ls. word_label (b ∷ []) ∷ ls) (ap (λ ws. marked_labels ws (byte_marks (start + 1) run)) (sym (append_assoc words (b ∷ []) run))
     ∙ run_at (words ++ b ∷ []) run (start + 1) (omega (arith, h, length-append words (b ∷ []))))
   where
+    -- the first word is the first byte
     first : take (start + 1 - start) (drop start (words ++ b ∷ run)) ≡ b ∷ []
     first = cc (one, h, drop-append_seam words (b ∷ run))
       where
@@ -191,8 +192,7 @@ within_grown n words second marks e h w =
 -- the word of a mark that is at this place lies within n bytes
 pub within_mark : (n : ℕ) (marks : List LabelMark) (place : ℕ) (m : LabelMark) → Within n marks → place < length marks
     → m ≡ get_or marks place m → (m.start ≤ m.end) × (m.end ≤ n)
-within_mark n marks place m w h e =
-    subst (λ (x : LabelMark). (x.start ≤ x.end) × (x.end ≤ n)) (sym e) (within_get n marks place m w h)
+within_mark n marks place m w h e = subst (λ (x : LabelMark). (x.start ≤ x.end) × (x.end ≤ n)) (sym e) (within_get n marks place m w h)
 
 -- if the words of marks lie within some words, they lie within more with a mark in the place of another that goes on to the end
 pub within_longer : (words second third more : List ℕ) (marks : List LabelMark) (k : ℕ) (m : LabelMark) → Within (length words) marks
@@ -210,8 +210,7 @@ moved_mark m start end = record {
   end = end;
   starred = m.starred;
   negated = m.negated;
-  asks =
-      m.asks;
+  asks = m.asks;
   holds_star = m.holds_star;
 }
 

@@ -359,6 +359,7 @@ module _ (c : ListContext) (at : ℕ) {size : ℕ} where
       (λ word end. Took (said kind word) (past_byte ascii.newline end)) (λ end o. meant_ends (cuts.cut_saying o))
       (λ word rest there i. ends word rest.at rest.bytes there i)
     where
+      -- by the byte after the text: a newline ends it and is taken, another is left
       ends : (word : List ℕ) (m : ℕ) (rest : List ℕ) → At size m rest → IsQuoted (is_said c.kind) text word rest
           → DirMeant c at (WithSaying kind) size text (Took (said kind word) (past_byte ascii.newline (left m rest)))
       ends word m [] there i = meant_took there (s.saying i (s.by_other s.at_end))

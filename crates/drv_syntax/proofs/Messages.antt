@@ -218,7 +218,6 @@ open_more text m goes says q more_says =
           word = word;
           starred = label.starred;
           negated = label.negated;
-          asks =
-              label.asks;
+          asks = label.asks;
           holds_star = label.holds_star;
         }

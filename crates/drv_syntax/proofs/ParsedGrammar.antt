@@ -192,6 +192,7 @@ module _ (text : List ℕ) where
       is_fault : {other : SyntaxFault} → other ≡ fault → Refused text other → Refused text fault
       is_fault e = subst (λ (f : SyntaxFault). Refused text f) e
 
+      -- a text within the limit is refused for the reason that Descent gives
       given : length text ≤ text_limit → (out : Out) → read text ≡ out → judged out ≡ Err fault → Refused text fault
       given short (Got items) e d = absurd cc
       given short (Cut at) e d = is_fault (err_is (Unclosed at) fault d) (cut_short short (cut_at text at e))

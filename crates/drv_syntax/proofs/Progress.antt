@@ -147,6 +147,7 @@ form_has c at order rest h = meant_has (λ f end. Tested f × suc (length (drop 
     (λ h. far (size rest) c h (in_arguments (in_braces c)) refl) at order rest.at rest.bytes refl h)
     (λ f end i. by i)
   where
+    -- an alternative by the grammar has a test
     tested : {size : ℕ} {inside : ListContext} {t q : List ℕ} {ts : Tests} → AreTests size inside t ts q → Tested (d.Alternative ts)
     tested (s.last_test sp a sign i b z) = tt
     tested (s.next_test sp a sign i b z o) = tt
@@ -161,6 +162,7 @@ pub result_has : (c : ListContext) → (c.levels - 1 == 0) ≡ false → (at n :
     × ((items : Items) × (operand ≡ d.result_operand name items))) (d.result (around c.levels).1 c at n rest)
 result_has c h at n rest = by (first_of rest.bytes)
   where
+    -- what was read is the result of a call
     IsMade : d.Operand → Left → Type 0
     IsMade operand end = (name : List ℕ) × ((items : Items) × (operand ≡ d.result_operand name items))
 
@@ -263,6 +265,7 @@ module _ {X : Type 0} (step : Left → Read (Turn X)) (takes : (rest : Left) →
   pub repeated : (rest : Left) → repeat step rest ≡ then_read (step rest) (after_turn (repeat step))
   repeated rest = go rest.bytes refl
     where
+      -- by the bytes that are left: with each of them a turn may come
       go : (bytes : List ℕ) → rest.bytes ≡ bytes → turns step bytes rest ≡ then_read (step rest) (after_turn (repeat step))
       go [] e = same_turn (λ end. Ends end.at) (repeat step) (length rest.bytes) (step rest) (takes rest)
           (λ end j. let p : length rest.bytes ≡ 0 = ap (λ bs. length bs) e in absurd (omega (j, p, arith)))

@@ -92,6 +92,7 @@ refused_after text k h f g = by (front_or (take (k + 1) text))
         whole = subst (λ (t : List ℕ). read t ≡ Bad j fault) (take-append-drop (k + 1) text)
             (refused_longer (take (k + 1) text) (drop (k + 1) text) j fault e)
 
+        -- by which place comes first: the refusal of the front can't come before that of the text
         at : (j < k) ⊎ (k ≤ j) → (fault : SyntaxFault) × (read text ≡ Bad k fault)
         at (inl l) = never f (refused_shorter (take k text) (drop k text) j fault
             (omega (arith, l, length-take-le k text (omega (arith, h))))

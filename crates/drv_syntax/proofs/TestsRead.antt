@@ -302,6 +302,7 @@ module _ (size at : ℕ) where
         bare (follows {b = x} {q} k) m (s.quoted_stop n o) (s.at_byte e) l =
             (d.bare_operand b, refl, bare_is b x q m (s.quoted_stop n o) e k l)
 
+        -- by the bytes after the mark: none, or a word
         marked : (run : List ℕ) → is_mark b ≡ true → IsQuoted is_word t run v → Operates (b ∷ t) (pattern (b ∷ run) false) v
         marked [] m i = bare f m i e h
         marked (x ∷ run) m i = (d.marked_operand b (x ∷ run), refl, marked_is size deep c at true b m i e h)
@@ -338,13 +339,9 @@ module _ (size at : ℕ) where
         → IsPattern unspaced p behind → AreSpaces behind (38 ∷ rest) → length t ≤ size → Loops and_turn (here size rest) part
         → GiveEmits t (mapped (λ ps. (span (size - length unspaced) (size - length behind), p) ∷ ps) part)
     emits_on {unspaced = unspaced} {rest = rest} {part = part} sp i z h k =
+        let f : suc (length rest) ≤ size = omega (arith, spaces_shorter sp, pattern_shorter i, spaces_shorter z, h) in
         let m = emitting sp i (operates i (follow z refl) (omega (arith, spaces_shorter sp, h))) z refl h in (
-          rw (
-            m.2,
-            m.1,
-            one size rest (omega (arith, spaces_shorter sp, pattern_shorter i, spaces_shorter z, h)),
-            k.gives rest (omega arith),
-          ) (mapped_mapped _ _ part),
+          rw (m.2, m.1, one size rest f, k.gives rest (omega arith)) (mapped_mapped _ _ part),
           and_on sp i z h k,
         )
 

@@ -38,8 +38,7 @@ or_none false = refl
 pub leaf_is : (kind : TokenKind) (label : Label) (start end : ℕ) (z : Parts)
     → wrote (node kind label (span start end) no_node no_node) false z ≡ leafed kind label start end z
 leaf_is kind label start end z =
-    let m : length z.tokens + 1 + 0 ≡ length z.tokens + 1 = omega arith in
-    cc (m, or_none z.holds)
+    let m : length z.tokens + 1 + 0 ≡ length z.tokens + 1 = omega arith in cc (m, or_none z.holds)
 
 -- parts of equal fields are equal
 same_parts : {ts us : List Token} {xs ys : List Label} {a b : Bool} → ts ≡ us → xs ≡ ys → a ≡ b → parts_of ts xs a ≡ parts_of us ys b

@@ -33,5 +33,4 @@ returns c =
     let read = sym (from_start c.args.text.now c.in_ok-tokens.tokens c.in_ok-labels.labels (ok_same c.in_ok-tokens.ensures)
     (ok_same c.in_ok-labels.ensures)) ∙ c.in_ok-r.ensures in
     let tokens = c.shrink.ensures in
-    let labels = c.shrink-2.ensures in
-    rw tokens (rw labels read)
+    let labels = c.shrink-2.ensures in rw tokens (rw labels read)

@@ -33,10 +33,7 @@ pub returns : goal.returns
 returns c =
     ap (λ ls. Ok ls) (labels_longer c.self.inside.words.items c.last_start.new.words.items c.extend_from_slice.new.self.items
     c.args.more.now c.self.inside.marks.items c.args.self.now c.index-mark.result.now c.in_ok-start.start c.in_ok-end.end
-    (c.len-count.result - 1) c.self.view_is c.self.invariant (omega (
-      arith,
-      c.if-count-eq0.false,
-      c.len-count.ensures,
-      c.self.inside.marks.ok.0,
-    )) c.index-mark.ensures c.in_ok-start.ensures.kept c.in_ok-start.ensures.place c.in_ok-start.ensures.word
-    c.in_ok-extend_from_slice.ensures.items (sym (ok_same c.in_ok-end.ensures) ∙ c.len.ensures ∙ c.extend_from_slice.new.self.ok.0))
+    (c.len-count.result - 1) c.self.view_is c.self.invariant
+    (omega (arith, c.if-count-eq0.false, c.len-count.ensures, c.self.inside.marks.ok.0)) c.index-mark.ensures c.in_ok-start.ensures.kept
+    c.in_ok-start.ensures.place c.in_ok-start.ensures.word c.in_ok-extend_from_slice.ensures.items
+    (sym (ok_same c.in_ok-end.ensures) ∙ c.len.ensures ∙ c.extend_from_slice.new.self.ok.0))
