@@ -1,6 +1,7 @@
 pub mod Databases
 mod Documents
+mod Edited
 mod Reading
+mod Sameness
 mod Shells
 mod Words
-mod WordsFound

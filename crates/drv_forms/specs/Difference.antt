@@ -1,3 +1,4 @@
+use Rattle.drv_forms.specs.Edits.{Comes, Edit, Goes, command_edits}
 use Rattle.drv_forms.specs.declared.comparing.LineChange.{LineChange}
 use Rattle.drv_words.specs.Bytes as byte
 use Rattle.drv_words.specs.Lines.{lines_of}
@@ -6,8 +7,8 @@ use Rattle.drv_words.specs.declared.plan.Command.{Command}
 use Rattle.drv_words.specs.declared.plan.Plan.{Plan}
 use Rattle.drv_words.specs.declared.plan.PlanLine.{PlanLine}
 use Rattle.std.specs.Cmp.Lexicographic.{pointwise}
-use Rattle.std.specs.List.{flat_map, list_any}
-use Rattle.std.specs.Prelude.{Bool, List, [], ◌∷◌, ◌++◌, None, Option, Some, if◌then◌else◌, map, nat_eq, ℕ}
+use Rattle.std.specs.List.{flat_map}
+use Rattle.std.specs.Prelude.{List, [], ◌∷◌, ◌++◌, None, Option, Some, if◌then◌else◌, map, nat_eq, ℕ}
 
 -- What differs between two plans: their lines, as they are printed, are compared one by one in their order.
 -- For clauses of src/comparing.rt. drv_why and gdrv_specs cite it too.
@@ -38,38 +39,34 @@ lines_changes (line ∷ lines) (other ∷ others) = pair_changes line other ++ l
 abbrev pub changes : Plan → Plan → List LineChange
 changes plan other = lines_changes (lines_of plan) (lines_of other)
 
--- The same as text (POSIX XCU 4 "diff": - precedes a line of the first, and + one of the second). The words that only one of two lines has
--- follow them: those of the first after <, those of the second after >.
+-- The same as text (POSIX XCU 4 "diff": - precedes a line of the first, and + one of the second). After two lines that differ come the words
+-- that make the one the other: those that go after <, and those that come after >.
 
 -- the words of a command, its program first
 abbrev pub words_of : Command → List (List ℕ)
 words_of command = command.program ∷ command.words
 
--- whether a word is one of a command's
-abbrev pub is_among : List (List ℕ) → List ℕ → Bool
-is_among words word = list_any (pointwise nat_eq word) words
-
 -- a line for a word, after a mark: as a shell reads the word
 abbrev pub word_line : ℕ → List ℕ → List ℕ
 word_line mark word = mark ∷ byte.space ∷ quoted word ++ byte.newline ∷ []
 
--- a line for a word, unless the other command has the word too
-abbrev pub word_text : ℕ → List (List ℕ) → List ℕ → List ℕ
-word_text mark others word = if is_among others word then [] else word_line mark word
+-- a word that goes, or one that comes
+abbrev pub edit_text : Edit → List ℕ
+edit_text (Goes word) = word_line byte.less_than word
+edit_text (Comes word) = word_line byte.greater_than word
 
--- the words that only one of two commands has, each on a line of its own
-abbrev pub only_text : ℕ → Command → Command → List ℕ
-only_text mark command other = flat_map (word_text mark (words_of other)) (words_of command)
+-- the words that go and those that come, each on a line of its own
+abbrev pub edits_text : List Edit → List ℕ
+edits_text = flat_map edit_text
 
 -- a line of a plan after a mark
 abbrev pub marked_line : ℕ → PlanLine → List ℕ
 marked_line mark line = mark ∷ line_text line
 
--- a line that differs: both lines, and then the words that only one of them has
+-- a line that differs: both lines, and then the words that go and those that come
 abbrev pub changed_text : PlanLine → PlanLine → List ℕ
 changed_text line other =
-    marked_line byte.hyphen line ++ marked_line byte.plus other
-    ++ only_text byte.less_than line.command other.command ++ only_text byte.greater_than other.command line.command
+    marked_line byte.hyphen line ++ marked_line byte.plus other ++ edits_text (command_edits line.command other.command)
 
 -- a change as text, by which of the two plans has a line there
 abbrev pub sides_text : Option PlanLine → Option PlanLine → List ℕ

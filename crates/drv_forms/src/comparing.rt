@@ -1,15 +1,13 @@
 //! What differs between two plans.
 
 ghost use Rattle.drv_forms.specs.Difference.{addition, change_text, changed_text, changes, changes_text};
-ghost use Rattle.drv_forms.specs.Difference.{difference as difference_text, is_among, lines_changes};
-ghost use Rattle.drv_forms.specs.Difference.{marked_line, only_text, pair_changes, removal, replacement};
-ghost use Rattle.drv_forms.specs.Difference.{word_line, word_text, words_of};
+ghost use Rattle.drv_forms.specs.Difference.{difference as difference_text, lines_changes};
+ghost use Rattle.drv_forms.specs.Difference.{marked_line, pair_changes, removal, replacement};
 ghost use Rattle.drv_words.specs.Printed.{line_text as printed_line};
-ghost use Rattle.std.specs.Cmp.Lexicographic.{pointwise};
-ghost use Rattle.std.specs.List.{flat_map, position};
-ghost use Rattle.std.specs.Prelude.{◌≡◌, ◌<◌, ◌++◌, IfOk, IfSome, OnOk, length, map, nat_eq, true};
+ghost use Rattle.std.specs.Prelude.{◌≡◌, ◌++◌, IfOk, OnOk, map};
 
-use drv_words::{Command, Listing, Plan, PlanLine, Word, plan_lines, quote, render};
+use crate::editing::push_command_edits;
+use drv_words::{Listing, Plan, PlanLine, Word, plan_lines, render};
 use std::alloc::{AllocError, Global};
 use std::slice::from_ref;
 
@@ -20,129 +18,6 @@ pub struct LineChange {
     pub line: Option<PlanLine>,
     /// The line of the other plan, if that has as many.
     pub other: Option<PlanLine>,
-}
-
-/// Whether these words have a word at this place.
-#[tactic(auto, using(crate::proofs::WordsFound::at_place))]
-fn is_at(words: &[Word], place: usize, word: &Word) -> bool
-    ensures among { result ≡ true → is_among words.now word.now ≡ true }
-    ensures within { result ≡ true → place < length words.now }
-{
-    match words.get(place) {
-        Some(other) => word == other,
-        None => false,
-    }
-}
-
-/// The first place of a word among these.
-fn place_of(words: &[Word], word: &Word) -> Option<usize>
-    ensures is { result ≡ position (pointwise nat_eq word.now) words.now }
-    ensures within { IfSome result (λ place. place < length words.now) }
-{
-    words.iter().position(|other| word == other)
-}
-
-/// Whether a word is one of these. The next place is tried first: there it is where two commands go
-/// on alike. It is the one behind the word that was found last.
-#[tactic(auto, using(crate::proofs::WordsFound::found_so, crate::proofs::WordsFound::lost_so))]
-fn is_one_of(words: &[Word], word: &Word, next: &mut usize) -> bool
-    ensures { result ≡ is_among words.now word.now }
-{
-    if is_at(words, *next, word) {
-        *next += 1;
-        return true;
-    }
-    match place_of(words, word) {
-        Some(place) => {
-            *next = place + 1;
-            true
-        }
-        None => false,
-    }
-}
-
-/// A command whose words are looked for one after another.
-#[derive(Drop)]
-struct Sought<'a> {
-    command: &'a Command,
-    /// The place among its words that is tried first.
-    next: usize,
-}
-
-/// Whether a command has this word.
-fn has_word(sought: &mut Sought<'_>, word: &Word) -> bool
-    ensures is { result ≡ is_among (words_of sought.old.command.now) word.now }
-    ensures same { sought.new.command.now ≡ sought.old.command.now }
-{
-    if word == &sought.command.program {
-        return true;
-    }
-    is_one_of(sought.command.words.as_slice(), word, &mut sought.next)
-}
-
-/// Adds a word after a mark.
-fn push_word(alloc: Global, text: &mut Vec<u8>, mark: u8, word: &Word) -> Result<(), AllocError>
-    ensures { OnOk result (text.new.items ≡ text.old.items ++ word_line mark word.now) }
-{
-    text.push(mark)?;
-    text.push(b' ')?;
-    text.extend_from_slice(quote(alloc, word)?.as_bytes())?;
-    text.push(b'\n')?;
-    Ok(())
-}
-
-/// Adds a word that another command has not.
-fn push_missing(
-    alloc: Global,
-    text: &mut Vec<u8>,
-    mark: u8,
-    other: &mut Sought<'_>,
-    word: &Word,
-) -> Result<(), AllocError>
-    ensures text { OnOk result (text.new.items
-        ≡ text.old.items ++ word_text mark (words_of other.old.command.now) word.now) }
-    ensures same { other.new.command.now ≡ other.old.command.now }
-{
-    if has_word(other, word) {
-        return Ok(());
-    }
-    push_word(alloc, text, mark, word)
-}
-
-/// Adds the words that another command has not.
-fn push_all_missing(
-    alloc: Global,
-    text: &mut Vec<u8>,
-    mark: u8,
-    other: &mut Sought<'_>,
-    words: &[Word],
-) -> Result<(), AllocError>
-    ensures { OnOk result (text.new.items
-        ≡ text.old.items ++ flat_map (word_text mark (words_of other.old.command.now)) words.now) }
-{
-    for word in words {
-        push_missing(alloc, text, mark, other, word)?;
-    }
-    Ok(())
-}
-
-/// Adds the words of a command that another has not.
-fn push_only(
-    alloc: Global,
-    text: &mut Vec<u8>,
-    mark: u8,
-    command: &Command,
-    other: &Command,
-) -> Result<(), AllocError>
-    ensures { OnOk result (text.new.items
-        ≡ text.old.items ++ only_text mark command.now other.now) }
-{
-    let mut other = Sought {
-        command: other,
-        next: 0,
-    };
-    push_missing(alloc, text, mark, &mut other, &command.program)?;
-    push_all_missing(alloc, text, mark, &mut other, command.words.as_slice())
 }
 
 /// The text of one line.
@@ -165,7 +40,7 @@ fn push_marked(
     text.extend_from_slice(line_text(alloc, line)?.as_bytes())
 }
 
-/// Adds two lines that differ, and the words that only one of them has.
+/// Adds two lines that differ, and the words that make the one the other.
 fn push_differing(
     alloc: Global,
     text: &mut Vec<u8>,
@@ -176,8 +51,7 @@ fn push_differing(
 {
     push_marked(alloc, text, b'-', line)?;
     push_marked(alloc, text, b'+', other)?;
-    push_only(alloc, text, b'<', &line.command, &other.command)?;
-    push_only(alloc, text, b'>', &other.command, &line.command)
+    push_command_edits(alloc, text, &line.command, &other.command)
 }
 
 /// Adds a change.
@@ -192,8 +66,8 @@ fn push_change(alloc: Global, text: &mut Vec<u8>, change: &LineChange) -> Result
     }
 }
 
-/// Changes as text, as `diff` marks them: after two lines that differ the words that only one of
-/// them has.
+/// Changes as text, as `diff` marks them: after two lines that differ the words that go and those
+/// that come.
 pub fn changes_text(alloc: Global, changes: &[LineChange]) -> Result<Word, AllocError>
     ensures { IfOk result (λ text. text ≡ changes_text changes.now) }
 {

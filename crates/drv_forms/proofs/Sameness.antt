@@ -1,0 +1,49 @@
+use Rattle.drv_forms.specs.Difference.{changes_text, difference, lines_changes, pair_changes, replacement}
+use Rattle.drv_forms.specs.declared.comparing.LineChange.{LineChange}
+use Rattle.drv_words.proofs.ReadBack.{one_list}
+use Rattle.drv_words.proofs.Shown.{shown_text}
+use Rattle.drv_words.specs.Lines.{lines_of}
+use Rattle.drv_words.specs.Printed.{line_text}
+use Rattle.drv_words.specs.declared.plan.Plan.{Plan}
+use Rattle.drv_words.specs.declared.plan.PlanLine.{PlanLine}
+use Rattle.std.proofs.Common.{◌≡◌, ◌∙◌, Bool, false, true, List, [], ◌∷◌, ◌++◌, ap, append-nil, nat_eq, refl, sym}
+use Rattle.std.specs.Cmp.Lexicographic.{pointwise, same_text}
+
+-- For `no_difference` (src/comparing.rt): nothing is printed of two plans only if their commands are the same.
+-- Names: `line` and `other` are lines of the two plans at one place, `lines` and `others` those behind them. `t`: a test's value, so that `by`
+-- can go by both cases.
+
+-- the first of lists that are the same
+heads : (line other : PlanLine) → line ∷ [] ≡ other ∷ [] → line ≡ other
+heads line other same = cc
+
+-- lines that are printed alike are the same
+line_known : (line other : PlanLine) → line_text line ≡ line_text other → line ≡ other
+line_known line other same =
+    heads line other
+    (one_list (line_text line) (line ∷ []) (other ∷ []) (shown_text (line_text line) (line ∷ []) (sym (append-nil (line_text line))))
+    (shown_text (line_text line) (other ∷ []) (same ∙ sym (append-nil (line_text other)))))
+
+-- two lines that differ are printed
+printed : (line other : PlanLine) (changes : List LineChange) → changes_text (replacement line other ∷ changes) ≡ [] → ⊥
+printed line other changes none = absurd cc
+
+-- lines without a change are the same
+unchanged : (lines others : List PlanLine) → changes_text (lines_changes lines others) ≡ [] → lines ≡ others
+unchanged [] [] none = refl
+unchanged [] (other ∷ others) none = absurd cc
+unchanged (line ∷ lines) [] none = absurd cc
+unchanged (line ∷ lines) (other ∷ others) none =
+    by (pointwise nat_eq (line_text line) (line_text other)) refl (unchanged lines others) none
+  where
+    by : (t : Bool) → pointwise nat_eq (line_text line) (line_text other) ≡ t
+        → (changes_text (lines_changes lines others) ≡ [] → lines ≡ others)
+        → changes_text (pair_changes line other ++ lines_changes lines others) ≡ [] → line ∷ lines ≡ other ∷ others
+    by true is later none =
+        ap (λ l. l ∷ lines) (line_known line other (same_text (line_text line) (line_text other) (sym is)))
+        ∙ ap (λ ls. other ∷ ls) (later (rw is at none))
+    by false is later none = absurd (printed line other (lines_changes lines others) (rw is at none))
+
+-- plans without a difference have the same lines
+pub same_lines : (plan other : Plan) → difference plan other ≡ [] → lines_of plan ≡ lines_of other
+same_lines plan other none = unchanged (lines_of plan) (lines_of other) none

@@ -1,0 +1,124 @@
+//! How the words of one command become those of another.
+
+ghost use Rattle.drv_forms.specs.Difference.{edits_text, word_line};
+ghost use Rattle.drv_forms.specs.Edits.{command_edits, edits, goes_first, place_of, program_edits};
+ghost use Rattle.std.specs.Prelude.{◌≡◌, ◌++◌, [], OnOk};
+
+use drv_words::{Command, Word, quote};
+use std::alloc::{AllocError, Global};
+
+/// Adds a word after a mark.
+fn push_word(alloc: Global, text: &mut Vec<u8>, mark: u8, word: &Word) -> Result<(), AllocError>
+    ensures { OnOk result (text.new.items ≡ text.old.items ++ word_line mark word.now) }
+{
+    text.push(mark)?;
+    text.push(b' ')?;
+    text.extend_from_slice(quote(alloc, word)?.as_bytes())?;
+    text.push(b'\n')?;
+    Ok(())
+}
+
+/// Adds words that go.
+fn push_going(alloc: Global, text: &mut Vec<u8>, words: &[Word]) -> Result<(), AllocError>
+    ensures { OnOk result (text.new.items ≡ text.old.items ++ edits_text (edits words.now [])) }
+{
+    for word in words {
+        push_word(alloc, text, b'<', word)?;
+    }
+    Ok(())
+}
+
+/// Adds words that come.
+fn push_coming(alloc: Global, text: &mut Vec<u8>, words: &[Word]) -> Result<(), AllocError>
+    ensures { OnOk result (text.new.items ≡ text.old.items ++ edits_text (edits [] words.now)) }
+{
+    for word in words {
+        push_word(alloc, text, b'>', word)?;
+    }
+    Ok(())
+}
+
+/// The place of the first word like this one.
+fn place_of(word: &Word, words: &[Word]) -> Option<usize>
+    ensures { result ≡ place_of word.now words.now }
+{
+    words.iter().position(|other| word == other)
+}
+
+/// Whether the first of two words goes, by the place of the second behind the first, and of the
+/// first behind the second.
+fn goes_first(here: Option<usize>, there: Option<usize>) -> bool
+    ensures { result ≡ goes_first here there }
+{
+    match (here, there) {
+        (None, Some(_)) => false,
+        (Some(here), Some(there)) => here <= there,
+        (_, None) => true,
+    }
+}
+
+/// Adds the words that go and those that come.
+fn push_edits(
+    alloc: Global,
+    text: &mut Vec<u8>,
+    words: &[Word],
+    others: &[Word],
+) -> Result<(), AllocError>
+    ensures { OnOk result (text.new.items
+        ≡ text.old.items ++ edits_text (edits words.now others.now)) }
+{
+    let mut left = words;
+    let mut coming = others;
+    while let [word, behind @ ..] = left {
+        let [other, rest @ ..] = coming else {
+            return push_going(alloc, text, left);
+        };
+        if word == other {
+            left = behind;
+            coming = rest;
+        } else if goes_first(place_of(other, behind), place_of(word, rest)) {
+            push_word(alloc, text, b'<', word)?;
+            left = behind;
+        } else {
+            push_word(alloc, text, b'>', other)?;
+            coming = rest;
+        }
+    }
+    push_coming(alloc, text, coming)
+}
+
+/// Adds the program that goes and the one that comes, if they differ.
+fn push_program(
+    alloc: Global,
+    text: &mut Vec<u8>,
+    program: &Word,
+    other: &Word,
+) -> Result<(), AllocError>
+    ensures { OnOk result (text.new.items
+        ≡ text.old.items ++ edits_text (program_edits program.now other.now)) }
+{
+    if program == other {
+        return Ok(());
+    }
+    push_word(alloc, text, b'<', program)?;
+    push_word(alloc, text, b'>', other)
+}
+
+/// Adds the words of a command that go and those of another one that come.
+pub(crate) fn push_command_edits(
+    alloc: Global,
+    text: &mut Vec<u8>,
+    command: &Command,
+    other: &Command,
+) -> Result<(), AllocError>
+    ensures { OnOk result (text.new.items
+        ≡ text.old.items ++ edits_text (command_edits command.now other.now)) }
+{
+    push_program(alloc, text, &command.program, &other.program)?;
+    push_edits(
+        alloc,
+        text,
+        command.words.as_slice(),
+        other.words.as_slice(),
+    )
+}
