@@ -27,6 +27,7 @@ MOST_JOBS = 4
 # The processor seconds of a crate that was never measured.
 UNKNOWN_COST = 60
 SECONDS_TO_END = 5
+SECONDS_TO_LOOK = 1
 TEXTS = ("src", "specs", "proofs")
 # The names of libraries begin so. The program of the tests and benchmarks is no part of the product.
 INNER, TRIALS = "drv_", "trials"
@@ -87,8 +88,7 @@ class Crates:
     def held(self, names):
         """Keeps every other rt out of these crates, as rt itself does, and begins with no rooms."""
         files = [os.open(self.folder(it), os.O_RDONLY) for it in names]
-        for number in (signal.SIGINT, signal.SIGTERM, signal.SIGHUP):
-            signal.signal(number, stop)
+        end_by_signals(stop)
         try:
             for it in files:
                 fcntl.flock(it, fcntl.LOCK_EX)
@@ -101,12 +101,15 @@ class Crates:
 
 
 class Runs:
-    """The runs of rt that go on, each in a process group of its own, so that a signal to this process ends all of them."""
+    """The runs of rt that go on, each in a process group of its own, so that a signal to this process ends all of them. A run begins once so
+    many bytes of memory are free."""
 
-    lock, processes, is_stopped = threading.Lock(), set(), False
+    lock, processes, is_stopped, memory = threading.Lock(), set(), False, 0
 
     @classmethod
     def begin(cls, words, **how):
+        while not cls.is_stopped and free_memory() < cls.memory:
+            time.sleep(SECONDS_TO_LOOK)
         with cls.lock:
             if cls.is_stopped:
                 raise InterruptedError("a signal ended it")
@@ -135,10 +138,15 @@ class Runs:
                 os.killpg(process.pid, number)
 
 
+def end_by_signals(way):
+    """Has the signals that end this process do so in a way."""
+    for it in (signal.SIGINT, signal.SIGTERM, signal.SIGHUP):
+        signal.signal(it, way)
+
+
 def stop(number, _):
     """Ends this process by a signal's number: the runs of rt first, and then the rooms are left and what is kept is put back."""
-    for it in (signal.SIGINT, signal.SIGTERM, signal.SIGHUP):
-        signal.signal(it, signal.SIG_IGN)
+    end_by_signals(signal.SIG_IGN)
     Runs.stop()
     sys.exit(128 + number)
 
@@ -294,10 +302,15 @@ def costs(crates):
     return {it: known.get(it, UNKNOWN_COST) for it in crates.names}
 
 
+def free_memory():
+    """The bytes of memory that are free."""
+    with open("/proc/meminfo", encoding="utf-8") as file:
+        return 1024 * int(re.search(r"MemAvailable: *(\d+)", file.read())[1])
+
+
 def room_for():
     """How many checks the free memory has room for."""
-    with open("/proc/meminfo", encoding="utf-8") as file:
-        return 1024 * int(re.search(r"MemAvailable: *(\d+)", file.read())[1]) // MEMORY_OF_ONE
+    return free_memory() // MEMORY_OF_ONE
 
 
 def lanes():

@@ -162,7 +162,7 @@ def try_edits(root, names, since=math.inf, control=Control.WITNESS, verdicts=Non
     trials, stamps, known = [Trial(crates, it, verdicts) for it in crates.names if it in names], Stamps(crates), costs(crates)
     kept, due = sum(len(it.kept) for it in trials), [it for it in trials if it.untried()]
     if kept:
-        clock.say(f"{kept} wrong bodies were refused by an earlier run on this machine, over the same texts; --anew tries them too")
+        clock.say(f"{kept} wrong bodies were refused beside rt ci, or earlier on this machine, over the same texts; --anew tries them too")
     needed = crates.with_below(it.name for it in due)
     built = [it for it in needed if not crates.was_built(it, since) and not stamps.is_proved(it)]
     tasks = [Task(it, set(crates.uses[it]) & set(built), known[it], lambda jobs, it=it: prove(crates, it, jobs)) for it in built]
