@@ -5,8 +5,8 @@ use Rattle.std.proofs.Common.{rules}
 
 -- refuse_overwriting (src/preparing.rt). Refuses a line whose output is an input.
 
--- Names: `memory_noted`: where memory lacked, any claim on a step's work or text holds. `no_overwriting`: `refuse_overwriting` lets pass a line
--- without an output. `not_overwriting`: `refuse_overwriting` lets pass a line whose output is no input.
+-- Names: `memory_noted`: where memory lacked, any claim on a step's work or text holds. `no_overwriting`: `refuse_overwriting` lets pass a
+-- line without an output. `not_overwriting`: `refuse_overwriting` lets pass a line whose output is no input.
 
 pub returns-in_err-found : goal.returns-in_err-found
 returns-in_err-found g c = memory_noted _ _ _ c.from_residual.result _ _ c.in_err-found.ensures c.from_residual.ensures.1
