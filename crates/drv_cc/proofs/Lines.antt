@@ -2,7 +2,7 @@ use Rattle.drv_cc.specs.Code.Known.{is_ended}
 use Rattle.drv_cc.specs.Items.{is_known, same}
 use Rattle.drv_words.specs.Bytes.{newline}
 use Rattle.std.proofs.Common.{arith, ◌≡◌, ◌==◌, ◌∙◌, ◌||◌, ◌&&◌, ◌<◌, ◌≤◌, ◌-◌, Bool, List, [], ◌∷◌, ◌++◌, ap, drop, false, length, nat_eq}
-use Rattle.std.proofs.Common.{not, refl, sym, take, true, ℕ}
+use Rattle.std.proofs.Common.{get_or, not, refl, sym, take, true, ℕ}
 use Rattle.std.proofs.lemmas.Bool.{eqb-true}
 use Rattle.std.proofs.lemmas.Cmp.{nat_list_eq_equiv}
 use Rattle.std.proofs.lemmas.List.{append-nil, take-append-drop, take_all}
@@ -10,7 +10,6 @@ use Rattle.std.proofs.lemmas.List.Folds.{list_any-append}
 use Rattle.std.proofs.lemmas.List.Splits.{length-slice_split, slice_split-cons_no, slice_split-cons_yes}
 use Rattle.std.specs.Cmp.Lexicographic.{same_text}
 use Rattle.std.specs.List.{list_any, onto_first, slice_split, starts_with}
-use Rattle.std.specs.Prelude.{slice_index_or}
 
 -- For the look-up of a word among the names of options beyond the table (src/known.rt): a line of a text begins with it, or doesn't.
 -- Names: `text` is the names, a line each. `line` is the name that is looked for. `rest` is what follows it in the text. `before` and
@@ -96,7 +95,7 @@ text_is text line rest begins is =
     sym (take-append-drop (length line) text) ∙ ap (λ l. l ++ drop (length line) text)
     (sym (same_text line (take (length line) text) (sym begins))) ∙ ap (λ l. line ++ l) (sym is)
 
--- The code joins its three tests without branches; here they are parted again.
+-- Two tests that hold together hold each.
 both_true : (a b : Bool) → (a && b) ≡ true → (a ≡ true) × (b ≡ true)
 both_true true b e = (refl, e)
 both_true false b e = absurd cc
@@ -123,9 +122,7 @@ all_left b rest = take_all (length (b ∷ rest) - 1) rest (omega arith)
 -- For `stands_at` (src/known.rt), where the line is not the first: the end of another precedes it.
 pub further : (n : ℕ) (text left line : List ℕ) (begins : Bool) → left ≡ drop n text → 1 ≤ length left
     → (begins ≡ true → is_known (take (length left - 1) (drop 1 left)) line ≡ true)
-    → (nat_eq (slice_index_or left 0 0) newline && begins) ≡ true → is_known text line ≡ true
-further n text [] line begins left_is some known all = absurd (omega (arith, some))
-further n text (b ∷ rest) line begins left_is some known all =
-    let both = both_true (b == newline) begins all in
-    after_end n text rest line (sym left_is ∙ ap (λ c. c ∷ rest) (eqb-true b newline both.0))
-    (ap (λ l. is_known l line) (sym (all_left b rest)) ∙ known both.1)
+    → get_or left 0 0 ≡ newline → begins ≡ true → is_known text line ≡ true
+further n text [] line begins left_is some known ends all = absurd (omega (arith, some))
+further n text (b ∷ rest) line begins left_is some known ends all =
+    after_end n text rest line (sym left_is ∙ ap (λ c. c ∷ rest) ends) (ap (λ l. is_known l line) (sym (all_left b rest)) ∙ known all)

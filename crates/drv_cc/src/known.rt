@@ -134,13 +134,13 @@ fn is_ended(rest: &[u8]) -> bool
     }
 }
 
-/// Whether a text begins with this line. The tests are joined without branches: one proof has all.
+/// Whether a text begins with this line.
 #[tactic(auto, using(crate::proofs::Lines::begun))]
 fn begins_with(text: &[u8], line: &[u8]) -> bool
     ensures { result ≡ true → is_known text.now line.now ≡ true }
 {
     let rest = rest_after(text, line);
-    (text.starts_with(line) & is_ended(rest)) & !line.contains(&b'\n')
+    text.starts_with(line) && is_ended(rest) && !line.contains(&b'\n')
 }
 
 /// The rest of a text from a place on.
@@ -150,7 +150,7 @@ pub(crate) fn rest_from(text: &[u8], at: usize) -> &[u8]
     text.get(at..).unwrap_or(&[])
 }
 
-/// Whether this line begins at a place of a text. Its two tests are joined in the same way.
+/// Whether this line begins at a place of a text.
 fn stands_at(text: &[u8], at: usize, line: &[u8]) -> bool
     ensures { result ≡ true → is_known text.now line.now ≡ true }
 {
@@ -158,7 +158,7 @@ fn stands_at(text: &[u8], at: usize, line: &[u8]) -> bool
         return begins_with(text, line);
     }
     match rest_from(text, at - 1) {
-        [byte, rest @ ..] => (*byte == b'\n') & begins_with(rest, line),
+        [byte, rest @ ..] => *byte == b'\n' && begins_with(rest, line),
         _ => false,
     }
 }
