@@ -1,5 +1,6 @@
 use Rattle.drv_forms.specs.Difference.{edit_text, edits_text, word_line, words_of}
-use Rattle.drv_forms.specs.Edits.{Comes, Edit, Goes, Makes, command_edits, comes, edits, edits_from, ends, goes, goes_first, place_of, program_edits}
+use Rattle.drv_forms.specs.Edits.{Comes, Edit, Goes, Makes, command_edits, comes, edits, edits_from, ends, goes, goes_first, place_of}
+use Rattle.drv_forms.specs.Edits.{program_edits}
 use Rattle.drv_forms.specs.Edits.{stays}
 use Rattle.drv_words.specs.Bytes as byte
 use Rattle.drv_words.specs.declared.plan.Command.{Command}
@@ -28,7 +29,8 @@ makes_from word words rest made (other ∷ others) =
         → Makes words (rest others) others → Makes words (rest (other ∷ others)) (other ∷ others)
         → Makes (word ∷ words) (edits_from word words rest others) others
         → Makes (word ∷ words) (edits_from word words rest (other ∷ others)) (other ∷ others)
-    by true is u nearer stay go come = rw is (subst (λ w. Makes (word ∷ words) (rest others) (w ∷ others)) (same_text word other (sym is)) (stays stay))
+    by true is u nearer stay go come =
+        rw is (subst (λ w. Makes (word ∷ words) (rest others) (w ∷ others)) (same_text word other (sym is)) (stays stay))
     by false is true nearer stay go come = rw (is, nearer) (goes go)
     by false is false nearer stay go come = rw (is, nearer) (comes come)
 

@@ -10,8 +10,8 @@ use Rattle.std.proofs.Common.{◌≡◌, ◌∙◌, Bool, false, true, List, [],
 use Rattle.std.specs.Cmp.Lexicographic.{pointwise, same_text}
 
 -- For `no_difference` (src/comparing.rt): nothing is printed of two plans only if their commands are the same.
--- Names: `line` and `other` are lines of the two plans at one place, `lines` and `others` those behind them. `t`: a test's value, so that `by`
--- can go by both cases.
+-- Names: `line` and `other` are lines of the two plans at one place, `lines` and `others` those behind them. `t`: a test's value, so that
+-- `by` can go by both cases.
 
 -- the first of lists that are the same
 heads : (line other : PlanLine) → line ∷ [] ≡ other ∷ [] → line ≡ other

@@ -4,8 +4,8 @@ use Rattle.drv_words.specs.declared.plan.PlanLine.{PlanLine}
 use Rattle.json.specs.Json.{Json, boolean, member, no_members, object}
 use Rattle.std.specs.Prelude.{List, codes}
 
--- What differs between two plans as a value of JSON (RFC 8259; the names of members are this project's profile): for each change the line of
--- the one plan and that of the other.
+-- What differs between two plans as a value of JSON (RFC 8259; the names of members are this project's profile): for each change the line
+-- of the one plan and that of the other.
 -- For clauses of src/changes_json.rt. drv_why cites it too.
 
 -- a line: its command, and whether that is piped into the next one

@@ -39,8 +39,8 @@ lines_changes (line ∷ lines) (other ∷ others) = pair_changes line other ++ l
 abbrev pub changes : Plan → Plan → List LineChange
 changes plan other = lines_changes (lines_of plan) (lines_of other)
 
--- The same as text (POSIX XCU 4 "diff": - precedes a line of the first, and + one of the second). After two lines that differ come the words
--- that make the one the other: those that go after <, and those that come after >.
+-- The same as text (POSIX XCU 4 "diff": - precedes a line of the first, and + one of the second). After two lines that differ come the
+-- words that make the one the other: those that go after <, and those that come after >.
 
 -- the words of a command, its program first
 abbrev pub words_of : Command → List (List ℕ)

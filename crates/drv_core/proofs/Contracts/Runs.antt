@@ -1,7 +1,7 @@
 use Rattle.drv_core.proofs.Contracts.Chosen.{choice_below, choices_are, chosen_elsewhere, chosen_next, first_next}
 use Rattle.drv_core.proofs.Choosing.First.{WorksFirst, fresh_first, moved_first}
-use Rattle.drv_core.proofs.Contracts.OnCourse.{begins, bound, closed, few, fewer, fits_kind, makes, ready, room_left, status_for, unfinished}
-use Rattle.drv_core.proofs.Contracts.OnCourse.{whole}
+use Rattle.drv_core.proofs.Contracts.OnCourse.{begins, bound, closed, few, fewer, fits_kind, makes, ready, room_left, status_for}
+use Rattle.drv_core.proofs.Contracts.OnCourse.{unfinished, whole}
 use Rattle.drv_core.proofs.Bounds.Window.{answer_stands, choice_stands, choosing_events, fresh_events, fresh_stands, moved_events}
 use Rattle.drv_core.specs.Choices.{BetweenBlocks, ChoicesAre, IsChoice, IsNextOf, IsOfFirst}
 use Rattle.drv_core.specs.Code.Course.{link_of}
@@ -28,8 +28,8 @@ use Rattle.drv_words.specs.declared.steps.Step.{Step}
 use Rattle.std.proofs.Common.{◌≡◌, ◌<◌, ◌≤◌, ◌∙◌, [], ◌∷◌, ◌++◌, None, Option, Some, ap, false, get_or, length, refl, subst, sym, true, ℕ}
 use Rattle.std.specs.Vec.{vec_capacity}
 
--- For the clauses of `Run`: each follows from what is known of the run (`KeptWork`). A `CodeRun` is the type of the code, `Run` what a caller
--- sees of it.
+-- For the clauses of `Run`: each follows from what is known of the run (`KeptWork`). A `CodeRun` is the type of the code, `Run` what a
+-- caller sees of it.
 -- Names: `plan` is the plan of the run: the jobs of its sources, and perhaps a link. `N` is the window: at most so many sources have begun
 -- and not ended. `a` is the answer to the step. `w` is the run of the code before, `v` after. `r` is what a caller sees of it. `s` is a
 -- step. `o` is the next step, if there is one. `i` is the number of a choice. `n` is the exit status, or a number of choices. `pass_codes`
@@ -228,16 +228,17 @@ status_there plan pass_codes w r n e done is = subst (λ x. x.action ≡ action.
     by (Some s) at = absurd (subst (λ o. IfMake (action_of o (status_from pass_codes w.code)) (λ step. ⊥)) at over)
 
 -- the status is that of any answers with which the events are a whole run
-pub status_right : (plan : Plan) (pass_codes : FailureStatus) (w : CodeRun) (r : Run) (n : ℕ) → KeptWork plan w → run_of plan pass_codes w ≡ r
-    → n ≡ status_from pass_codes w.code → (o : Answers) → Windowed r.plan r.window o r.events → n ≡ status_of r.pass_codes o
+pub status_right : (plan : Plan) (pass_codes : FailureStatus) (w : CodeRun) (r : Run) (n : ℕ) → KeptWork plan w
+    → run_of plan pass_codes w ≡ r → n ≡ status_from pass_codes w.code
+    → (o : Answers) → Windowed r.plan r.window o r.events → n ≡ status_of r.pass_codes o
 status_right plan pass_codes w r n k e is = subst (λ x. (o : Answers) → Windowed x.plan x.window o x.events → n ≡ status_of x.pass_codes o)
     e (λ o h. is ∙ status_for plan w.fleet.window (run_state_of w) pass_codes o k h)
 
 -- choices
 
 -- the number of choices is the one of the rule
-pub choices_told : (plan : Plan) (pass_codes : FailureStatus) (w : CodeRun) (r : Run) (n : ℕ) → KeptWork plan w → run_of plan pass_codes w ≡ r
-    → n ≡ choices_at plan (run_state_of w) → ChoicesAre r.plan r.window r.events n
+pub choices_told : (plan : Plan) (pass_codes : FailureStatus) (w : CodeRun) (r : Run) (n : ℕ) → KeptWork plan w
+    → run_of plan pass_codes w ≡ r → n ≡ choices_at plan (run_state_of w) → ChoicesAre r.plan r.window r.events n
 choices_told plan pass_codes w r n k e is = subst (λ x. ChoicesAre x.plan x.window x.events n) e
     (subst (λ m. ChoicesAre plan w.fleet.window w.events.items m) (sym is) (choices_are plan w.fleet.window (run_state_of w) k))
 
