@@ -10,6 +10,7 @@ mod IncludesRead
 mod Inclusions
 mod Judged
 mod LinesNumbered
+mod LoadedInOrder
 mod Lost
 mod MarkLaws
 mod MarkSteps

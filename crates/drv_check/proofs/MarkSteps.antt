@@ -5,12 +5,12 @@ use Rattle.drv_check.specs.Origins.{text_spots}
 use Rattle.drv_check.specs.OwnTexts.{own_text, own_tree, tree_after}
 use Rattle.drv_check.specs.declared.findings.Source.{Source}
 use Rattle.drv_check.specs.declared.findings.Spot.{Spot}
+use Rattle.drv_check.specs.declared.loading_order.LoadedPiece.{LoadedPiece}
 use Rattle.drv_check.specs.declared.marking.Extent.{Extent}
 use Rattle.drv_check.specs.declared.marking.Joint.{Joint}
 use Rattle.drv_check.specs.declared.marking.MarkedPart.{MarkedPart}
 use Rattle.drv_check.specs.declared.marking.Reading.{Reading}
 use Rattle.drv_check.specs.declared.marking.Role.{Role}
-use Rattle.drv_check.specs.declared.opening.OpenFile.{OpenFile}
 use Rattle.drv_specs.specs.Directives.{is_colon}
 use Rattle.drv_syntax.specs.Parsed.{tree_of}
 use Rattle.drv_syntax.specs.declared.token.Token.{Token}
@@ -75,31 +75,31 @@ none_marked head text spots at own before has is =
     sym (append-nil before) ∙ ap (λ t. before ++ tree_parts head text spots at t) (sym (ap tree_or_none has) ∙ is)
 
 -- For the exit of the code that reads the text of a piece.
-pub of_text : {X E : Type 0} (sources : List Source) (files : List OpenFile) (head own text : List ℕ) (start at : ℕ) (spots : List Spot)
-    (before after : List MarkedPart) (result : Result X E) → own ≡ text → spots ≡ text_spots sources files head own → at ≡ start
+pub of_text : {X E : Type 0} (sources : List Source) (loaded : List LoadedPiece) (head own text : List ℕ) (start at : ℕ) (spots : List Spot)
+    (before after : List MarkedPart) (result : Result X E) → own ≡ text → spots ≡ text_spots sources loaded head own → at ≡ start
     → OnOk result (after ≡ before ++ tree_parts head own spots at (tree_of own))
-    → OnOk result (after ≡ before ++ headed_parts sources files (Some head) text start (tree_of text))
-of_text sources files head own text start at spots before after (Err e) same found begins grows = grows
-of_text sources files head own text start at spots before after (Ok x) same found begins grows =
+    → OnOk result (after ≡ before ++ headed_parts sources loaded (Some head) text start (tree_of text))
+of_text sources loaded head own text start at spots before after (Err e) same found begins grows = grows
+of_text sources loaded head own text start at spots before after (Ok x) same found begins grows =
     grows
     ∙ ap (λ ss. before ++ tree_parts head own ss at (tree_of own)) found
-    ∙ ap (λ t. before ++ tree_parts head t (text_spots sources files head t) at (tree_of t)) same
-    ∙ ap (λ n. before ++ headed_parts sources files (Some head) text n (tree_of text)) begins
+    ∙ ap (λ t. before ++ tree_parts head t (text_spots sources loaded head t) at (tree_of t)) same
+    ∙ ap (λ n. before ++ headed_parts sources loaded (Some head) text n (tree_of text)) begins
 
 -- For the exit where the piece has a colon.
-pub of_colon : {X E : Type 0} (sources : List Source) (files : List OpenFile) (head text : List ℕ) (start at : ℕ) (colon : Option ℕ)
+pub of_colon : {X E : Type 0} (sources : List Source) (loaded : List LoadedPiece) (head text : List ℕ) (start at : ℕ) (colon : Option ℕ)
     (before after : List MarkedPart) (result : Result X E) → colon ≡ Some at → colon ≡ position is_colon text
-    → OnOk result (after ≡ before ++ headed_parts sources files (Some head) (own_text text) start (tree_of (own_text text)))
-    → OnOk result (after ≡ before ++ headed_parts sources files (Some head) (own_text text) start (own_tree text))
-of_colon sources files head text start at colon before after (Err e) is found grows = grows
-of_colon sources files head text start at colon before after (Ok x) is found grows =
+    → OnOk result (after ≡ before ++ headed_parts sources loaded (Some head) (own_text text) start (tree_of (own_text text)))
+    → OnOk result (after ≡ before ++ headed_parts sources loaded (Some head) (own_text text) start (own_tree text))
+of_colon sources loaded head text start at colon before after (Err e) is found grows = grows
+of_colon sources loaded head text start at colon before after (Ok x) is found grows =
     grows
-    ∙ ap (λ c. before ++ headed_parts sources files (Some head) (own_text text) start (tree_after c text)) (sym is ∙ found)
+    ∙ ap (λ c. before ++ headed_parts sources loaded (Some head) (own_text text) start (tree_after c text)) (sym is ∙ found)
 
 -- For the exit where it has none, and so no text.
-pub of_none : (sources : List Source) (files : List OpenFile) (head text : List ℕ) (start : ℕ) (colon : Option ℕ)
+pub of_none : (sources : List Source) (loaded : List LoadedPiece) (head text : List ℕ) (start : ℕ) (colon : Option ℕ)
     (before : List MarkedPart) → colon ≡ None → colon ≡ position is_colon text
-    → before ≡ before ++ headed_parts sources files (Some head) (own_text text) start (own_tree text)
-of_none sources files head text start colon before is found =
+    → before ≡ before ++ headed_parts sources loaded (Some head) (own_text text) start (own_tree text)
+of_none sources loaded head text start colon before is found =
     sym (append-nil before)
-    ∙ ap (λ c. before ++ headed_parts sources files (Some head) (own_text text) start (tree_after c text)) (sym is ∙ found)
+    ∙ ap (λ c. before ++ headed_parts sources loaded (Some head) (own_text text) start (tree_after c text)) (sym is ∙ found)

@@ -4,8 +4,8 @@ use Rattle.drv_check.specs.Origins.{text_spots}
 use Rattle.drv_check.specs.OwnTexts.{is_run, own_text, own_tree, tree_after}
 use Rattle.drv_check.specs.declared.findings.Source.{Source}
 use Rattle.drv_check.specs.declared.findings.Spot.{Spot}
+use Rattle.drv_check.specs.declared.loading_order.LoadedPiece.{LoadedPiece}
 use Rattle.drv_check.specs.declared.naming.Naming.{Naming}
-use Rattle.drv_check.specs.declared.opening.OpenFile.{OpenFile}
 use Rattle.drv_specs.specs.Directives.{is_colon}
 use Rattle.drv_syntax.specs.Labels.{label_at}
 use Rattle.drv_syntax.specs.Parsed.{tree_of}
@@ -21,8 +21,8 @@ use Rattle.std.specs.Prelude.{get_or}
 -- For namings_of (src/naming.rt): the parts of a text that name switches, one after another.
 -- Names: A naming is a part of a text that names a switch. `head` is what precedes the colon of a text, `text` the text or its piece, and
 -- `own` the text as the code reads it. `spots` is the spots of its bytes in files. `items` is its tree. `token` is the one at place `n` of
--- `tokens`. `before` and `after` are the namings before a step and after it, and `whole` is all of them. `sources` and `files` are the
--- files that were read, as texts and as pieces. `colon` is the place of the colon. `result` is what the code's call gives. `tree_of` is the
+-- `tokens`. `before` and `after` are the namings before a step and after it, and `whole` is all of them. `sources` is the files that
+-- were read, and `loaded` their directives. `colon` is the place of the colon. `result` is what the code's call gives. `tree_of` is the
 -- tree of a text (drv_syntax), and `own_tree` that of a piece's text. `tree_namings` and `headed_namings` are the namings of a tree and of
 -- a text with a head (specs/Namings).
 
@@ -46,55 +46,55 @@ none_named head text spots own before has is =
     sym (append-nil before) ∙ ap (λ t. before ++ tree_namings head text spots t) (sym (ap tree_or_none has) ∙ is)
 
 -- For the exit of the code that reads a text that is run.
-pub of_spots : {X E : Type 0} (sources : List Source) (files : List OpenFile) (head text : List ℕ) (spots : List Spot)
-    (before after : List Naming) (result : Result X E) → spots ≡ text_spots sources files head text
+pub of_spots : {X E : Type 0} (sources : List Source) (loaded : List LoadedPiece) (head text : List ℕ) (spots : List Spot)
+    (before after : List Naming) (result : Result X E) → spots ≡ text_spots sources loaded head text
     → OnOk result (after ≡ before ++ tree_namings head text spots (tree_of text))
-    → OnOk result (after ≡ before ++ tree_namings head text (text_spots sources files head text) (tree_of text))
-of_spots sources files head text spots before after (Err e) found grows = grows
-of_spots sources files head text spots before after (Ok x) found grows =
+    → OnOk result (after ≡ before ++ tree_namings head text (text_spots sources loaded head text) (tree_of text))
+of_spots sources loaded head text spots before after (Err e) found grows = grows
+of_spots sources loaded head text spots before after (Ok x) found grows =
     grows ∙ ap (λ ss. before ++ tree_namings head text ss (tree_of text)) found
 
 -- For the exit where the text of a piece is run.
-pub of_run : {X E : Type 0} (sources : List Source) (files : List OpenFile) (head own text : List ℕ) (before after : List Naming)
+pub of_run : {X E : Type 0} (sources : List Source) (loaded : List LoadedPiece) (head own text : List ℕ) (before after : List Naming)
     (result : Result X E) → own ≡ text → is_run head own ≡ true
-    → OnOk result (after ≡ before ++ tree_namings head own (text_spots sources files head own) (tree_of own))
-    → OnOk result (after ≡ before ++ headed_namings sources files (Some head) text (tree_of text))
-of_run sources files head own text before after (Err e) same runs grows = grows
-of_run sources files head own text before after (Ok x) same runs grows =
-    let is : before ++ headed_namings sources files (Some head) own (tree_of own)
-    ≡ before ++ tree_namings head own (text_spots sources files head own) (tree_of own) = rw runs refl in
-    grows ∙ sym is ∙ ap (λ t. before ++ headed_namings sources files (Some head) t (tree_of t)) same
+    → OnOk result (after ≡ before ++ tree_namings head own (text_spots sources loaded head own) (tree_of own))
+    → OnOk result (after ≡ before ++ headed_namings sources loaded (Some head) text (tree_of text))
+of_run sources loaded head own text before after (Err e) same runs grows = grows
+of_run sources loaded head own text before after (Ok x) same runs grows =
+    let is : before ++ headed_namings sources loaded (Some head) own (tree_of own)
+    ≡ before ++ tree_namings head own (text_spots sources loaded head own) (tree_of own) = rw runs refl in
+    grows ∙ sym is ∙ ap (λ t. before ++ headed_namings sources loaded (Some head) t (tree_of t)) same
 
 -- For the exit where it isn't.
-pub of_other : (sources : List Source) (files : List OpenFile) (head own text : List ℕ) (before : List Naming) → own ≡ text
-    → is_run head own ≡ false → before ≡ before ++ headed_namings sources files (Some head) text (tree_of text)
-of_other sources files head own text before same runs =
-    let is : before ++ headed_namings sources files (Some head) own (tree_of own) ≡ before ++ [] = rw runs refl in
-    sym (append-nil before) ∙ sym is ∙ ap (λ t. before ++ headed_namings sources files (Some head) t (tree_of t)) same
+pub of_other : (sources : List Source) (loaded : List LoadedPiece) (head own text : List ℕ) (before : List Naming) → own ≡ text
+    → is_run head own ≡ false → before ≡ before ++ headed_namings sources loaded (Some head) text (tree_of text)
+of_other sources loaded head own text before same runs =
+    let is : before ++ headed_namings sources loaded (Some head) own (tree_of own) ≡ before ++ [] = rw runs refl in
+    sym (append-nil before) ∙ sym is ∙ ap (λ t. before ++ headed_namings sources loaded (Some head) t (tree_of t)) same
 
 -- For the exit where the piece has a colon.
-pub of_colon : {X E : Type 0} (sources : List Source) (files : List OpenFile) (head text : List ℕ) (at : ℕ) (colon : Option ℕ)
+pub of_colon : {X E : Type 0} (sources : List Source) (loaded : List LoadedPiece) (head text : List ℕ) (at : ℕ) (colon : Option ℕ)
     (before after : List Naming) (result : Result X E) → colon ≡ Some at → colon ≡ position is_colon text
-    → OnOk result (after ≡ before ++ headed_namings sources files (Some head) (own_text text) (tree_of (own_text text)))
-    → OnOk result (after ≡ before ++ headed_namings sources files (Some head) (own_text text) (own_tree text))
-of_colon sources files head text at colon before after (Err e) is found grows = grows
-of_colon sources files head text at colon before after (Ok x) is found grows =
-    grows ∙ ap (λ c. before ++ headed_namings sources files (Some head) (own_text text) (tree_after c text)) (sym is ∙ found)
+    → OnOk result (after ≡ before ++ headed_namings sources loaded (Some head) (own_text text) (tree_of (own_text text)))
+    → OnOk result (after ≡ before ++ headed_namings sources loaded (Some head) (own_text text) (own_tree text))
+of_colon sources loaded head text at colon before after (Err e) is found grows = grows
+of_colon sources loaded head text at colon before after (Ok x) is found grows =
+    grows ∙ ap (λ c. before ++ headed_namings sources loaded (Some head) (own_text text) (tree_after c text)) (sym is ∙ found)
 
 -- a text without a tree names nothing, be it run or not
-no_names : (sources : List Source) (files : List OpenFile) (head text : List ℕ) → headed_namings sources files (Some head) text none ≡ []
-no_names sources files head text = by (is_run head text) refl
+no_names : (sources : List Source) (loaded : List LoadedPiece) (head text : List ℕ) → headed_namings sources loaded (Some head) text none ≡ []
+no_names sources loaded head text = by (is_run head text) refl
   where
     -- Plan: `by` goes by both answers of `is_run head text`.
-    by : (runs : Bool) → is_run head text ≡ runs → headed_namings sources files (Some head) text none ≡ []
+    by : (runs : Bool) → is_run head text ≡ runs → headed_namings sources loaded (Some head) text none ≡ []
     by true is = rw is refl
     by false is = rw is refl
 
 -- For the exit where it has none, and so no text.
-pub of_none : (sources : List Source) (files : List OpenFile) (head text : List ℕ) (colon : Option ℕ) (before : List Naming)
+pub of_none : (sources : List Source) (loaded : List LoadedPiece) (head text : List ℕ) (colon : Option ℕ) (before : List Naming)
     → colon ≡ None → colon ≡ position is_colon text
-    → before ≡ before ++ headed_namings sources files (Some head) (own_text text) (own_tree text)
-of_none sources files head text colon before is found =
+    → before ≡ before ++ headed_namings sources loaded (Some head) (own_text text) (own_tree text)
+of_none sources loaded head text colon before is found =
     sym (append-nil before)
-    ∙ ap (λ ns. before ++ ns) (sym (no_names sources files head (own_text text)))
-    ∙ ap (λ c. before ++ headed_namings sources files (Some head) (own_text text) (tree_after c text)) (sym is ∙ found)
+    ∙ ap (λ ns. before ++ ns) (sym (no_names sources loaded head (own_text text)))
+    ∙ ap (λ c. before ++ headed_namings sources loaded (Some head) (own_text text) (tree_after c text)) (sym is ∙ found)

@@ -1,11 +1,11 @@
-use Rattle.drv_check.specs.Origins.{agree, byte_at, files_spots, is_byte, last_spots, spot_at, text_spots}
+use Rattle.drv_check.specs.Origins.{agree, byte_at, is_byte, last_spots, spot_at, spots_after, text_spots}
 use Rattle.drv_check.specs.declared.findings.Source.{Source}
 use Rattle.drv_check.specs.declared.findings.Spot.{Spot}
-use Rattle.drv_check.specs.declared.opening.OpenFile.{OpenFile}
+use Rattle.drv_check.specs.declared.loading_order.LoadedPiece.{LoadedPiece}
 use Rattle.std.proofs.Common.{◌≡◌, ◌∙◌, ◌&&◌, ◌+◌, ◌-◌, ◌∷◌, Bool, List, None, Option, Some, [], ap, arith, drop, false, if◌then◌else◌}
 use Rattle.std.proofs.Common.{length, refl, subst, suc, true, zero, ℕ}
 use Rattle.std.proofs.lemmas.Bool.Decides.{nat_tests}
-use Rattle.std.specs.Prelude.{nat_lt, slice_get}
+use Rattle.std.specs.Prelude.{nat_lt, reverse, slice_get}
 
 -- Where a byte of a text has a spot, a file has the byte there. For `spots_have_bytes` (src/spot_laws.rt).
 -- Names: A spot is a place in a file. `sources` is the files that were read. `spots` is the spots of a text's last bytes, and `spot` one of
@@ -80,13 +80,13 @@ nothing text n spot has = by (nat_lt n (length text - 0)) has
     by false has = cc
 
 -- So the law holds for the spots of a head's text.
-pub spot_has_byte : (sources : List Source) (files : List OpenFile) (head text : List ℕ) (n : ℕ) (spot : Spot)
-    → spot_at (text_spots sources files head text) (length text) n ≡ Some spot → byte_at sources spot ≡ slice_get text n
-spot_has_byte sources files head text n spot = by (agree sources spots (drop (length text - length spots) text)) refl
+pub spot_has_byte : (sources : List Source) (loaded : List LoadedPiece) (head text : List ℕ) (n : ℕ) (spot : Spot)
+    → spot_at (text_spots sources loaded head text) (length text) n ≡ Some spot → byte_at sources spot ≡ slice_get text n
+spot_has_byte sources loaded head text n spot = by (agree sources spots (drop (length text - length spots) text)) refl
   where
     -- Plan: `spots` is the spots before they are compared; `by` goes by whether the files agree with the text.
     spots : List Spot
-    spots = last_spots (files_spots head [] files) text
+    spots = last_spots (spots_after head (reverse loaded)) text
 
     by : (t : Bool) → agree sources spots (drop (length text - length spots) text) ≡ t
         → spot_at (if t then spots else []) (length text) n ≡ Some spot → byte_at sources spot ≡ slice_get text n

@@ -1,37 +1,22 @@
-use Rattle.drv_check.specs.Checks.{open_file}
-use Rattle.drv_check.specs.Code.Heads.{has_colon_at, is_colon_there}
-use Rattle.drv_check.specs.Origins.{agree, byte_at, files_from, files_spots, head_before, is_byte, pieces_spots, puts_head, sources_found}
-use Rattle.drv_check.specs.Origins.{if_agreed, last_spots, sources_of, spots_by, text_spots}
-use Rattle.drv_check.specs.Points.{front_length}
-use Rattle.drv_check.specs.Whole.{is_key}
+use Rattle.drv_check.specs.Origins.{agree, byte_at, if_agreed, is_byte, last_spots, old_head, own_spots, puts_head, sources_found}
+use Rattle.drv_check.specs.Origins.{sources_of, spots_after, spots_at, text_spots}
 use Rattle.drv_check.specs.declared.findings.Source.{Source}
 use Rattle.drv_check.specs.declared.findings.Spot.{Spot}
-use Rattle.drv_check.specs.declared.opening.OpenFile.{OpenFile}
-use Rattle.drv_check.specs.declared.pieces.Piece.{Piece}
+use Rattle.drv_check.specs.declared.loading_order.LoadedPiece.{LoadedPiece}
 use Rattle.drv_search.specs.Search.{prefixes_of}
 use Rattle.drv_search.specs.declared.prefixes.Prefixes.{Prefixes}
-use Rattle.drv_specs.specs.Blanks.{is_blank}
-use Rattle.drv_specs.specs.Directives.{is_colon}
 use Rattle.drv_system.specs.Facts.{Facts}
 use Rattle.drv_system.specs.Known.{◌>>=◌, Is}
-use Rattle.std.proofs.Common.{◌≡◌, ◌∙◌, ◌<◌, ◌+◌, ◌-◌, ◌++◌, ◌∷◌, Bool, Err, IfOk, List, None, Ok, Option, Result, Some, [], ap}
-use Rattle.std.proofs.Common.{append_assoc}
-use Rattle.std.proofs.Common.{arith, drop, false, length, refl, sym, true, ℕ}
-use Rattle.std.proofs.lemmas.Bool.Decides.{Decides-eqb}
-use Rattle.std.proofs.lemmas.List.Quantifiers.{position-Some}
-use Rattle.std.proofs.lemmas.List.{drop_all, drop_more, length-take-le}
-use Rattle.std.proofs.lemmas.Option.{slice_get-get_or}
-use Rattle.std.proofs.lemmas.Slice.Eq.{slice_eq-Decides}
-use Rattle.std.specs.Cmp.Lexicographic.{pointwise}
-use Rattle.std.specs.List.{position}
-use Rattle.std.specs.Prelude.{get_or, nat_eq, slice_get, take}
+use Rattle.std.proofs.Common.{◌≡◌, ◌∙◌, ◌-◌, ◌++◌, ◌∷◌, Err, IfOk, List, Ok, Result, [], ap, append_assoc, arith, false, length, refl}
+use Rattle.std.proofs.Common.{reverse, sym, true, ℕ}
+use Rattle.std.proofs.lemmas.List.{drop_all, map-append, reverse-append, reverse-reverse}
 
 -- For sources_of (src/seeking.rt): the prefixes are found first.
--- Names: A spot is a place in a file. `F` is what is known of the outside. `names` is the files of the line, `sources` those that were
--- read, and `source` the one at index `n`. `files` is the same as pieces, and `file` one of them. `piece` is the one at place `n` of
--- `pieces`. `head` is what precedes the colon of a text. `spots` is the spots of the text's bytes so far, and `spots'` after one step more.
--- `before`, `after` and `whole` are a list before a step, after it, and at the end. `line` is a line without the blanks at its front.
--- `result` is what the code's call gives. `pieces_spots`, `files_spots` and `agree` are in specs/Origins.
+-- Names: A spot is a place in a file. `F` is what is known of the outside. `names` is the files of the line, and `sources` those that were
+-- read. `pieces` is their directives in the order in which they are loaded. `left` is those of them that are left, `piece` the last of these,
+-- and `earlier` the others. `head` is what precedes the colon of a text, and `head'` before the directive. `spots` is the spots of the
+-- text's bytes so far, the last one first, and `spots'` after one step more. `before`, `after` and `whole` are a list before a step, after
+-- it, and at the end. `n` is the number of a source. `result` is what the code's call gives. `spots_after` and `agree` are in specs/Origins.
 
 -- The prefixes that the call finds are those of the definition.
 pub opens_sources : {E : Type 0} (F : Facts) (found : Prefixes) (prefixes names : List (List ℕ)) (result : Result (List Source) E)
@@ -40,39 +25,62 @@ pub opens_sources : {E : Type 0} (F : Facts) (found : Prefixes) (prefixes names 
 opens_sources F found prefixes names (Err e) is opens = opens
 opens_sources F found prefixes names (Ok sources) is opens = ap (λ known. known >>= λ p. sources_found F p names) is ∙ opens
 
--- For namings_of: the places of bytes, file by file and piece by piece.
+-- For namings_of: the places of bytes, from the last directive back.
 
--- If the files opened so far and those of the sources left are all, then they still are after one file more.
-pub files_next : (n : ℕ) (sources : List Source) (source : Source) (file : OpenFile) (before after whole : List OpenFile)
-    → n < length sources
-    → source ≡ get_or sources n source → file ≡ open_file n source.text → after ≡ before ++ file ∷ []
-    → before ++ files_from n (drop n sources) ≡ whole → after ++ files_from (n + 1) (drop (n + 1) sources) ≡ whole
-files_next n sources source file before after whole below here opens grows is =
-    ap (λ fs. fs ++ files_from (n + 1) (drop (n + 1) sources)) grows
-    ∙ append_assoc before (file ∷ []) (files_from (n + 1) (drop (n + 1) sources))
-    ∙ ap (λ f. before ++ f ∷ files_from (n + 1) (drop (n + 1) sources)) opens
-    ∙ ap (λ s. before ++ files_from n (s ∷ drop (n + 1) sources)) here
-    ∙ ap (λ ss. before ++ files_from n ss) (sym (drop_more sources n source below)) ∙ is
+-- The last place is the first one of all in the other direction: the loop takes the places from the last one back.
+spots_back : (n : ℕ) (before : List ℕ) (at : ℕ)
+    → reverse (spots_at n (before ++ at ∷ [])) ≡ record { source = n; at = at } ∷ reverse (spots_at n before)
+spots_back n before at = ap reverse (map-append (λ p. record { source = n; at = p }) before (at ∷ []))
+    ∙ reverse-append (spots_at n before) (spots_at n (at ∷ []))
 
--- If the pieces left make the end of the spots so far, then those behind piece n make it of the spots after that piece, which may put the
--- text or add to it.
-pub piece_next : (head : List ℕ) (file : OpenFile) (n : ℕ) (pieces : List Piece) (piece : Piece) (spots spots' whole : List Spot)
-    → n < length pieces
-    → piece ≡ get_or pieces n piece → spots' ≡ spots_by head file spots piece
-    → pieces_spots head file spots (drop n pieces) ≡ whole → pieces_spots head file spots' (drop (n + 1) pieces) ≡ whole
-piece_next head file n pieces piece spots spots' whole below here grows is =
-    ap (λ ss. pieces_spots head file ss (drop (n + 1) pieces)) grows
-    ∙ ap (λ p. pieces_spots head file (spots_by head file spots p) (drop (n + 1) pieces)) here
-    ∙ ap (λ ps. pieces_spots head file spots ps) (sym (drop_more pieces n piece below)) ∙ is
+-- If the spots so far and those of the places left, the last one first, are all, then they still are after the last place.
+pub spot_next : (n : ℕ) (left before : List ℕ) (at : ℕ) (spots spots' whole : List Spot) → left ≡ before ++ at ∷ []
+    → spots' ≡ spots ++ record { source = n; at = at } ∷ []
+    → spots ++ reverse (spots_at n left) ≡ whole → spots' ++ reverse (spots_at n before) ≡ whole
+spot_next n left before at spots spots' whole cut grows is =
+    ap (λ ss. ss ++ reverse (spots_at n before)) grows
+    ∙ append_assoc spots (record { source = n; at = at } ∷ []) (reverse (spots_at n before))
+    ∙ ap (λ ss. spots ++ ss) (sym (spots_back n before at))
+    ∙ ap (λ ps. spots ++ reverse (spots_at n ps)) (sym cut) ∙ is
 
--- If the files left make the end of the spots so far, then those behind file n make it of the spots after that file.
-pub file_next : (head : List ℕ) (n : ℕ) (files : List OpenFile) (file : OpenFile) (spots spots' whole : List Spot) → n < length files
-    → file ≡ get_or files n file → spots' ≡ pieces_spots head file spots file.pieces
-    → files_spots head spots (drop n files) ≡ whole → files_spots head spots' (drop (n + 1) files) ≡ whole
-file_next head n files file spots spots' whole below here grows is =
-    ap (λ ss. files_spots head ss (drop (n + 1) files)) grows
-    ∙ ap (λ f. files_spots head (pieces_spots head f spots f.pieces) (drop (n + 1) files)) here
-    ∙ ap (λ fs. files_spots head spots fs) (sym (drop_more files n file below)) ∙ is
+-- what the last directive does to the text of a head
+after_last : (head : List ℕ) (left earlier : List LoadedPiece) (piece : LoadedPiece) → left ≡ earlier ++ piece ∷ []
+    → spots_after head (reverse left) ≡ spots_after head (piece ∷ reverse earlier)
+after_last head left earlier piece cut = ap (λ ps. spots_after head (reverse ps)) cut ∙ ap (spots_after head) (reverse-append earlier (piece
+    ∷ []))
+
+-- the spots of a directive, put behind others in the other direction, precede them
+grown : (piece : LoadedPiece) (spots spots' : List Spot) → spots' ≡ spots ++ reverse (own_spots piece)
+    → reverse spots' ≡ own_spots piece ++ reverse spots
+grown piece spots spots' grows = ap reverse grows ∙ reverse-append spots (reverse (own_spots piece))
+    ∙ ap (λ ss. ss ++ reverse spots) (reverse-reverse (own_spots piece))
+
+-- A directive that puts the text gives the rest of the spots.
+pub text_put : (head : List ℕ) (left earlier : List LoadedPiece) (piece : LoadedPiece) (spots spots' whole : List Spot)
+    → left ≡ earlier ++ piece ∷ [] → puts_head head piece ≡ true → piece.adds ≡ false → spots' ≡ spots ++ reverse (own_spots piece)
+    → spots_after head (reverse left) ++ reverse spots ≡ whole → reverse spots' ≡ whole
+text_put head left earlier piece spots spots' whole cut puts stays grows is =
+    let all : spots_after head (piece ∷ reverse earlier) ≡ own_spots piece = rw (puts, stays) refl in
+    grown piece spots spots' grows ∙ ap (λ ss. ss ++ reverse spots) (sym (after_last head left earlier piece cut ∙ all)) ∙ is
+
+-- One that adds to the text gives its end.
+pub text_grows : (head : List ℕ) (left earlier : List LoadedPiece) (piece : LoadedPiece) (spots spots' whole : List Spot)
+    → left ≡ earlier ++ piece ∷ [] → puts_head head piece ≡ true → piece.adds ≡ true → spots' ≡ spots ++ reverse (own_spots piece)
+    → spots_after head (reverse left) ++ reverse spots ≡ whole → spots_after head (reverse earlier) ++ reverse spots' ≡ whole
+text_grows head left earlier piece spots spots' whole cut puts adds grows is =
+    let more : spots_after head (piece ∷ reverse earlier) ≡ spots_after head (reverse earlier) ++ own_spots piece = rw (puts, adds) refl in
+    ap (λ ss. spots_after head (reverse earlier) ++ ss) (grown piece spots spots' grows)
+    ∙ sym (append_assoc (spots_after head (reverse earlier)) (own_spots piece) (reverse spots))
+    ∙ ap (λ ss. ss ++ reverse spots) (sym (after_last head left earlier piece cut ∙ more)) ∙ is
+
+-- Another one leaves the text as it is, but may give it another head.
+pub piece_next : (head head' : List ℕ) (left earlier : List LoadedPiece) (piece : LoadedPiece) (spots whole : List Spot)
+    → left ≡ earlier ++ piece ∷ [] → puts_head head piece ≡ false → head' ≡ old_head head piece.renaming
+    → spots_after head (reverse left) ++ reverse spots ≡ whole → spots_after head' (reverse earlier) ++ reverse spots ≡ whole
+piece_next head head' left earlier piece spots whole cut other renames is =
+    let same : spots_after head (piece ∷ reverse earlier) ≡ spots_after (old_head head piece.renaming) (reverse earlier) = rw other refl in
+    ap (λ h. spots_after h (reverse earlier) ++ reverse spots) renames
+    ∙ ap (λ ss. ss ++ reverse spots) (sym (after_last head left earlier piece cut ∙ same)) ∙ is
 
 -- If a file has the byte at the first spot, then the spots agree with the bytes exactly if the others do.
 pub agree_next : (sources : List Source) (spot : Spot) (spots spots' : List Spot) (byte : ℕ) (bytes bytes' : List ℕ)
@@ -81,31 +89,9 @@ pub agree_next : (sources : List Source) (spot : Spot) (spots spots' : List Spot
 agree_next sources spot spots spots' byte bytes bytes' cut cut' is =
     ap (λ ss. agree sources ss bytes) cut ∙ ap (λ bs. agree sources (spot ∷ spots') bs) cut' ∙ rw is refl
 
--- No file puts a byte.
-pub no_files : (sources : List Source) (files : List OpenFile) (head text : List ℕ) → files ≡ []
-    → [] ≡ text_spots sources files head text
-no_files sources files head text is =
+-- Without directives no byte has a spot.
+pub no_pieces : (sources : List Source) (pieces : List LoadedPiece) (head text : List ℕ) → pieces ≡ []
+    → [] ≡ text_spots sources pieces head text
+no_pieces sources pieces head text is =
     let none : last_spots [] text ≡ [] = drop_all (0 - length text) [] (omega arith) in
-    sym (ap (λ fs. text_spots sources fs head text) is ∙ ap (if_agreed sources text) none)
-
--- A line begins with no head that has another size than its own.
-pub other_head : (head : List ℕ) (piece : Piece) (line : List ℕ) → line ≡ drop (front_length is_blank piece.text) piece.text
-    → has_colon_at line (length head) ≡ false → false ≡ puts_head head piece
-other_head head piece line is lacks =
-    by (position is_colon line) refl ∙ ap (λ l. is_key head (head_before (position is_colon l) l)) is
-  where
-    -- Plan: `same` says that the two heads differ where the line has a colon; `by` goes by whether it has one.
-    same : (at : ℕ) (test : Bool) → pointwise nat_eq head (take at line) ≡ test → position is_colon line ≡ Some at → false ≡ test
-    same at false test found = refl
-    same at true test found =
-        let place : (at < length line) × (is_colon (get_or line at 0) ≡ true) × _ = position-Some is_colon line at 0 found in
-        let alike : head ≡ take at line =
-        (slice_eq-Decides Decides-eqb head (take at line) (pointwise nat_eq head (take at line)) refl).0 test in
-        let size : length head ≡ at = ap length alike ∙ length-take-le at line (omega (arith, place.0)) in
-        let there : slice_get line at ≡ Some (get_or line at 0) = slice_get-get_or line at 0 place.0 in
-        sym lacks ∙ ap (has_colon_at line) size ∙ ap is_colon_there there ∙ place.1
-
-    by : (found : Option ℕ) → position is_colon line ≡ found → false ≡ is_key head (head_before (position is_colon line) line)
-    by None found = sym (ap (λ at. is_key head (head_before at line)) found)
-    by (Some at) found =
-        same at (pointwise nat_eq head (take at line)) refl found ∙ sym (ap (λ at. is_key head (head_before at line)) found)
+    sym (ap (λ ps. text_spots sources ps head text) is ∙ ap (if_agreed sources text) none)

@@ -8,6 +8,7 @@ pub mod Coverage
 pub mod Differing
 pub mod FaultNotes
 pub mod Includes
+pub mod LoadingOrder
 pub mod LostMarks
 pub mod MarkWords
 pub mod MarkedParts

@@ -1,12 +1,13 @@
 use Rattle.drv_check.specs.MarkedParts.{first_in, parts_of}
-use Rattle.drv_check.specs.Origins.{files_from, head_in, spot_at, text_spots}
+use Rattle.drv_check.specs.LoadingOrder.{head_in, loaded_pieces}
+use Rattle.drv_check.specs.Origins.{spot_at, text_spots}
 use Rattle.drv_check.specs.OwnTexts.{own_start, own_text, own_tree}
 use Rattle.drv_check.specs.Pieces.{pieces_of}
 use Rattle.drv_check.specs.declared.findings.Source.{Source}
 use Rattle.drv_check.specs.declared.findings.Spot.{Spot}
+use Rattle.drv_check.specs.declared.loading_order.LoadedPiece.{LoadedPiece}
 use Rattle.drv_check.specs.declared.marking.Extent.{Extent}
 use Rattle.drv_check.specs.declared.marking.MarkedPart.{MarkedPart}
-use Rattle.drv_check.specs.declared.opening.OpenFile.{OpenFile}
 use Rattle.drv_check.specs.declared.pieces.Piece.{Piece}
 use Rattle.drv_syntax.specs.Tokens.{tokens_of}
 use Rattle.drv_syntax.specs.Tree.{Items}
@@ -34,15 +35,15 @@ tree_parts head text spots at items = map (marked_part head text spots at) (part
 -- of a text that is a directive of the dump
 
 -- the marked parts of a text by its head; a directive without one gives no text
-abbrev pub headed_parts : List Source → List OpenFile → Option (List ℕ) → List ℕ → ℕ → Items → List MarkedPart
-headed_parts sources files None text at items = []
-headed_parts sources files (Some head) text at items = tree_parts head text (text_spots sources files head text) at items
+abbrev pub headed_parts : List Source → List LoadedPiece → Option (List ℕ) → List ℕ → ℕ → Items → List MarkedPart
+headed_parts sources loaded None text at items = []
+headed_parts sources loaded (Some head) text at items = tree_parts head text (text_spots sources loaded head text) at items
 
 -- the marked parts of a directive of the dump, with the spots of its bytes in files
-abbrev pub piece_parts : List Source → List OpenFile → Piece → List MarkedPart
-piece_parts sources files piece =
-    headed_parts sources files (head_in piece.text) (own_text piece.text) (piece.start + own_start piece.text) (own_tree piece.text)
+abbrev pub piece_parts : List Source → List LoadedPiece → Piece → List MarkedPart
+piece_parts sources loaded piece =
+    headed_parts sources loaded (head_in piece.text) (own_text piece.text) (piece.start + own_start piece.text) (own_tree piece.text)
 
 -- all marked parts of a set, by its dump
 abbrev pub marked_parts : List Source → List ℕ → List MarkedPart
-marked_parts sources dump = flat_map (piece_parts sources (files_from 0 sources)) (pieces_of dump)
+marked_parts sources dump = flat_map (piece_parts sources (loaded_pieces sources)) (pieces_of dump)

@@ -1,13 +1,14 @@
 use Rattle.drv_check.specs.Compared.{asks_switch, is_call, prefix_of}
-use Rattle.drv_check.specs.Origins.{files_from, head_in, spot_at, text_spots}
+use Rattle.drv_check.specs.LoadingOrder.{head_in, loaded_pieces}
+use Rattle.drv_check.specs.Origins.{spot_at, text_spots}
 use Rattle.drv_check.specs.OwnTexts.{is_run, own_text, own_tree}
 use Rattle.drv_check.specs.Pieces.{pieces_of}
 use Rattle.drv_check.specs.declared.findings.Source.{Source}
 use Rattle.drv_check.specs.declared.findings.Spot.{Spot}
+use Rattle.drv_check.specs.declared.loading_order.LoadedPiece.{LoadedPiece}
 use Rattle.drv_check.specs.declared.naming.Deed.TheVariants.{Hides, Passes, Tests}
 use Rattle.drv_check.specs.declared.naming.Deed.{Deed}
 use Rattle.drv_check.specs.declared.naming.Naming.{Naming}
-use Rattle.drv_check.specs.declared.opening.OpenFile.{OpenFile}
 use Rattle.drv_check.specs.declared.pieces.Piece.{Piece}
 use Rattle.drv_syntax.specs.Labels.{Label, label_at}
 use Rattle.drv_syntax.specs.Tokens.{tokens_of}
@@ -82,15 +83,15 @@ tree_namings head text spots items = tokens_namings head text spots items 0 (tok
 -- of a text of a set, which is a directive of its dump
 
 -- the namings of a text by its head, if it is run; a directive without a head gives no text
-abbrev pub headed_namings : List Source → List OpenFile → Option (List ℕ) → List ℕ → Items → List Naming
-headed_namings sources files None text items = []
-headed_namings sources files (Some head) text items =
-    if is_run head text then tree_namings head text (text_spots sources files head text) items else []
+abbrev pub headed_namings : List Source → List LoadedPiece → Option (List ℕ) → List ℕ → Items → List Naming
+headed_namings sources loaded None text items = []
+headed_namings sources loaded (Some head) text items =
+    if is_run head text then tree_namings head text (text_spots sources loaded head text) items else []
 
 -- the namings of a directive of the dump, with the spots of its bytes in files
-abbrev pub piece_namings : List Source → List OpenFile → Piece → List Naming
-piece_namings sources files piece = headed_namings sources files (head_in piece.text) (own_text piece.text) (own_tree piece.text)
+abbrev pub piece_namings : List Source → List LoadedPiece → Piece → List Naming
+piece_namings sources loaded piece = headed_namings sources loaded (head_in piece.text) (own_text piece.text) (own_tree piece.text)
 
 -- all namings of a set, by its dump: gdrv-specs lists them
 abbrev pub namings_of : List Source → List ℕ → List Naming
-namings_of sources dump = flat_map (piece_namings sources (files_from 0 sources)) (pieces_of dump)
+namings_of sources dump = flat_map (piece_namings sources (loaded_pieces sources)) (pieces_of dump)

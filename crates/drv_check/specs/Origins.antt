@@ -1,23 +1,20 @@
-use Rattle.drv_check.specs.Checks.{all_called, empty_check, open_file}
-use Rattle.drv_check.specs.OwnTexts.{own_start}
-use Rattle.drv_check.specs.Points.{body_start, front_length, is_addition}
+use Rattle.drv_check.specs.Checks.{all_called, empty_check}
 use Rattle.drv_check.specs.Whole.{is_key}
 use Rattle.drv_check.specs.declared.findings.Source.{Source}
 use Rattle.drv_check.specs.declared.findings.Spot.{Spot}
-use Rattle.drv_check.specs.declared.opening.OpenFile.{OpenFile}
-use Rattle.drv_check.specs.declared.pieces.Piece.{Piece}
+use Rattle.drv_check.specs.declared.loading_order.LoadedPiece.{LoadedPiece}
+use Rattle.drv_check.specs.declared.loading_order.Renaming.{Renaming}
 use Rattle.drv_search.specs.Search.{prefixes_of}
 use Rattle.drv_search.specs.declared.prefixes.Prefixes.{Prefixes}
-use Rattle.drv_specs.specs.Blanks.{is_blank}
-use Rattle.drv_specs.specs.Directives.{is_colon}
 use Rattle.drv_system.specs.Facts.{Facts}
 use Rattle.drv_system.specs.Known.{◌>>=◌, Is, Known}
-use Rattle.std.specs.List.{position}
-use Rattle.std.specs.Prelude.{◌+◌, ◌-◌, ◌==◌, ◌&&◌, Bool, List, [], ◌∷◌, ◌++◌, None, Option, Some, drop, false, if◌then◌else◌, length, map}
-use Rattle.std.specs.Prelude.{nat_lt, slice_get, take, true, ℕ}
+use Rattle.drv_words.specs.Bytes.{asterisk}
+use Rattle.std.specs.Cmp.Lexicographic.{pointwise}
+use Rattle.std.specs.Prelude.{◌-◌, ◌==◌, ◌&&◌, Bool, List, [], ◌∷◌, ◌++◌, None, Option, Some, drop, false, if◌then◌else◌, length, map}
+use Rattle.std.specs.Prelude.{nat_eq, nat_lt, reverse, slice_get, true, ℕ}
 
--- Where in files the bytes of a set's texts are (GCC manual, "Spec Files"; that files count in the order in which they were opened is this
--- project's profile). A text has a head, as *cc1 or .c: what precedes its colon where a file puts it.
+-- Where in files the bytes of a set's texts are (GCC manual, "Spec Files"). A text has a head, as *cc1 or .c: what precedes its colon where
+-- a file puts it. The last directive of a head puts its text, one with a + adds to it, and %rename gives it another head.
 -- For clauses of src/origins.rt and src/seeking.rt, and the law of src/spot_laws.rt. gdrv_specs cites it too.
 
 -- the files of a line, along these prefixes
@@ -30,54 +27,34 @@ sources_found F prefixes names = all_called F prefixes empty_check names >>= λ 
 abbrev pub sources_of : Facts → List (List ℕ) → List (List ℕ) → Known (List Source)
 sources_of F prefixes names = prefixes_of F prefixes >>= λ found. sources_found F found names
 
--- files as open ones, the first with this number: their pieces and the place of each byte are known then
-abbrev pub files_from : ℕ → List Source → List OpenFile
-files_from n [] = []
-files_from n (source ∷ sources) = open_file n source.text ∷ files_from (n + 1) sources
+-- The spots of a head's text, from the last directive back.
 
--- a head by the place of its colon, if it has one
-abbrev pub head_before : Option ℕ → List ℕ → Option (List ℕ)
-head_before None line = None
-head_before (Some at) line = Some (take at line)
+-- whether a directive puts the text of a head, or adds to it
+abbrev pub puts_head : List ℕ → LoadedPiece → Bool
+puts_head head piece = is_key head piece.head
 
--- the head of a piece: what precedes its first colon, without blanks before it
-abbrev pub head_in : List ℕ → Option (List ℕ)
-head_in text = head_before (position is_colon (drop (front_length is_blank text) text)) (drop (front_length is_blank text) text)
+-- the spots of bytes of the source with this number
+abbrev pub spots_at : ℕ → List ℕ → List Spot
+spots_at n = map (λ at. record { source = n; at = at })
 
--- whether a piece puts the text of this head
-abbrev pub puts_head : List ℕ → Piece → Bool
-puts_head head piece = is_key head (head_in piece.text)
+-- where the bytes are of the text that a directive gives
+abbrev pub own_spots : LoadedPiece → List Spot
+own_spots piece = spots_at piece.spot.source piece.places
 
--- where the bytes are of the text that a piece gives
-abbrev pub spot_of : OpenFile → ℕ → Spot
-spot_of file at = record { source = file.number; at = at }
+-- the spots of a text that a directive puts, or adds to one with these spots
+abbrev pub put_spots : LoadedPiece → List Spot → List Spot
+put_spots piece before = if piece.adds then before ++ own_spots piece else own_spots piece
 
--- where in the file the bytes are of the text that a piece gives
-abbrev pub own_places : OpenFile → Piece → List ℕ
-own_places file piece = drop (own_start piece.text) (take (length piece.text) (drop piece.start file.places))
+-- the head before a renaming of a text that has this one after it
+abbrev pub old_head : List ℕ → Option Renaming → List ℕ
+old_head head None = head
+old_head head (Some renaming) = if pointwise nat_eq head (asterisk ∷ renaming.new) then asterisk ∷ renaming.old else head
 
--- where the bytes of a piece's text are, with the number of the file
-abbrev pub own_spots : OpenFile → Piece → List Spot
-own_spots file piece = map (spot_of file) (own_places file piece)
-
--- the last one puts the text, and an addition follows what is there
-abbrev pub spots_after : OpenFile → List Spot → Piece → List Spot
-spots_after file spots piece =
-    if is_addition (drop (body_start piece.text) piece.text) then spots ++ own_spots file piece else own_spots file piece
-
--- the spots of a head's text after one more piece: one that puts another head changes nothing
-abbrev pub spots_by : List ℕ → OpenFile → List Spot → Piece → List Spot
-spots_by head file spots piece = if puts_head head piece then spots_after file spots piece else spots
-
--- the spots of a head's text after pieces of one file
-abbrev pub pieces_spots : List ℕ → OpenFile → List Spot → List Piece → List Spot
-pieces_spots head file spots [] = spots
-pieces_spots head file spots (piece ∷ pieces) = pieces_spots head file (spots_by head file spots piece) pieces
-
--- the spots of a head's text after all files, in the order in which they count
-abbrev pub files_spots : List ℕ → List Spot → List OpenFile → List Spot
-files_spots head spots [] = spots
-files_spots head spots (file ∷ files) = files_spots head (pieces_spots head file spots file.pieces) files
+-- the spots of a head's text after directives, the last of which comes first here
+abbrev pub spots_after : List ℕ → List LoadedPiece → List Spot
+spots_after head [] = []
+spots_after head (piece ∷ earlier) =
+    if puts_head head piece then put_spots piece (spots_after head earlier) else spots_after (old_head head piece.renaming) earlier
 
 -- whether files have these bytes at these spots
 
@@ -111,9 +88,9 @@ last_spots spots text = drop (length spots - length text) spots
 abbrev pub if_agreed : List Source → List ℕ → List Spot → List Spot
 if_agreed sources text spots = if agree sources spots (drop (length text - length spots) text) then spots else []
 
--- the spots of the text of a head in the set that these files make
-abbrev pub text_spots : List Source → List OpenFile → List ℕ → List ℕ → List Spot
-text_spots sources files head text = if_agreed sources text (last_spots (files_spots head [] files) text)
+-- the spots of the text of a head in the set that these directives make
+abbrev pub text_spots : List Source → List LoadedPiece → List ℕ → List ℕ → List Spot
+text_spots sources pieces head text = if_agreed sources text (last_spots (spots_after head (reverse pieces)) text)
 
 -- the spot of the byte at this place of a text of this size
 abbrev pub spot_at : List Spot → ℕ → ℕ → Option Spot

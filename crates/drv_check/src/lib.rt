@@ -12,6 +12,7 @@ mod including;
 mod judging;
 mod known_trees;
 mod laws;
+mod loading_order;
 mod lost_marks;
 mod mark_laws;
 mod mark_words;

@@ -17,7 +17,8 @@ ghost use Rattle.std.specs.Prelude.{◌≡◌, ◌∷◌, ◌++◌, ◌+◌, ◌
 
 use crate::findings::{Source, Spot};
 use crate::known_trees::known_tree;
-use crate::origins::{Files, head_in, open_all, spot_at, text_spots};
+use crate::loading_order::{head_in, loaded_pieces};
+use crate::origins::{Files, spot_at, text_spots};
 use crate::own_text::{own_bytes, own_start, tree_of};
 use crate::pieces::{Piece, pieces_of};
 use crate::pointing::colon_in;
@@ -461,12 +462,12 @@ fn push_own(
 ) -> Result<(), AllocError>
     ensures { OnOk result
         (parts.new ≡ parts.old
-        ++ headed_parts files.now.sources.now files.now.opened.now (Some head.now)
+        ++ headed_parts files.now.sources.now files.now.pieces.now (Some head.now)
         (own_text piece.now.text) (piece.now.start + own_start piece.now.text)
         (tree_of (own_text piece.now.text))) }
 {
     let text = own_bytes(piece.text.as_bytes());
-    let spots = text_spots(alloc, files.sources, files.opened, head, text)?;
+    let spots = text_spots(alloc, files.sources, files.pieces, head, text)?;
     let text = MarkedText {
         head,
         text,
@@ -487,7 +488,7 @@ fn push_headed(
 ) -> Result<(), AllocError>
     ensures { OnOk result
         (parts.new ≡ parts.old
-        ++ headed_parts files.now.sources.now files.now.opened.now (Some head.now)
+        ++ headed_parts files.now.sources.now files.now.pieces.now (Some head.now)
         (own_text piece.now.text) (piece.now.start + own_start piece.now.text)
         (own_tree piece.now.text)) }
 {
@@ -506,7 +507,7 @@ fn push_piece(
 ) -> Result<(), AllocError>
     ensures { OnOk result
         (parts.new ≡ parts.old
-        ++ piece_parts files.now.sources.now files.now.opened.now piece.now) }
+        ++ piece_parts files.now.sources.now files.now.pieces.now piece.now) }
 {
     match head_in(piece.text.as_bytes()) {
         Some(head) => push_headed(alloc, parts, files, head, piece),
@@ -525,10 +526,10 @@ pub fn marked_parts(
 ) -> Result<Listing<MarkedPart>, AllocError>
     ensures { IfOk result (λ parts. parts ≡ marked_parts sources.now dump.now) }
 {
-    let opened = open_all(alloc, sources)?;
+    let loaded = loaded_pieces(alloc, sources)?;
     let files = Files {
         sources,
-        opened: opened.as_slice(),
+        pieces: loaded.as_slice(),
         set,
     };
     let pieces = pieces_of(alloc, dump)?;

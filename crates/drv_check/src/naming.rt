@@ -13,7 +13,8 @@ ghost use Rattle.std.specs.Prelude.{◌≡◌, ◌<◌, ◌++◌, IfOk, OnOk, So
 use crate::compared::{asks_switch, is_call, prefix_of};
 use crate::findings::{Source, Spot};
 use crate::known_trees::known_tree;
-use crate::origins::{Files, head_in, open_all, spot_at, text_spots};
+use crate::loading_order::{head_in, loaded_pieces};
+use crate::origins::{Files, spot_at, text_spots};
 use crate::own_text::{own_bytes, tree_of as read_tree};
 use crate::pieces::{Piece, pieces_of};
 use crate::pointing::colon_in;
@@ -255,10 +256,10 @@ fn push_run(
     ensures { OnOk result
         (namings.new ≡ namings.old
         ++ tree_namings head.now text.now
-        (text_spots files.now.sources.now files.now.opened.now head.now text.now)
+        (text_spots files.now.sources.now files.now.pieces.now head.now text.now)
         (tree_of text.now)) }
 {
-    let spots = text_spots(alloc, files.sources, files.opened, head, text)?;
+    let spots = text_spots(alloc, files.sources, files.pieces, head, text)?;
     let text = Spotted {
         head,
         text,
@@ -278,7 +279,7 @@ fn push_own(
 ) -> Result<(), AllocError>
     ensures { OnOk result
         (namings.new ≡ namings.old
-        ++ headed_namings files.now.sources.now files.now.opened.now (Some head.now)
+        ++ headed_namings files.now.sources.now files.now.pieces.now (Some head.now)
         (own_text piece.now.text) (tree_of (own_text piece.now.text))) }
 {
     let text = own_bytes(piece.text.as_bytes());
@@ -300,7 +301,7 @@ fn push_headed(
 ) -> Result<(), AllocError>
     ensures { OnOk result
         (namings.new ≡ namings.old
-        ++ headed_namings files.now.sources.now files.now.opened.now (Some head.now)
+        ++ headed_namings files.now.sources.now files.now.pieces.now (Some head.now)
         (own_text piece.now.text) (own_tree piece.now.text)) }
 {
     match colon_in(piece.text.as_bytes()) {
@@ -318,7 +319,7 @@ fn push_piece(
 ) -> Result<(), AllocError>
     ensures { OnOk result
         (namings.new ≡ namings.old
-        ++ piece_namings files.now.sources.now files.now.opened.now piece.now) }
+        ++ piece_namings files.now.sources.now files.now.pieces.now piece.now) }
 {
     match head_in(piece.text.as_bytes()) {
         Some(head) => push_headed(alloc, namings, files, head, piece),
@@ -337,10 +338,10 @@ pub fn namings_of(
 ) -> Result<Listing<Naming>, AllocError>
     ensures { IfOk result (λ namings. namings ≡ namings_of sources.now dump.now) }
 {
-    let opened = open_all(alloc, sources)?;
+    let loaded = loaded_pieces(alloc, sources)?;
     let files = Files {
         sources,
-        opened: opened.as_slice(),
+        pieces: loaded.as_slice(),
         set,
     };
     let pieces = pieces_of(alloc, dump)?;

@@ -1,19 +1,16 @@
 //! Where in files the bytes of a set's texts are.
 
-ghost use Rattle.drv_check.specs.Origins.{agree, byte_at, files_from, files_spots, head_in, if_agreed};
-ghost use Rattle.drv_check.specs.Origins.{is_byte, last_spots, own_places, own_spots, pieces_spots, puts_head};
-ghost use Rattle.drv_check.specs.Code.Heads.{has_colon_at};
-ghost use Rattle.drv_check.specs.Origins.{spot_at, spots_after, spots_by, text_spots};
-ghost use Rattle.std.specs.Option.{option_map};
-ghost use Rattle.std.specs.Prelude.{◌≡◌, ◌++◌, IfOk, OnOk, [], length, take};
+ghost use Rattle.drv_check.specs.Origins.{agree, byte_at, if_agreed, is_byte, last_spots, old_head, own_spots, puts_head};
+ghost use Rattle.drv_check.specs.Origins.{spot_at, spots_after, text_spots};
+ghost use Rattle.drv_words.specs.Bytes.{asterisk};
+ghost use Rattle.std.specs.Cmp.Lexicographic.{pointwise};
+ghost use Rattle.std.specs.Prelude.{◌≡◌, ◌∷◌, ◌++◌, IfOk, OnOk, nat_eq, reverse};
 
-use crate::bytes::{blanks_before, following};
+use crate::bytes::following;
 use crate::findings::{Source, Spot};
-use crate::opening::{OpenFile, open_file};
-use crate::own_text::own_start;
-use crate::pieces::Piece;
-use crate::pointing::{body_start, colon_in, is_addition};
+use crate::loading_order::{LoadedPiece, Renaming};
 use drv_specs::SpecSet;
+use drv_words::Word;
 use std::alloc::{AllocError, Global};
 
 /// Files and the set that they make, with others or without.
@@ -21,147 +18,108 @@ use std::alloc::{AllocError, Global};
 pub(crate) struct Files<'a> {
     /// The files.
     pub(crate) sources: &'a [Source],
-    /// The same, each with its directives.
-    pub(crate) opened: &'a [OpenFile],
+    /// Their directives, in the order in which they are loaded.
+    pub(crate) pieces: &'a [LoadedPiece],
     /// The set.
     pub(crate) set: &'a SpecSet,
 }
 
-/// The files of sources.
-#[tactic(auto, using(crate::proofs::TextOrigins::files_next))]
-pub(crate) fn open_all(alloc: Global, sources: &[Source]) -> Result<Vec<OpenFile>, AllocError>
-    ensures { IfOk result (λ files. files.items ≡ files_from 0 sources.now) }
-{
-    let mut files = Vec::new(alloc);
-    let mut number = 0;
-    while number < sources.len() {
-        files.push(open_file(alloc, number, sources[number].text.as_bytes())?)?;
-        number += 1;
-    }
-    Ok(files)
-}
-
-/// What precedes the colon of a piece, as `*cc1` or `.c`.
-pub(crate) fn head_in(text: &[u8]) -> Option<&[u8]>
-    ensures { option_map (λ head. head.now) result ≡ head_in text.now }
-{
-    let line = &text[blanks_before(text)..];
-    let at = colon_in(line)?;
-    Some(&line[..at])
-}
-
-/// Whether a line may begin with this head: a colon follows as many bytes.
-fn may_begin(line: &[u8], head: &[u8]) -> bool
-    ensures { result ≡ has_colon_at line.now (length head.now) }
-{
-    match line.get(head.len()) {
-        Some(byte) => *byte == b':',
-        None => false,
-    }
-}
-
-/// Whether a piece puts the text of this head, or adds to it.
-#[tactic(auto, using(crate::proofs::TextOrigins::other_head))]
-fn puts_head(head: &[u8], piece: &Piece) -> bool
+/// Whether a directive puts the text of this head, or adds to it.
+fn puts_head(head: &[u8], piece: &LoadedPiece) -> bool
     ensures { result ≡ puts_head head.now piece.now }
 {
-    let text = piece.text.as_bytes();
-    if !may_begin(following(text, blanks_before(text)), head) {
-        return false;
-    }
-    match head_in(text) {
-        Some(other) => head == other,
+    match &piece.head {
+        Some(other) => head == other.as_bytes(),
         None => false,
     }
 }
 
-/// The first items of a list.
-fn first_of(places: &[usize], count: usize) -> &[usize]
-    ensures { result.now ≡ take count places.now }
+/// The head `*NAME`.
+fn name_head(alloc: Global, name: &Word) -> Result<Word, AllocError>
+    ensures { IfOk result (λ head. head ≡ asterisk ∷ name.now) }
 {
-    if count <= places.len() {
-        &places[..count]
-    } else {
-        places
+    let mut head = Word::from_bytes(alloc, b"*")?;
+    head.extend_from_slice(name.as_bytes())?;
+    Ok(head)
+}
+
+/// Whether this is the head `*NAME`.
+fn is_name_head(head: &[u8], name: &[u8]) -> bool
+    ensures { result ≡ pointwise nat_eq head.now (asterisk ∷ name.now) }
+{
+    match head {
+        [b'*', rest @ ..] => rest == name,
+        _ => false,
     }
 }
 
-/// The places of the bytes of the text that a piece gives.
-fn own_places<'a>(file: &'a OpenFile, piece: &Piece) -> &'a [usize]
-    ensures { result.now ≡ own_places file.now piece.now }
+/// The head before a renaming of a text that has this one after it.
+fn old_head(alloc: Global, head: Word, renaming: &Option<Renaming>) -> Result<Word, AllocError>
+    ensures { IfOk result (λ old. old ≡ old_head head renaming.now) }
 {
-    let places = following(file.places.as_slice(), piece.start);
-    let places = first_of(places, piece.text.len());
-    following(places, own_start(piece.text.as_bytes()))
+    match renaming {
+        Some(renaming) if is_name_head(head.as_bytes(), renaming.new.as_bytes()) => {
+            name_head(alloc, &renaming.old)
+        }
+        _ => Ok(head),
+    }
 }
 
-/// Adds the spots of the text that a piece gives.
-fn push_own(spots: &mut Vec<Spot>, file: &OpenFile, piece: &Piece) -> Result<(), AllocError>
-    ensures { OnOk result (spots.new.items ≡ spots.old.items ++ own_spots file.now piece.now) }
+/// Adds the spots of the text that a directive gives, the last one first.
+#[tactic(auto, using(crate::proofs::TextOrigins::spot_next))]
+fn push_own(spots: &mut Vec<Spot>, piece: &LoadedPiece) -> Result<(), AllocError>
+    ensures { OnOk result (spots.new.items ≡ spots.old.items ++ reverse (own_spots piece.now)) }
 {
-    for place in own_places(file, piece) {
+    let mut left = piece.places.as_slice();
+    while let [before @ .., place] = left {
         spots.push(Spot {
-            source: file.number,
+            source: piece.spot.source,
             at: *place,
         })?;
+        left = before;
     }
     Ok(())
 }
 
-/// The spots of a text after a piece that puts it or adds to it.
-fn add_piece(spots: &mut Vec<Spot>, file: &OpenFile, piece: &Piece) -> Result<(), AllocError>
-    ensures { OnOk result
-        (spots.new.items ≡ spots_after file.now spots.old.items piece.now) }
-{
-    let text = piece.text.as_bytes();
-    if !is_addition(following(text, body_start(text))) {
-        spots.clear();
-    }
-    push_own(spots, file, piece)
-}
-
-/// The spots of a head's text after a piece.
-fn take_piece(
-    spots: &mut Vec<Spot>,
-    head: &[u8],
-    file: &OpenFile,
-    piece: &Piece,
-) -> Result<(), AllocError>
-    ensures { OnOk result
-        (spots.new.items ≡ spots_by head.now file.now spots.old.items piece.now) }
-{
-    if puts_head(head, piece) {
-        add_piece(spots, file, piece)?;
-    }
-    Ok(())
-}
-
-/// The spots of a head's text after a file.
-#[tactic(auto, using(crate::proofs::TextOrigins::piece_next))]
-fn take_file(spots: &mut Vec<Spot>, head: &[u8], file: &OpenFile) -> Result<(), AllocError>
-    ensures { OnOk result
-        (spots.new.items ≡ pieces_spots head.now file.now spots.old.items file.now.pieces) }
-{
-    for piece in file.pieces.as_slice() {
-        take_piece(spots, head, file, piece)?;
-    }
-    Ok(())
-}
-
-/// The spots of what files put as the text of a head, which has mostly this size.
-#[tactic(auto, using(crate::proofs::TextOrigins::file_next))]
-fn files_spots(
+/// The spots of a head's text after directives, the last one first.
+#[tactic(auto, using(crate::proofs::TextOrigins::text_put, crate::proofs::TextOrigins::text_grows, crate::proofs::TextOrigins::piece_next))]
+fn latest_spots(
     alloc: Global,
     head: &[u8],
-    files: &[OpenFile],
+    pieces: &[LoadedPiece],
     size: usize,
 ) -> Result<Vec<Spot>, AllocError>
-    ensures { IfOk result (λ spots. spots.items ≡ files_spots head.now [] files.now) }
+    ensures { IfOk result
+        (λ spots. reverse spots.items ≡ spots_after head.now (reverse pieces.now)) }
 {
     let mut spots = Vec::with_capacity(alloc, size)?;
-    for file in files {
-        take_file(&mut spots, head, file)?;
+    let mut head = Word::from_bytes(alloc, head)?;
+    let mut left = pieces;
+    while let [earlier @ .., piece] = left {
+        if puts_head(head.as_bytes(), piece) {
+            push_own(&mut spots, piece)?;
+            if !piece.adds {
+                return Ok(spots);
+            }
+        } else {
+            head = old_head(alloc, head, &piece.renaming)?;
+        }
+        left = earlier;
     }
+    Ok(spots)
+}
+
+/// The spots of a head's text after directives. The text has mostly this size.
+fn spots_after(
+    alloc: Global,
+    head: &[u8],
+    pieces: &[LoadedPiece],
+    size: usize,
+) -> Result<Vec<Spot>, AllocError>
+    ensures { IfOk result (λ spots. spots.items ≡ spots_after head.now (reverse pieces.now)) }
+{
+    let mut spots = latest_spots(alloc, head, pieces, size)?;
+    spots.reverse();
     Ok(spots)
 }
 
@@ -225,21 +183,21 @@ fn last_spots<'a>(spots: &'a [Spot], text: &[u8]) -> &'a [Spot]
 }
 
 /// The spots of the last bytes of a head's text, which are those of files.
-#[tactic(auto, using(crate::proofs::TextOrigins::no_files))]
+#[tactic(auto, using(crate::proofs::TextOrigins::no_pieces))]
 pub(crate) fn text_spots(
     alloc: Global,
     sources: &[Source],
-    files: &[OpenFile],
+    pieces: &[LoadedPiece],
     head: &[u8],
     text: &[u8],
 ) -> Result<Vec<Spot>, AllocError>
     ensures { IfOk result
-        (λ spots. spots.items ≡ text_spots sources.now files.now head.now text.now) }
+        (λ spots. spots.items ≡ text_spots sources.now pieces.now head.now text.now) }
 {
-    let [_, ..] = files else {
+    let [_, ..] = pieces else {
         return Ok(Vec::new(alloc));
     };
-    let all = files_spots(alloc, head, files, text.len())?;
+    let all = spots_after(alloc, head, pieces, text.len())?;
     let spots = if_agreed(sources, text, last_spots(all.as_slice(), text));
     Vec::from_slice(alloc, spots)
 }

@@ -1,6 +1,7 @@
 //! The law of places in files.
 
-ghost use Rattle.drv_check.specs.Origins.{byte_at, files_from, spot_at, text_spots};
+ghost use Rattle.drv_check.specs.LoadingOrder.{loaded_pieces};
+ghost use Rattle.drv_check.specs.Origins.{byte_at, spot_at, text_spots};
 ghost use Rattle.drv_check.specs.declared.findings.Source.{Source};
 ghost use Rattle.drv_check.specs.declared.findings.Spot.{Spot};
 ghost use Rattle.std.specs.Prelude.{◌≡◌, List, Some, length, slice_get, ℕ};
@@ -10,6 +11,6 @@ ghost use Rattle.std.specs.Prelude.{◌≡◌, List, Some, length, slice_get, �
 #[tactic(auto, using(crate::proofs::SpotLaws::spot_has_byte))]
 pub fn spots_have_bytes()
     ensures { (sources : List Source) (head text : List ℕ) (n : ℕ) (spot : Spot)
-        → spot_at (text_spots sources (files_from 0 sources) head text) (length text) n ≡ Some spot
+        → spot_at (text_spots sources (loaded_pieces sources) head text) (length text) n ≡ Some spot
         → byte_at sources spot ≡ slice_get text n }
 {}

@@ -1,6 +1,6 @@
 use Rattle.drv_check.proofs.marking.marked_parts.Given as goal
+use Rattle.drv_check.specs.LoadingOrder.{loaded_pieces}
 use Rattle.drv_check.specs.Markings.{marked_parts, piece_parts}
-use Rattle.drv_check.specs.Origins.{files_from}
 use Rattle.std.proofs.Common.{◌≡◌, ◌++◌, drop}
 use Rattle.std.specs.List.{flat_map}
 
@@ -8,5 +8,5 @@ use Rattle.std.specs.List.{flat_map}
 
 abbrev pub invariant-loop-piece : goal.invariant-loop-piece
 invariant-loop-piece l =
-    l.parts ++ flat_map (piece_parts l.sources (files_from 0 l.sources)) (drop l.piece-index l.piece-items)
+    l.parts ++ flat_map (piece_parts l.sources (loaded_pieces l.sources)) (drop l.piece-index l.piece-items)
     ≡ marked_parts l.sources l.dump

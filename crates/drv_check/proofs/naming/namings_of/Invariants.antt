@@ -1,6 +1,6 @@
 use Rattle.drv_check.proofs.naming.namings_of.Given as goal
+use Rattle.drv_check.specs.LoadingOrder.{loaded_pieces}
 use Rattle.drv_check.specs.Namings.{namings_of, piece_namings}
-use Rattle.drv_check.specs.Origins.{files_from}
 use Rattle.std.proofs.Common.{◌≡◌, ◌++◌, drop}
 use Rattle.std.specs.List.{flat_map}
 
@@ -8,5 +8,5 @@ use Rattle.std.specs.List.{flat_map}
 
 abbrev pub invariant-loop-piece : goal.invariant-loop-piece
 invariant-loop-piece l =
-    l.namings ++ flat_map (piece_namings l.sources (files_from 0 l.sources)) (drop l.piece-index l.piece-items)
+    l.namings ++ flat_map (piece_namings l.sources (loaded_pieces l.sources)) (drop l.piece-index l.piece-items)
     ≡ namings_of l.sources l.dump

@@ -1,10 +1,11 @@
 use Rattle.drv_check.proofs.origins.push_own.Given as goal
-use Rattle.drv_check.specs.Origins.{own_spots, spot_of}
-use Rattle.std.proofs.Common.{◌≡◌, ◌++◌, drop}
-use Rattle.std.specs.Prelude.{map}
+use Rattle.drv_check.specs.Origins.{own_spots, spots_at}
+use Rattle.std.proofs.Common.{◌≡◌, ◌++◌, length, reverse}
 
--- The loops of push_own (src/origins.rt). Adds the spots of the text that a piece gives.
+-- The loops of push_own (src/origins.rt). Adds the spots of the text that a directive gives, the last one first.
 
-abbrev pub invariant-loop-place : goal.invariant-loop-place
-invariant-loop-place l = l.spots.items ++ map (spot_of l.file) (drop l.place-index l.place-items) ≡ l.fn.spots.items
-    ++ own_spots l.file l.piece
+abbrev pub invariant-loop-left : goal.invariant-loop-left
+invariant-loop-left l = l.spots.items ++ reverse (spots_at l.piece.spot.source l.left) ≡ l.fn.spots.items ++ reverse (own_spots l.piece)
+
+abbrev pub decreases-loop-left : goal.decreases-loop-left
+decreases-loop-left l = length l.left

@@ -1,0 +1,12 @@
+use Rattle.drv_check.proofs.origins.latest_spots.Given as goal
+use Rattle.drv_check.specs.Origins.{spots_after}
+use Rattle.std.proofs.Common.{◌≡◌, ◌++◌, length, reverse}
+
+-- The loops of latest_spots (src/origins.rt). The spots of a head's text after directives, the last one first.
+
+abbrev pub invariant-loop-left : goal.invariant-loop-left
+invariant-loop-left l =
+    spots_after l.head (reverse l.left) ++ reverse l.spots.items ≡ spots_after l.fn.head (reverse l.pieces)
+
+abbrev pub decreases-loop-left : goal.decreases-loop-left
+decreases-loop-left l = length l.left
