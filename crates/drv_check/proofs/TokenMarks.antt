@@ -1,5 +1,6 @@
 use Rattle.drv_check.specs.Code.OwnTrees.{tree_or_none}
 use Rattle.drv_check.specs.OwnTexts.{own_start, own_text, own_tree}
+use Rattle.drv_check.specs.Points.{name_in}
 use Rattle.drv_check.specs.TokenWarnings.{mark_at, own_marks, token_warning, tokens_marks, tree_marks}
 use Rattle.drv_check.specs.declared.findings.Warning.{Warning}
 use Rattle.drv_check.specs.declared.warning.Mark.{Mark}
@@ -37,21 +38,20 @@ marks_next set text items start n at tokens token warning before after whole bel
 -- of the tree of the text that a piece gives
 
 -- For the exit of the code where the text of a piece has a tree.
-pub marks_of_tree : {X E : Type 0} (set : Set) (text tree : List ℕ) (start : ℕ) (own : Option (List ℕ)) (before after : List Mark)
+pub marks_of_tree : {X E : Type 0} (set : Set) (text tree : List ℕ) (own : Option (List ℕ)) (before after : List Mark)
     (result : Result X E)
-    → own ≡ Some tree → tree_or_none own ≡ own_tree text → tree ≡ own_text text → start ≡ own_start text
-    → OnOk result (after ≡ before ++ tree_marks set tree (tree_of tree) start)
+    → own ≡ Some tree → tree_or_none own ≡ own_tree text → tree ≡ own_text text
+    → OnOk result (after ≡ before ++ tree_marks set (name_in text) tree (tree_of tree) (own_start text))
     → OnOk result (after ≡ before ++ own_marks set text)
-marks_of_tree set text tree start own before after (Err e) has is same at grows = grows
-marks_of_tree set text tree start own before after (Ok x) has is same at grows =
+marks_of_tree set text tree own before after (Err e) has is same grows = grows
+marks_of_tree set text tree own before after (Ok x) has is same grows =
     grows
-    ∙ ap (λ t. before ++ tree_marks set tree t start) (sym (ap tree_or_none has) ∙ is)
-    ∙ ap (λ t. before ++ tree_marks set t (own_tree text) start) same
-    ∙ ap (λ n. before ++ tree_marks set (own_text text) (own_tree text) n) at
+    ∙ ap (λ t. before ++ tree_marks set (name_in text) tree t (own_start text)) (sym (ap tree_or_none has) ∙ is)
+    ∙ ap (λ t. before ++ tree_marks set (name_in text) t (own_tree text) (own_start text)) same
 
 -- For its exit where it has none, which warns of nothing.
 pub marks_of_none : (set : Set) (text : List ℕ) (own : Option (List ℕ)) (before : List Mark) → own ≡ None → tree_or_none own ≡ own_tree text
     → before ≡ before ++ own_marks set text
 marks_of_none set text own before has is =
     sym (append-nil before)
-    ∙ ap (λ t. before ++ tree_marks set (own_text text) t (own_start text)) (sym (ap tree_or_none has) ∙ is)
+    ∙ ap (λ t. before ++ tree_marks set (name_in text) (own_text text) t (own_start text)) (sym (ap tree_or_none has) ∙ is)

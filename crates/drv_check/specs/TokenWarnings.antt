@@ -1,10 +1,12 @@
 use Rattle.drv_check.specs.Branches.{unreached}
-use Rattle.drv_check.specs.LostMarks.{lost_marks}
+use Rattle.drv_check.specs.LostMarks.{lone_size, lost_marks}
 use Rattle.drv_check.specs.OwnTexts.{own_start, own_text, own_tree}
-use Rattle.drv_check.specs.declared.findings.Warning.TheVariants.{NeverTrue, QuotedWord, UnknownText}
+use Rattle.drv_check.specs.Points.{name_in}
+use Rattle.drv_check.specs.declared.findings.Warning.TheVariants.{NeverLanguage, NeverLibrary, NeverOutput, NeverTrue, QuotedWord}
+use Rattle.drv_check.specs.declared.findings.Warning.TheVariants.{UnknownText}
 use Rattle.drv_check.specs.declared.findings.Warning.{Warning}
 use Rattle.drv_check.specs.declared.warning.Mark.{Mark}
-use Rattle.drv_specs.specs.Blanks.{is_white}
+use Rattle.drv_specs.specs.Blanks.{has_byte, is_white}
 use Rattle.drv_specs.specs.Directives.{is_colon}
 use Rattle.drv_specs.specs.Sets.{Set, text_of}
 use Rattle.drv_syntax.specs.Labels.{Label, label_at}
@@ -42,21 +44,23 @@ is_quote (b ∷ word) = b == double_quote || b == single_quote
 abbrev pub quote_warning : Option ℕ → List ℕ → Option Warning
 quote_warning before word = if is_quote word && ends_before before then Some QuotedWord else None
 
--- a pattern that no switch has: -DX is the switch D with the argument X, and so are -U and -I
+-- A pattern that no switch has: -DX is the switch D with the argument X, and so are -U, -I and -o. -lX is a library and -xX a language, so
+-- no switch begins with l or x.
 
 -- whether a switch of this letter takes the rest of its word as argument: D, U and I
 abbrev pub takes_argument : ℕ → Bool
 takes_argument b = b == 68 || b == 85 || b == 73
 
--- whether a pattern names a switch with its argument, which no switch is called
-abbrev pub is_never : List ℕ → Bool
-is_never [] = false
-is_never (b ∷ []) = false
-is_never (b ∷ c ∷ word) = takes_argument b
+-- the warning on a pattern that begins with this letter and goes on: no switch is called so, if its argument would follow the letter
+abbrev pub joined_warning : ℕ → Option Warning
+joined_warning b = if takes_argument b then Some NeverTrue else if b == 111 then Some NeverOutput else None
 
--- the warning on a pattern that no switch has
+-- the warning on a pattern that no switch has: l is 108, and x is 120
 abbrev pub switch_warning : List ℕ → Option Warning
-switch_warning word = if is_never word then Some NeverTrue else None
+switch_warning [] = None
+switch_warning (b ∷ word) =
+    if b == 108 then Some NeverLibrary else if b == 120 then Some NeverLanguage
+    else if has_byte word then joined_warning b else None
 
 -- the warning on a test whose pattern no switch has: only a test of a switch has such a pattern
 abbrev pub test_warning : TestKind → List ℕ → Option Warning
@@ -92,11 +96,13 @@ tokens_marks set text items start n [] = []
 tokens_marks set text items start n (token ∷ tokens) =
     mark_at (start + token.start) (token_warning set text token (label_at items n)) ++ tokens_marks set text items start (n + 1) tokens
 
--- of a tree whose text begins at this byte of the piece: of its tokens, of marks that no word has, and of its branches
-abbrev pub tree_marks : Set → List ℕ → Items → ℕ → List Mark
-tree_marks set text items start =
-    tokens_marks set text items start 0 (tokens_of items) ++ lost_marks start None (tokens_of items) ++ unreached start items
+-- of a tree whose text has this name, if it has one, and begins at this byte of the piece: of its tokens, of marks that no word has, and of
+-- its branches
+abbrev pub tree_marks : Set → Option (List ℕ) → List ℕ → Items → ℕ → List Mark
+tree_marks set name text items start =
+    tokens_marks set text items start 0 (tokens_of items) ++ lost_marks (lone_size name text) start None (tokens_of items)
+    ++ unreached start items
 
 -- of the text that a piece gives, each at a byte of the piece
 abbrev pub own_marks : Set → List ℕ → List Mark
-own_marks set text = tree_marks set (own_text text) (own_tree text) (own_start text)
+own_marks set text = tree_marks set (name_in text) (own_text text) (own_tree text) (own_start text)

@@ -36,8 +36,14 @@ pub enum Warning {
     DirectiveInBody,
     /// A quote that begins a word, and is a byte of it.
     QuotedWord,
-    /// A pattern that no switch has, as those with an argument in the same word.
+    /// A pattern that no switch has, since `-DX` is the switch D with an argument, as `-U` and `-I`.
     NeverTrue,
+    /// The same of `-oX`, the switch o with an argument.
+    NeverOutput,
+    /// The same of `-lX`, a library and no switch.
+    NeverLibrary,
+    /// The same of `-xX`, a language and no switch.
+    NeverLanguage,
     /// The name of a text that isn't there.
     UnknownText,
     /// A pair whose key a later one of its file has.
@@ -47,6 +53,8 @@ pub enum Warning {
     Unreachable,
     /// A directive that marks a word, with white space on both sides, so that no word has the mark.
     LostMark,
+    /// The same in the text of a pair, which begins or ends on a side of it.
+    LostInPair,
     /// A text that no text works, and that neither the driver works itself nor gcc, where its names
     /// count.
     UnusedText,

@@ -1,9 +1,10 @@
 //! Directives that mark a word (`%d`, `%w`, `%s`, `%T`), where there is none.
 
-ghost use Rattle.drv_check.specs.LostMarks.{begins_space, ends_space, is_lost, is_mark, is_space, lost_mark};
-ghost use Rattle.drv_check.specs.LostMarks.{lost_marks};
+ghost use Rattle.drv_check.specs.LostMarks.{begins_space, begins_text, ends_space, ends_text, is_alone, is_between};
+ghost use Rattle.drv_check.specs.LostMarks.{is_mark, is_space, lone_size, lost_mark, lost_marks, lost_warning};
 ghost use Rattle.drv_syntax.specs.Parsed.{tree_of};
 ghost use Rattle.drv_syntax.specs.Tokens.{tokens_of};
+ghost use Rattle.std.specs.Option.{option_map};
 ghost use Rattle.std.specs.Prelude.{◌≡◌, ◌<◌, ◌^◌, ◌++◌, None, OnOk};
 
 use crate::findings::Warning;
@@ -51,49 +52,109 @@ fn begins_space(at: u32, tokens: &[Token]) -> bool
     }
 }
 
-/// Whether a token after this one and before those marks no word.
-fn is_lost(before: Option<Token>, token: Token, tokens: &[Token]) -> bool
-    ensures { result ≡ is_lost before token tokens.now }
+/// The size of a text that is run by itself: one without a name.
+pub(crate) fn lone_size(name: Option<&[u8]>, text: &[u8]) -> Option<usize>
+    ensures { result ≡ lone_size (option_map (λ name. name.now) name.entry) text.now }
 {
-    is_mark(token.kind) && ends_space(token.start, before) && begins_space(token.end, tokens)
+    match name {
+        Some(_) => None,
+        None => Some(text.len()),
+    }
 }
 
-/// Adds the warning of a token that marks no word.
+/// Whether a text of this size that is run by itself begins at this place.
+fn begins_text(size: Option<usize>, at: u32) -> bool
+    ensures { result ≡ begins_text size at }
+{
+    match size {
+        Some(_) => at == 0,
+        None => false,
+    }
+}
+
+/// Whether a text of this size that is run by itself ends at this place.
+fn ends_text(size: Option<usize>, at: u32) -> bool
+    ensures { result ≡ ends_text size at }
+{
+    match size {
+        Some(size) => at as usize == size,
+        None => false,
+    }
+}
+
+/// Whether white space is on both sides of a token.
+fn is_between(before: Option<Token>, token: Token, tokens: &[Token]) -> bool
+    ensures { result ≡ is_between before token tokens.now }
+{
+    ends_space(token.start, before) && begins_space(token.end, tokens)
+}
+
+/// Whether white space or an end of the text is on each side of a token.
+fn is_alone(size: Option<usize>, before: Option<Token>, token: Token, tokens: &[Token]) -> bool
+    ensures { result ≡ is_alone size before token tokens.now }
+{
+    (ends_space(token.start, before) || begins_text(size, token.start))
+        && (begins_space(token.end, tokens) || ends_text(size, token.end))
+}
+
+/// The warning of a token after one and before others, if it marks no word.
+fn lost_warning(
+    size: Option<usize>,
+    before: Option<Token>,
+    token: Token,
+    tokens: &[Token],
+) -> Option<Warning>
+    ensures { result ≡ lost_warning size before token tokens.now }
+{
+    if !is_mark(token.kind) {
+        None
+    } else if is_between(before, token, tokens) {
+        Some(Warning::LostMark)
+    } else if is_alone(size, before, token, tokens) {
+        Some(Warning::LostInPair)
+    } else {
+        None
+    }
+}
+
+/// Adds the warning of a token, if it has one.
 fn push_lost(
     marks: &mut Vec<Mark>,
     start: usize,
     token: Token,
-    lost: bool,
+    warning: Option<Warning>,
 ) -> Result<(), AllocError>
     requires { start < 2 ^ 63 }
-    ensures { OnOk result (marks.new.items ≡ marks.old.items ++ lost_mark start token lost) }
+    ensures { OnOk result (marks.new.items ≡ marks.old.items ++ lost_mark start token warning) }
 {
-    if lost {
-        marks.push(Mark {
+    match warning {
+        Some(warning) => marks.push(Mark {
             at: start + token.start as usize,
-            warning: Warning::LostMark,
-        })?;
+            warning,
+        })?,
+        None => (),
     }
     Ok(())
 }
 
-/// Adds the warnings of tokens that mark no word.
+/// Adds the warnings of tokens that mark no word. The text has this size if it is run by itself.
 #[tactic(auto, using(crate::proofs::Lost::lost_next))]
 pub(crate) fn push_all_lost(
     marks: &mut Vec<Mark>,
     tree: &SpecTree,
+    size: Option<usize>,
     start: usize,
 ) -> Result<(), AllocError>
     requires { start < 2 ^ 63 }
     ensures { OnOk result
         (marks.new.items ≡ marks.old.items
-        ++ lost_marks start None (tokens_of (tree_of tree.now))) }
+        ++ lost_marks size start None (tokens_of (tree_of tree.now))) }
 {
     let mut before = None;
     let mut left = tree.tokens();
     while let [token, rest @ ..] = left {
-        let lost = is_lost(before, *token, rest);
-        push_lost(marks, start, *token, lost)?;
+        let warning = lost_warning(size, before, *token, rest);
+        push_lost(marks, start, *token, warning)?;
         before = Some(*token);
         left = rest;
     }

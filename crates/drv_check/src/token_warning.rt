@@ -1,6 +1,8 @@
 //! What is surely not meant in the tokens of a text.
 
-ghost use Rattle.drv_check.specs.TokenWarnings.{byte_before, ends_before, is_never, is_quote, name_warning, own_marks};
+ghost use Rattle.drv_check.specs.OwnTexts.{own_start};
+ghost use Rattle.drv_check.specs.Points.{name_in};
+ghost use Rattle.drv_check.specs.TokenWarnings.{byte_before, ends_before, is_quote, joined_warning, name_warning, own_marks};
 ghost use Rattle.drv_check.specs.TokenWarnings.{mark_at, quote_warning, switch_warning, takes_argument, test_warning};
 ghost use Rattle.drv_check.specs.TokenWarnings.{token_warning, tokens_marks, tree_marks, warning_of};
 ghost use Rattle.drv_specs.specs.Blanks.{is_white};
@@ -14,8 +16,9 @@ ghost use Rattle.std.specs.Prelude.{◌≡◌, ◌<◌, ◌^◌, ◌++◌, OnOk,
 use crate::branches::push_choices;
 use crate::bytes::is_white;
 use crate::findings::Warning;
-use crate::lost_marks::push_all_lost;
+use crate::lost_marks::{lone_size, push_all_lost};
 use crate::own_text::{own_start, own_tree};
+use crate::pointing::name_in;
 use crate::warning::Mark;
 use drv_specs::SpecSet;
 use drv_syntax::{SpecTree, TestKind, Token, TokenKind};
@@ -74,13 +77,16 @@ fn takes_argument(byte: u8) -> bool
     byte == b'D' || byte == b'U' || byte == b'I'
 }
 
-/// Whether no switch has such a name.
-fn is_never(word: &[u8]) -> bool
-    ensures { result ≡ is_never word.now }
+/// The warning of a pattern that begins with this letter and goes on.
+fn joined_warning(letter: u8) -> Option<Warning>
+    ensures { result ≡ joined_warning letter }
 {
-    match word {
-        [first, _, ..] => takes_argument(*first),
-        _ => false,
+    if takes_argument(letter) {
+        Some(Warning::NeverTrue)
+    } else if letter == b'o' {
+        Some(Warning::NeverOutput)
+    } else {
+        None
     }
 }
 
@@ -88,10 +94,11 @@ fn is_never(word: &[u8]) -> bool
 fn switch_warning(word: &[u8]) -> Option<Warning>
     ensures { result ≡ switch_warning word.now }
 {
-    if is_never(word) {
-        Some(Warning::NeverTrue)
-    } else {
-        None
+    match word {
+        [b'l', ..] => Some(Warning::NeverLibrary),
+        [b'x', ..] => Some(Warning::NeverLanguage),
+        [letter, _, ..] => joined_warning(*letter),
+        _ => None,
     }
 }
 
@@ -168,20 +175,21 @@ fn push_tree(
     Ok(())
 }
 
-/// Adds the warnings of a tree and its choices, whose text begins at this byte of the piece.
+/// Adds the warnings of a tree and its choices, whose text is that of a piece.
 fn push_whole(
     alloc: Global,
     marks: &mut Vec<Mark>,
     set: &SpecSet,
     tree: &SpecTree,
-    start: usize,
+    text: &[u8],
 ) -> Result<(), AllocError>
-    requires { start < 2 ^ 63 }
     ensures { OnOk result
-        (marks.new.items ≡ marks.old.items ++ tree_marks set.now tree.now (tree_of tree.now) start) }
+        (marks.new.items ≡ marks.old.items
+        ++ tree_marks set.now (name_in text.now) tree.now (tree_of tree.now) (own_start text.now)) }
 {
+    let start = own_start(text);
     push_tree(marks, set, tree, start)?;
-    push_all_lost(marks, tree, start)?;
+    push_all_lost(marks, tree, lone_size(name_in(text), tree.text()), start)?;
     push_choices(alloc, marks, tree, start)
 }
 
@@ -196,7 +204,7 @@ pub(crate) fn push_own(
     ensures { OnOk result (marks.new.items ≡ marks.old.items ++ own_marks set.now text.now) }
 {
     match own_tree(alloc, text)? {
-        Some(tree) => push_whole(alloc, marks, set, &tree, own_start(text)),
+        Some(tree) => push_whole(alloc, marks, set, &tree, text),
         None => Ok(()),
     }
 }

@@ -1,5 +1,6 @@
-use Rattle.drv_check.specs.declared.findings.Warning.TheVariants.{AppendToNothing, DirectiveInBody, HiddenPair, LostMark, NeverTrue}
-use Rattle.drv_check.specs.declared.findings.Warning.TheVariants.{QuotedWord, UnknownText, Unreachable, UnusedText}
+use Rattle.drv_check.specs.declared.findings.Warning.TheVariants.{AppendToNothing, DirectiveInBody, HiddenPair, LostInPair, LostMark}
+use Rattle.drv_check.specs.declared.findings.Warning.TheVariants.{NeverLanguage, NeverLibrary, NeverOutput, NeverTrue, QuotedWord}
+use Rattle.drv_check.specs.declared.findings.Warning.TheVariants.{UnknownText, Unreachable, UnusedText}
 use Rattle.drv_check.specs.declared.findings.Warning.{Warning}
 use Rattle.std.specs.Cmp.Lexicographic.{pointwise}
 use Rattle.std.specs.Prelude.{◌||◌, ◌++◌, Bool, List, codes, nat_eq, ℕ}
@@ -13,10 +14,14 @@ warning_name AppendToNothing = codes "append-to-nothing"
 warning_name DirectiveInBody = codes "directive-in-body"
 warning_name QuotedWord = codes "quoted-word"
 warning_name NeverTrue = codes "never-true"
+warning_name NeverOutput = codes "never-true"
+warning_name NeverLibrary = codes "never-true"
+warning_name NeverLanguage = codes "never-true"
 warning_name UnknownText = codes "unknown-text"
 warning_name HiddenPair = codes "hidden-pair"
 warning_name Unreachable = codes "unreachable"
 warning_name LostMark = codes "lost-mark"
+warning_name LostInPair = codes "lost-mark"
 warning_name UnusedText = codes "unused-text"
 
 -- what a warning says
@@ -25,10 +30,14 @@ warning_words AppendToNothing = codes "there is no text to append to"
 warning_words DirectiveInBody = codes "this line belongs to the text above it, as no line before it is empty"
 warning_words QuotedWord = codes "this quote is a byte of the word, as texts have no quotes"
 warning_words NeverTrue = codes "no switch has this name, as -DX is the switch D with the argument X"
+warning_words NeverOutput = codes "no switch has this name, as -oX is the switch o with the argument X"
+warning_words NeverLibrary = codes "no switch has this name, as -lX is a library"
+warning_words NeverLanguage = codes "no switch has this name, as -xX is a language"
 warning_words UnknownText = codes "there is no text of this name"
 warning_words HiddenPair = codes "a later pair of this file has the same key, and it is the one that counts"
 warning_words Unreachable = codes "no line reaches this branch, as an earlier one is taken in its place"
 warning_words LostMark = codes "this marks no word, as white space is on both sides"
+warning_words LostInPair = codes "this marks no word, as the text of a pair begins or ends beside it"
 warning_words UnusedText = codes "no text names this one, and nothing else runs it"
 
 -- what a warning says, with its name

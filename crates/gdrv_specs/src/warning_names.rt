@@ -16,11 +16,14 @@ fn warning_name(warning: Warning) -> &'static [u8]
         Warning::AppendToNothing => b"append-to-nothing",
         Warning::DirectiveInBody => b"directive-in-body",
         Warning::QuotedWord => b"quoted-word",
-        Warning::NeverTrue => b"never-true",
+        Warning::NeverTrue
+        | Warning::NeverOutput
+        | Warning::NeverLibrary
+        | Warning::NeverLanguage => b"never-true",
         Warning::UnknownText => b"unknown-text",
         Warning::HiddenPair => b"hidden-pair",
         Warning::Unreachable => b"unreachable",
-        Warning::LostMark => b"lost-mark",
+        Warning::LostMark | Warning::LostInPair => b"lost-mark",
         Warning::UnusedText => b"unused-text",
     }
 }
@@ -37,6 +40,10 @@ fn warning_words(warning: Warning) -> &'static [u8]
         Warning::QuotedWord => b"this quote is a byte of the word, as texts have no quotes",
         Warning::NeverTrue =>
             b"no switch has this name, as -DX is the switch D with the argument X",
+        Warning::NeverOutput =>
+            b"no switch has this name, as -oX is the switch o with the argument X",
+        Warning::NeverLibrary => b"no switch has this name, as -lX is a library",
+        Warning::NeverLanguage => b"no switch has this name, as -xX is a language",
         Warning::UnknownText => b"there is no text of this name",
         Warning::HiddenPair => {
             b"a later pair of this file has the same key, and it is the one that counts"
@@ -45,6 +52,9 @@ fn warning_words(warning: Warning) -> &'static [u8]
             b"no line reaches this branch, as an earlier one is taken in its place"
         }
         Warning::LostMark => b"this marks no word, as white space is on both sides",
+        Warning::LostInPair => {
+            b"this marks no word, as the text of a pair begins or ends beside it"
+        }
         Warning::UnusedText => b"no text names this one, and nothing else runs it",
     }
 }

@@ -8,7 +8,8 @@ use Rattle.std.proofs.Common.{◌≡◌, ◌++◌, None, length}
 
 abbrev pub invariant-loop-left : goal.invariant-loop-left
 invariant-loop-left l =
-    l.marks.items ++ lost_marks l.start l.before l.left ≡ l.fn.marks.items ++ lost_marks l.start None (tokens_of (tree_of l.tree))
+    l.marks.items ++ lost_marks l.size l.start l.before l.left
+    ≡ l.fn.marks.items ++ lost_marks l.size l.start None (tokens_of (tree_of l.tree))
 
 abbrev pub decreases-loop-left : goal.decreases-loop-left
 decreases-loop-left l = length l.left
