@@ -71,7 +71,7 @@ fn push_own(spots: &mut Vec<Spot>, piece: &LoadedPiece) -> Result<(), AllocError
     ensures { OnOk result (spots.new.items ≡ spots.old.items ++ reverse (own_spots piece.now)) }
 {
     let mut left = piece.places.as_slice();
-    while let [before @ .., place] = left {
+    while let Some((place, before)) = left.split_last() {
         spots.push(Spot {
             source: piece.spot.source,
             at: *place,
@@ -95,7 +95,7 @@ fn latest_spots(
     let mut spots = Vec::with_capacity(alloc, size)?;
     let mut head = Word::from_bytes(alloc, head)?;
     let mut left = pieces;
-    while let [earlier @ .., piece] = left {
+    while let Some((piece, earlier)) = left.split_last() {
         if puts_head(head.as_bytes(), piece) {
             push_own(&mut spots, piece)?;
             if !piece.adds {

@@ -4,9 +4,9 @@ use Rattle.std.proofs.Common.{◌≡◌, ◌++◌, length, reverse}
 
 -- The loops of latest_spots (src/origins.rt). The spots of a head's text after directives, the last one first.
 
-abbrev pub invariant-loop-left : goal.invariant-loop-left
-invariant-loop-left l =
+abbrev pub invariant-loop-piece : goal.invariant-loop-piece
+invariant-loop-piece l =
     spots_after l.head (reverse l.left) ++ reverse l.spots.items ≡ spots_after l.fn.head (reverse l.pieces)
 
-abbrev pub decreases-loop-left : goal.decreases-loop-left
-decreases-loop-left l = length l.left
+abbrev pub decreases-loop-piece : goal.decreases-loop-piece
+decreases-loop-piece l = length l.left
