@@ -1,15 +1,13 @@
-use Rattle.drv_forms.specs.Difference.{edit_text, edits_text, word_line, words_of}
-use Rattle.drv_forms.specs.Edits.{Comes, Edit, Goes, Makes, command_edits, comes, edits, edits_from, ends, goes, goes_first, place_of}
-use Rattle.drv_forms.specs.Edits.{program_edits}
+use Rattle.drv_forms.specs.Difference.{words_of}
+use Rattle.drv_forms.specs.Edits.{Comes, Edit, Makes, command_edits, comes, edits, edits_from, ends, goes, goes_first, place_of}
 use Rattle.drv_forms.specs.Edits.{stays}
-use Rattle.drv_words.specs.Bytes as byte
 use Rattle.drv_words.specs.declared.plan.Command.{Command}
-use Rattle.std.proofs.Common.{◌≡◌, ◌∙◌, Bool, false, true, List, [], ◌∷◌, ◌++◌, ap, append_assoc, map, nat_eq, refl, subst, sym, ℕ}
+use Rattle.std.proofs.Common.{◌≡◌, Bool, false, true, List, [], ◌∷◌, map, nat_eq, refl, subst, sym, ℕ}
 use Rattle.std.specs.Cmp.Lexicographic.{pointwise, same_text}
 
--- For `edits_make` and `push_edits` (src/editing.rt): the edits of two commands make the words of the one those of the other.
+-- For `edits_make_the_words` (src/laws.rt): the edits of two commands make the words of the one those of the other.
 -- Names: `word` and `other` are the next words of two lists, `words` and `others` those behind them. `t`, `u`: a test's value, so that `by`
--- can go by both cases. `text` and `all` are what is printed before a step, and the whole.
+-- can go by both cases.
 
 -- all words come where there were none
 comes_all : (others : List (List ℕ)) → Makes [] (map Comes others) others

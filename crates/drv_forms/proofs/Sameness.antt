@@ -9,7 +9,7 @@ use Rattle.drv_words.specs.declared.plan.PlanLine.{PlanLine}
 use Rattle.std.proofs.Common.{◌≡◌, ◌∙◌, Bool, false, true, List, [], ◌∷◌, ◌++◌, ap, append-nil, nat_eq, refl, sym}
 use Rattle.std.specs.Cmp.Lexicographic.{pointwise, same_text}
 
--- For `no_difference` (src/comparing.rt): nothing is printed of two plans only if their commands are the same.
+-- For `no_difference_is_same` (src/laws.rt): nothing is printed of two plans only if their commands are the same.
 -- Names: `line` and `other` are lines of the two plans at one place, `lines` and `others` those behind them. `t`: a test's value, so that
 -- `by` can go by both cases.
 
