@@ -113,7 +113,8 @@ fn takes_argument(name: &[u8]) -> bool
     name.ends_with(b"=".as_slice())
 }
 
-/// Whether a name has a mark at its end, which says what arguments it takes, or that gcc refuses it.
+/// Whether a name of `X.options` ends with a mark: `NAME=#` takes a number, `NAME=?` only the values
+/// that are listed, and gcc refuses `NAME?`.
 fn is_marked(name: &[u8]) -> bool
     ensures { result ≡ is_marked name.now }
 {
