@@ -188,6 +188,7 @@ fn push_whole(
         ++ tree_marks set.now (name_in text.now) tree.now (tree_of tree.now) (own_start text.now)) }
 {
     let start = own_start(text);
+    prove!(start < 1 << 63);
     push_tree(marks, set, tree, start)?;
     push_all_lost(marks, tree, lone_size(name_in(text), tree.text()), start)?;
     push_choices(alloc, marks, tree, start)
