@@ -2,6 +2,7 @@ mod Calls
 mod Differences
 mod FilesChecked
 mod LineNames
+mod Noted
 mod Outcomes
 mod Plans
 mod Reasons

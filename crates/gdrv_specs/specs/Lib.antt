@@ -4,6 +4,7 @@ pub mod Code
 pub mod Databases
 pub mod Differences
 pub mod Forms
+pub mod Notes
 pub mod Outcomes
 pub mod Plans
 pub mod Reasons

@@ -35,7 +35,11 @@ pub struct Comparison {
 }
 
 /// A line with one more spec file before its words.
-fn with_specs(alloc: Global, path: &Word, line: &[Word]) -> Result<Listing<Word>, AllocError>
+pub(crate) fn with_specs(
+    alloc: Global,
+    path: &Word,
+    line: &[Word],
+) -> Result<Listing<Word>, AllocError>
     ensures { IfOk result (λ words. words ≡ with_specs path.now line.now) }
 {
     let mut option = Word::from_bytes(alloc, b"-specs=")?;

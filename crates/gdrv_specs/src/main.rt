@@ -13,6 +13,7 @@ mod differing;
 mod explaining;
 mod forms;
 mod help;
+mod noting;
 mod outcome;
 mod planning;
 mod requesting;
@@ -27,13 +28,14 @@ use calling::{Call, call_of};
 use checks::tell_check;
 use databases::tell_database;
 use differing::{Comparison, tell_difference};
-use drv_run::Ending;
-use drv_system::{HostSystem, Reporter, arguments, clock_seed, complain};
+use drv_run::{Ending, Refusal};
+use drv_system::{Event, HostSystem, Reporter, System, arguments, clock_seed, complain};
 use drv_why::Report;
 use drv_words::{Listing, Word};
 use explaining::tell_why;
 use forms::Form;
 use help::Question;
+use noting::call_note;
 use outcome::Outcome;
 use planning::tell_plan;
 use requesting::Request;
@@ -87,10 +89,14 @@ fn answer(rt: &HostRuntime, asked: Question) -> Outcome {
 }
 
 /// Tells the plan of a line to this process's user.
-fn tell(rt: &HostRuntime, form: &Form, line: Listing<Word>) -> Result<Outcome, AllocError> {
+fn tell(
+    rt: &HostRuntime,
+    sys: &mut HostSystem,
+    form: &Form,
+    line: Listing<Word>,
+) -> Result<Outcome, AllocError> {
     let seed = clock_seed(rt)?;
-    let mut sys = HostSystem::new(rt.clone()?, Reporter::Gdrv);
-    Ok(tell_plan(rt.alloc(), &mut sys, form, line, seed))
+    Ok(tell_plan(rt.alloc(), sys, form, line, seed))
 }
 
 /// The working directory of this process, or `.` where nothing names it.
@@ -103,57 +109,57 @@ fn working_directory(rt: &HostRuntime) -> Result<Word, AllocError> {
 }
 
 /// Tells the compilation database of a line to this process's user.
-fn tell_sources(rt: &HostRuntime, line: Listing<Word>) -> Result<Outcome, AllocError> {
+fn tell_sources(
+    rt: &HostRuntime,
+    sys: &mut HostSystem,
+    line: Listing<Word>,
+) -> Result<Outcome, AllocError> {
     let seed = clock_seed(rt)?;
     let directory = working_directory(rt)?;
-    let mut sys = HostSystem::new(rt.clone()?, Reporter::Gdrv);
-    Ok(tell_database(rt.alloc(), &mut sys, directory, line, seed))
+    Ok(tell_database(rt.alloc(), sys, directory, line, seed))
 }
 
 /// Tells the run of a line to this process's user.
-fn tell_run(rt: &HostRuntime, given: &[Word], line: Listing<Word>) -> Result<Outcome, AllocError> {
+fn tell_run(
+    rt: &HostRuntime,
+    sys: &mut HostSystem,
+    given: &[Word],
+    line: Listing<Word>,
+) -> Result<Outcome, AllocError> {
     let seed = clock_seed(rt)?;
-    let mut sys = HostSystem::new(rt.clone()?, Reporter::Gdrv);
-    Ok(tell_after(rt.alloc(), &mut sys, given, line, seed))
-}
-
-/// Translates a dump for this process's user.
-fn translate(rt: &HostRuntime, path: Word) -> Result<Outcome, AllocError> {
-    let mut sys = HostSystem::new(rt.clone()?, Reporter::Gdrv);
-    Ok(translate_file(rt.alloc(), &mut sys, path))
+    Ok(tell_after(rt.alloc(), sys, given, line, seed))
 }
 
 /// Tells the difference of two plans to this process's user.
-fn compare(rt: &HostRuntime, comparison: &Comparison) -> Result<Outcome, AllocError> {
+fn compare(
+    rt: &HostRuntime,
+    sys: &mut HostSystem,
+    comparison: &Comparison,
+) -> Result<Outcome, AllocError> {
     let seed = clock_seed(rt)?;
-    let mut sys = HostSystem::new(rt.clone()?, Reporter::Gdrv);
-    Ok(tell_difference(rt.alloc(), &mut sys, comparison, seed))
+    Ok(tell_difference(rt.alloc(), sys, comparison, seed))
 }
 
 /// Tells what each part of a line changes to this process's user.
-fn explain(rt: &HostRuntime, report: Report, line: &[Word]) -> Result<Outcome, AllocError> {
+fn explain(
+    rt: &HostRuntime,
+    sys: &mut HostSystem,
+    report: Report,
+    line: &[Word],
+) -> Result<Outcome, AllocError> {
     let seed = clock_seed(rt)?;
-    let mut sys = HostSystem::new(rt.clone()?, Reporter::Gdrv);
-    Ok(tell_why(rt.alloc(), &mut sys, report, line, seed))
-}
-
-/// Tells what becomes of the switches of a line to this process's user.
-fn follow(rt: &HostRuntime, report: Report, line: Listing<Word>) -> Result<Outcome, AllocError> {
-    let mut sys = HostSystem::new(rt.clone()?, Reporter::Gdrv);
-    Ok(tell_switches(rt.alloc(), &mut sys, report, line))
+    Ok(tell_why(rt.alloc(), sys, report, line, seed))
 }
 
 /// Tells where the words of a line's plan are from to this process's user.
-fn trace(rt: &HostRuntime, view: View, line: Listing<Word>) -> Result<Outcome, AllocError> {
+fn trace(
+    rt: &HostRuntime,
+    sys: &mut HostSystem,
+    view: View,
+    line: Listing<Word>,
+) -> Result<Outcome, AllocError> {
     let seed = clock_seed(rt)?;
-    let mut sys = HostSystem::new(rt.clone()?, Reporter::Gdrv);
-    Ok(tell_words(rt.alloc(), &mut sys, view, line, seed))
-}
-
-/// Checks spec files for this process's user.
-fn check(rt: &HostRuntime, request: &Request) -> Result<Outcome, AllocError> {
-    let mut sys = HostSystem::new(rt.clone()?, Reporter::Gdrv);
-    Ok(tell_check(rt.alloc(), &mut sys, request))
+    Ok(tell_words(rt.alloc(), sys, view, line, seed))
 }
 
 /// The outcome of a text, for which memory may have lacked first.
@@ -165,32 +171,61 @@ fn outcome_or_lack(outcome: Result<Outcome, AllocError>) -> Outcome {
 }
 
 /// Does what a call asks for.
-fn act(rt: &HostRuntime, call: Call) -> Outcome {
+fn act(rt: &HostRuntime, sys: &mut HostSystem, call: Call) -> Outcome {
     match call {
         Call::Ask(asked) => answer(rt, asked),
-        Call::Plan { form, line } => outcome_or_lack(tell(rt, &form, line)),
-        Call::Database(line) => outcome_or_lack(tell_sources(rt, line)),
-        Call::After { given, line } => outcome_or_lack(tell_run(rt, given.as_slice(), line)),
-        Call::Translate(path) => outcome_or_lack(translate(rt, path)),
-        Call::Differ(comparison) => outcome_or_lack(compare(rt, &comparison)),
-        Call::Check(request) => outcome_or_lack(check(rt, &request)),
-        Call::Parts { report, line } => outcome_or_lack(explain(rt, report, line.as_slice())),
-        Call::Switches { report, line } => outcome_or_lack(follow(rt, report, line)),
-        Call::Trace { view, line } => outcome_or_lack(trace(rt, view, line)),
+        Call::Plan { form, line } => outcome_or_lack(tell(rt, sys, &form, line)),
+        Call::Database(line) => outcome_or_lack(tell_sources(rt, sys, line)),
+        Call::After { given, line } => outcome_or_lack(tell_run(rt, sys, given.as_slice(), line)),
+        Call::Translate(path) => translate_file(rt.alloc(), sys, path),
+        Call::Differ(comparison) => outcome_or_lack(compare(rt, sys, &comparison)),
+        Call::Check(request) => tell_check(rt.alloc(), sys, &request),
+        Call::Parts { report, line } => outcome_or_lack(explain(rt, sys, report, line.as_slice())),
+        Call::Switches { report, line } => tell_switches(rt.alloc(), sys, report, line),
+        Call::Trace { view, line } => outcome_or_lack(trace(rt, sys, view, line)),
     }
 }
 
 /// What the arguments of this process ask for.
-fn whole(rt: &HostRuntime, args: Listing<Word>) -> Outcome {
+fn whole(rt: &HostRuntime, sys: &mut HostSystem, args: Listing<Word>) -> Outcome {
     match call_of(rt.alloc(), args) {
-        Ok(call) => act(rt, call),
+        Ok(call) => act(rt, sys, call),
         Err(fault) => Outcome::Misused(fault),
     }
 }
 
+/// After the refusal of a spec file says where its fault is, by the events of the call.
+fn tell_place(rt: &HostRuntime, outcome: &Outcome, journal: &[Event]) {
+    if !matches!(outcome, Outcome::Ended(Ending::Refused(Refusal::Specs(_)))) {
+        return;
+    }
+    let Ok(args) = arguments(rt) else {
+        return;
+    };
+    let Ok(call) = call_of(rt.alloc(), args) else {
+        return;
+    };
+    if let Ok(note) = call_note(rt.alloc(), &call, journal) {
+        complain(rt, note.as_bytes());
+    }
+}
+
+/// Does what the arguments of this process ask for, and tells the user how it ended.
+fn run(rt: &HostRuntime, args: Listing<Word>) -> Result<ExitCode, AllocError> {
+    let mut sys = HostSystem::new(rt.clone()?, Reporter::Gdrv);
+    let outcome = whole(rt, &mut sys, args);
+    let status = finish(rt, &outcome);
+    tell_place(rt, &outcome, sys.journal());
+    Ok(status)
+}
+
 fn main(rt: HostRuntime) -> ExitCode {
-    match arguments(&rt) {
-        Ok(args) => finish(&rt, &whole(&rt, args)),
-        Err(e) => without_arguments(&rt, &e),
+    let args = match arguments(&rt) {
+        Ok(args) => args,
+        Err(e) => return without_arguments(&rt, &e),
+    };
+    match run(&rt, args) {
+        Ok(status) => status,
+        Err(_) => finish(&rt, &Outcome::Ended(Ending::OutOfMemory)),
     }
 }

@@ -1,0 +1,176 @@
+//! What is said after a refusal: where in a spec file its fault is.
+
+// In clauses: `Extends F G` says that G has every answer of F. `Asks` says that a call only asked,
+// and that the table has the answers.
+ghost use Rattle.drv_system.specs.Asking.{Asks, Extends};
+ghost use Rattle.drv_system.specs.Facts.{Facts};
+ghost use Rattle.gdrv_specs.specs.Notes.{NotesLine, NotesPlace, file_found, file_read};
+ghost use Rattle.gdrv_specs.specs.Notes.{folders_in, script_in, variables_in};
+ghost use Rattle.std.specs.List.{flat_map};
+ghost use Rattle.std.specs.Prelude.{◌≡◌, ◌++◌, IfOk, OnOk};
+
+use crate::calling::Call;
+use crate::differing::{Comparison, with_specs};
+use drv_args::Settings;
+use drv_check::{SpecFiles, fault_note};
+use drv_run::{Ending, line_of_call};
+use drv_specs::builtin;
+use drv_system::{Event, FactTable, PathKind, ReadAnswer, ScriptSystem, System};
+use drv_words::{Listing, Word};
+use std::alloc::{AllocError, Global};
+
+/// Where the spec files of these settings are refused, as a note.
+fn settings_note<S: System>(
+    alloc: Global,
+    settings: &Settings,
+    sys: &mut S,
+    facts: &mut FactTable,
+) -> Result<Word, AllocError>
+    ensures asks { Asks (S.events sys.old) (S.events sys.new) facts.old facts.new }
+    ensures note { (F : Facts) → Extends facts.new F
+        → IfOk result (λ note. NotesPlace F settings.now note) }
+{
+    let set = builtin(alloc)?;
+    let folders = settings.prefixes.as_slice();
+    let names = settings.specs.as_slice();
+    fault_note(alloc, set, &SpecFiles { folders, names }, sys, facts)
+}
+
+/// Where the spec files of a line of the driver are refused, as a note: the place of the fault in
+/// its file. It asks the system only where the table has no answer.
+///
+/// # Errors
+/// Why the words are no line, or lack of memory.
+#[tactic(auto, using(drv_system::proofs::Asking::asks_then))]
+pub fn line_note<S: System>(
+    alloc: Global,
+    args: Listing<Word>,
+    sys: &mut S,
+    facts: &mut FactTable,
+) -> Result<Word, Ending>
+    ensures asks { Asks (S.events sys.old) (S.events sys.new) facts.old facts.new }
+    ensures note { (F : Facts) → Extends facts.new F
+        → IfOk result (λ note. NotesLine F args note) }
+{
+    let line = line_of_call(alloc, args, sys, facts)?;
+    let note = settings_note(alloc, &line.settings, sys, facts)?;
+    Ok(note)
+}
+
+/// Adds the files that were read: those that could not be read have no bytes.
+fn push_reads(
+    files: &mut Listing<(Word, Option<Word>)>,
+    journal: &[Event],
+) -> Result<(), AllocError>
+    ensures { OnOk result (files.new ≡ files.old ++ flat_map file_read journal.now) }
+{
+    for event in journal {
+        match event {
+            Event::Read(path, ReadAnswer::Read(bytes)) => {
+                files.push((path.clone()?, Some(bytes.clone()?)))?;
+            }
+            Event::Read(path, ReadAnswer::Failed | ReadAnswer::TooLarge) => {
+                files.push((path.clone()?, None))?;
+            }
+            _ => {}
+        }
+    }
+    Ok(())
+}
+
+/// Adds the files that were found.
+fn push_plain(
+    files: &mut Listing<(Word, Option<Word>)>,
+    journal: &[Event],
+) -> Result<(), AllocError>
+    ensures { OnOk result (files.new ≡ files.old ++ flat_map file_found journal.now) }
+{
+    for event in journal {
+        if let Event::Kind(path, PathKind::Plain) = event {
+            files.push((path.clone()?, None))?;
+        }
+    }
+    Ok(())
+}
+
+/// The folders that were found.
+fn folders_in(alloc: Global, journal: &[Event]) -> Result<Listing<Word>, AllocError>
+    ensures { IfOk result (λ folders. folders ≡ folders_in journal.now) }
+{
+    let mut folders = Listing::new(alloc);
+    for event in journal {
+        if let Event::Kind(path, PathKind::Dir) = event {
+            folders.push(path.clone()?)?;
+        }
+    }
+    Ok(folders)
+}
+
+/// The variables that were set, with their values.
+fn variables_in(alloc: Global, journal: &[Event]) -> Result<Listing<(Word, Word)>, AllocError>
+    ensures { IfOk result (λ variables. variables ≡ variables_in journal.now) }
+{
+    let mut variables = Listing::new(alloc);
+    for event in journal {
+        if let Event::Variable(name, Some(value)) = event {
+            variables.push((name.clone()?, value.clone()?))?;
+        }
+    }
+    Ok(variables)
+}
+
+/// A system that answers as these events say.
+fn system_of(alloc: Global, journal: &[Event]) -> Result<ScriptSystem, AllocError>
+    ensures { IfOk result (λ sys. sys.script ≡ script_in journal.now) }
+{
+    let mut files = Listing::new(alloc);
+    push_reads(&mut files, journal)?;
+    push_plain(&mut files, journal)?;
+    let folders = folders_in(alloc, journal)?;
+    let variables = variables_in(alloc, journal)?;
+    Ok(ScriptSystem::new(alloc, files, folders, variables, Listing::new(alloc)))
+}
+
+/// Adds the line with the first of two files, and that with the second.
+fn push_compared(
+    alloc: Global,
+    lines: &mut Vec<Listing<Word>>,
+    comparison: &Comparison,
+) -> Result<(), AllocError> {
+    let line = comparison.line.as_slice();
+    lines.push(with_specs(alloc, &comparison.first, line)?)?;
+    lines.push(with_specs(alloc, &comparison.second, line)?)?;
+    Ok(())
+}
+
+/// The lines that a call plans, one after another.
+fn lines_of(alloc: Global, call: &Call) -> Result<Vec<Listing<Word>>, AllocError> {
+    let mut lines = Vec::new(alloc);
+    match call {
+        Call::Plan { line, .. } => lines.push(line.clone()?)?,
+        Call::Database(line) => lines.push(line.clone()?)?,
+        Call::After { line, .. } => lines.push(line.clone()?)?,
+        Call::Parts { line, .. } => lines.push(line.clone()?)?,
+        Call::Switches { line, .. } => lines.push(line.clone()?)?,
+        Call::Trace { line, .. } => lines.push(line.clone()?)?,
+        Call::Differ(comparison) => push_compared(alloc, &mut lines, comparison)?,
+        Call::Ask(_) | Call::Translate(_) | Call::Check(_) => {}
+    }
+    Ok(lines)
+}
+
+/// The note after a call that ended by the refusal of a spec file, by the answers of its events
+/// alone: no file is read again.
+///
+/// # Errors
+/// Why the words are no line, or lack of memory.
+pub fn call_note(alloc: Global, call: &Call, journal: &[Event]) -> Result<Word, Ending> {
+    for line in lines_of(alloc, call)? {
+        let sys = &mut system_of(alloc, journal)?;
+        let note = line_note(alloc, line, sys, &mut FactTable::new(alloc))?;
+        if !note.is_empty() {
+            return Ok(note);
+        }
+    }
+    Ok(Word::empty(alloc))
+}
