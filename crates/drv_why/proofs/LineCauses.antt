@@ -2,7 +2,6 @@ use Rattle.drv_args.specs.declared.line.Input.{Input}
 use Rattle.drv_args.specs.declared.line.Line.{Line}
 use Rattle.drv_args.specs.declared.line.Switch.{Switch}
 use Rattle.drv_check.specs.declared.marking.MarkedPart.{MarkedPart}
-use Rattle.drv_match.specs.Matching.{is_named}
 use Rattle.drv_match.specs.Pattern.{Pattern}
 use Rattle.drv_syntax.specs.Labels.{label_at}
 use Rattle.drv_syntax.specs.Outcome.{parsed}
@@ -10,25 +9,22 @@ use Rattle.drv_syntax.specs.Parsed.{tree_in, tree_of}
 use Rattle.drv_syntax.specs.Tree.{Items, none}
 use Rattle.drv_syntax.specs.declared.fault.SyntaxFault.{SyntaxFault}
 use Rattle.drv_syntax.specs.declared.token.Token.{Token}
-use Rattle.drv_why.proofs.SwitchFates.{unlike_begun}
-use Rattle.drv_why.specs.Causes.{Case, behind_groups, case_at, caused, causes_of, input_at, input_word, makers, number_told, word_of_input}
+use Rattle.drv_why.specs.Causes.{Case, all_caused, behind_groups, case_at, caused, causes_of, input_at, input_word, makers, number_told, word_of_input}
 use Rattle.drv_why.specs.Causes.{numbers_told, outer_of, outers_from, outers_of, source_of, token_told, tokens_told, tree_told}
-use Rattle.drv_why.specs.Code.Beginning.{begin_alike}
-use Rattle.drv_why.specs.Taken.{fits, is_taken, is_this, with_name, with_names, with_switches}
+use Rattle.drv_why.specs.Taken.{is_taken, is_this, with_name, with_names, with_option, with_switches}
 use Rattle.drv_why.specs.declared.outers.Outer.{Outer}
 use Rattle.drv_why.specs.declared.telling.Telling.{Telling}
 use Rattle.drv_why.specs.declared.traces.Trace.{Trace}
-use Rattle.drv_words.specs.Bytes.{hyphen}
 use Rattle.drv_words.specs.declared.plan.Command.{Command}
 use Rattle.drv_words.specs.declared.plan.Job.{Job}
-use Rattle.std.proofs.Common.{◌≡◌, ◌∙◌, ◌<◌, ◌≤◌, ◌+◌, ◌-◌, ◌&&◌, ◌∷◌, ◌++◌, Bool, Err, List, None, Option, Some, [], ap, append_assoc}
+use Rattle.std.proofs.Common.{◌≡◌, ◌∙◌, ◌<◌, ◌≤◌, ◌+◌, ◌-◌, ◌∷◌, ◌++◌, Bool, Err, List, None, Option, Some, [], ap, append_assoc}
 use Rattle.std.proofs.Common.{arith, drop, false, length, refl, sym, true, ℕ}
 use Rattle.std.proofs.lemmas.Bool.Decides.{Decides-eqb, nat_tests}
-use Rattle.std.proofs.lemmas.List.{drop_all, drop_more, map-append}
+use Rattle.std.proofs.lemmas.List.{drop_all, drop_more}
 use Rattle.std.proofs.lemmas.Slice.Eq.{slice_eq-Decides}
 use Rattle.std.specs.Cmp.Lexicographic.{pointwise}
 use Rattle.std.specs.Option.{option_to_list}
-use Rattle.std.specs.Prelude.{get_or, map, nat_eq, nat_le, nat_lt}
+use Rattle.std.specs.Prelude.{get_or, if◌then◌else◌, nat_eq, nat_le, nat_lt}
 
 -- For origins_report (src/causes.rt, src/taking.rt): what the words of a command are for, token by token and part by part.
 -- Names: `n` is a place in a list, and the item there has the list's name in the singular: `job` of `jobs`, `token` of `tokens`. `before`
@@ -51,22 +47,27 @@ name_next n others name before after whole below here grows is =
     ∙ ap (λ m. with_names before (m ∷ drop (n + 1) others)) here
     ∙ ap (with_names before) (sym (drop_more others n name below)) ∙ is
 
--- For `taken_options`: if the names so far with those of the switches left are all, then they still are after a switch that is taken and
--- fits.
-pub switch_told : (pattern : Pattern) (word : Option (List ℕ)) (switch : Switch) (later left : List Switch) (option : List ℕ)
-    (before after whole : List (List ℕ)) → left ≡ switch ∷ later → (fits word switch && is_taken pattern switch later) ≡ true
-    → option ≡ hyphen ∷ switch.name → after ≡ with_name before option
-    → with_switches pattern word before left ≡ whole → with_switches pattern word after later ≡ whole
-switch_told pattern word switch later left option before after whole cut told spelled grows is =
-    ap (λ ns. with_switches pattern word ns later) (grows ∙ ap (with_name before) spelled)
-    ∙ sym (ap (with_switches pattern word before) cut ∙ rw told refl) ∙ is
+-- For `add_listing`: one name alone is itself.
+pub only_name : (names others : List (List ℕ)) → names ≡ [] → length others ≡ 1 → others ≡ with_names names others
+only_name names [] empty one = absurd (omega (arith, one))
+only_name names (name ∷ []) empty one = sym (ap (λ ns. with_names ns (name ∷ [])) empty)
+only_name names (name ∷ other ∷ others) empty one = absurd (omega (arith, one))
 
--- For `taken_options`: the same after a switch that isn't taken or doesn't fit, which adds no name.
-pub switch_untold : (pattern : Pattern) (word : Option (List ℕ)) (switch : Switch) (later left : List Switch)
-    (before whole : List (List ℕ)) → left ≡ switch ∷ later → (fits word switch && is_taken pattern switch later) ≡ false
-    → with_switches pattern word before left ≡ whole → with_switches pattern word before later ≡ whole
-switch_untold pattern word switch later left before whole cut untold is =
-    sym (ap (with_switches pattern word before) cut ∙ rw untold refl) ∙ is
+-- For `taken_options`: if the options so far with those of the switches left are all, then they still are after a switch that is taken.
+pub switch_told : (pattern : Pattern) (switch : Switch) (later left : List Switch) (before after whole : List (List ℕ))
+    → left ≡ switch ∷ later → is_taken pattern switch later ≡ true → after ≡ with_option before switch.name
+    → with_switches pattern before left ≡ whole → with_switches pattern after later ≡ whole
+switch_told pattern switch later left before after whole cut told grows is =
+    ap (λ ns. with_switches pattern ns later) grows
+    ∙ sym (ap (with_switches pattern before) cut
+    ∙ ap (λ test. with_switches pattern (if test then with_option before switch.name else before) later) told) ∙ is
+
+-- For `taken_options`: the same after a switch that isn't taken, which adds none.
+pub switch_untold : (pattern : Pattern) (switch : Switch) (later left : List Switch) (before whole : List (List ℕ)) → left ≡ switch ∷ later
+    → is_taken pattern switch later ≡ false → with_switches pattern before left ≡ whole → with_switches pattern before later ≡ whole
+switch_untold pattern switch later left before whole cut untold is =
+    sym (ap (with_switches pattern before) cut
+    ∙ ap (λ test. with_switches pattern (if test then with_option before switch.name else before) later) untold) ∙ is
 
 -- the source of a command
 
@@ -157,21 +158,6 @@ pub no_input : (n : ℕ) (inputs : List Input) (word : List ℕ) (whole : List (
     → word_of_input (drop n inputs) word ≡ whole → [] ≡ whole
 no_input n inputs word whole past is = sym (ap (λ is. word_of_input is word) (drop_all n inputs past)) ∙ is
 
--- a pattern that doesn't name a switch doesn't take it, whatever word repeats it
-pub unnamed : (pattern : Pattern) (word : Option (List ℕ)) (switch : Switch) (later : List Switch) → is_named pattern switch.name ≡ false
-    → false ≡ (fits word switch && is_taken pattern switch later)
-unnamed pattern word switch later is = by (fits word switch) refl
-  where
-    -- Plan: `by` goes by both answers of `fits word switch`.
-    by : (test : Bool) → fits word switch ≡ test → false ≡ (fits word switch && is_taken pattern switch later)
-    by true same = rw same (rw is refl)
-    by false same = rw same refl
-
--- nor does one that begins with another letter
-pub unlike : (pattern : Pattern) (word : Option (List ℕ)) (switch : Switch) (later : List Switch)
-    → begin_alike switch.name pattern.name ≡ false → false ≡ (fits word switch && is_taken pattern switch later)
-unlike pattern word switch later is = unnamed pattern word switch later (sym (unlike_begun pattern switch.name is))
-
 -- tokens and parts
 
 -- For `take_tree`: if what is said so far and what the tokens left say are the whole, then they still are after one token more.
@@ -231,24 +217,72 @@ number_next case n number numbers before after whole below here takes is =
     ∙ ap (λ m. numbers_told case before (m ∷ drop (n + 1) numbers)) here
     ∙ ap (numbers_told case before) (sym (drop_more numbers n number below)) ∙ is
 
+-- The words of a command, one behind another. `behind` is the word before, and `ts` is words with their parts.
+
+-- the last of words behind another one
+abbrev pub word_behind : List ℕ → List Trace → List ℕ
+word_behind behind [] = behind
+word_behind behind (t ∷ ts) = word_behind t.word ts
+
+-- the last one of words with one more is that one
+last_behind : (behind : List ℕ) (ts : List Trace) (t : Trace) → word_behind behind (ts ++ t ∷ []) ≡ t.word
+last_behind behind [] t = refl
+last_behind behind (x ∷ ts) t = last_behind x.word ts t
+
+-- one more word is for what it is behind the last one
+one_more : (line : Line) (jobs : List Job) (parts : List MarkedPart) (place : ℕ) (behind : List ℕ) (ts : List Trace) (t : Trace)
+    → all_caused line jobs parts place behind (ts ++ t ∷ [])
+    ≡ all_caused line jobs parts place behind ts ++ caused line jobs parts place (word_behind behind ts) t ∷ []
+one_more line jobs parts place behind [] t = refl
+one_more line jobs parts place behind (x ∷ ts) t =
+    ap (λ others. caused line jobs parts place behind x ∷ others) (one_more line jobs parts place x.word ts t)
+
+-- For `all_caused`: the word that was read last is the one before the next.
+pub word_next : (word : List ℕ) (trace : Trace) (yielded : List Trace) → word ≡ trace.word
+    → word ≡ word_behind [] (yielded ++ trace ∷ [])
+word_next word trace yielded same = same ∙ sym (last_behind [] yielded trace)
+
 -- For `all_caused`: if the words so far have their causes, then they still have after one word more.
 pub cause_next : (line : Line) (jobs js : List Job) (parts : List MarkedPart) (place : ℕ) (input : Option (List ℕ)) (outers : List ℕ)
-    (trace it : Trace) (causes : List (List ℕ)) (before after yielded : List Trace)
-    → js ≡ jobs → input ≡ input_at line.inputs (source_of js place) → outers ≡ outers_of parts
+    (behind : List ℕ) (trace it : Trace) (causes : List (List ℕ)) (before after yielded : List Trace)
+    → js ≡ jobs → input ≡ input_at line.inputs (source_of js place) → outers ≡ outers_of parts → behind ≡ word_behind [] yielded
     → causes
-    ≡ causes_of (record { line = line; jobs = js; input = input; word = trace.word; parts = parts; outers = outers }) trace.parts
-    → it ≡ record trace { causes = causes } → after ≡ before ++ it ∷ [] → before ≡ map (caused line jobs parts place) yielded
-    → after ≡ map (caused line jobs parts place) (yielded ++ trace ∷ [])
-cause_next line jobs js parts place input outers trace it causes before after yielded same at outer told is grows so_far =
+    ≡ causes_of (record {
+      line = line;
+      jobs = js;
+      input = input;
+      word = trace.word;
+      before = behind;
+      parts = parts;
+      outers = outers;
+    }) trace.parts
+    → it ≡ record trace { causes = causes } → after ≡ before ++ it ∷ [] → before ≡ all_caused line jobs parts place [] yielded
+    → after ≡ all_caused line jobs parts place [] (yielded ++ trace ∷ [])
+cause_next line jobs js parts place input outers behind trace it causes before after yielded same at outer last told is grows so_far =
     grows
     ∙ ap (λ ts. ts ++ it ∷ []) so_far
-    ∙ ap (λ t. map (caused line jobs parts place) yielded ++ t ∷ [])
+    ∙ ap (λ t. all_caused line jobs parts place [] yielded ++ t ∷ [])
     (is
     ∙ ap (λ cs. record trace { causes = cs })
     (told
-    ∙ ap (λ os. causes_of (record { line = line; jobs = js; input = input; word = trace.word; parts = parts; outers = os })
-    trace.parts) outer
-    ∙ ap (λ i. causes_of (record { line = line; jobs = js; input = i; word = trace.word; parts = parts; outers = outers_of parts })
-    trace.parts) at
-    ∙ ap (λ xs. causes_of (case_at line xs parts place trace.word) trace.parts) same))
-    ∙ sym (map-append (caused line jobs parts place) yielded (trace ∷ []))
+    ∙ ap (λ os. causes_of (record {
+      line = line;
+      jobs = js;
+      input = input;
+      word = trace.word;
+      before = behind;
+      parts = parts;
+      outers = os;
+    }) trace.parts) outer
+    ∙ ap (λ i. causes_of (record {
+      line = line;
+      jobs = js;
+      input = i;
+      word = trace.word;
+      before = behind;
+      parts = parts;
+      outers = outers_of parts;
+    }) trace.parts) at
+    ∙ ap (λ xs. causes_of (case_at line xs parts place behind trace.word) trace.parts) same
+    ∙ ap (λ b. causes_of (case_at line jobs parts place b trace.word) trace.parts) last))
+    ∙ sym (one_more line jobs parts place [] yielded trace)

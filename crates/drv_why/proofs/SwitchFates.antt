@@ -1,11 +1,12 @@
 use Rattle.drv_args.specs.declared.line.Switch.{Switch}
 use Rattle.drv_check.specs.declared.findings.Source.{Source}
 use Rattle.drv_check.specs.declared.naming.Naming.{Naming}
-use Rattle.drv_match.specs.Matching.{cancels, is_live, is_named, name_at}
+use Rattle.drv_match.specs.Matching.{cancels, has_negative, is_level, is_live, is_named, is_negative_of, name_at, negative}
 use Rattle.drv_match.specs.Pattern.{Pattern}
 use Rattle.drv_why.specs.Code.Beginning.{begin_alike}
-use Rattle.drv_why.specs.Fates.{canceller, concerns, fate_text, fates_text, naming_text, namings_text, pattern_of, text_if}
-use Rattle.std.proofs.Common.{◌≡◌, ◌∙◌, ◌<◌, ◌≤◌, ◌+◌, ◌&&◌, ◌++◌, ◌∷◌, Bool, List, None, Option, Some, [], ap, append-nil, append_assoc}
+use Rattle.drv_why.specs.Fates.{cancelled_text, canceller, concerns, fate_text, fates_text, lines_text, naming_text, namings_text}
+use Rattle.drv_why.specs.Fates.{or_unnamed, pattern_of, switch_text, text_if}
+use Rattle.std.proofs.Common.{◌≡◌, ◌∙◌, ◌<◌, ◌≤◌, ◌+◌, ◌&&◌, ◌||◌, ◌++◌, ◌∷◌, Bool, List, None, Option, Some, [], ap, append-nil, append_assoc}
 use Rattle.std.proofs.Common.{drop, false, length, refl, sym, true, ℕ}
 use Rattle.std.proofs.lemmas.Bool.{eqb-true}
 use Rattle.std.proofs.lemmas.List.{drop_all, drop_more}
@@ -69,6 +70,41 @@ pub none_left : (n : ℕ) (later : List Switch) (name : List ℕ) (whole : Optio
     → canceller (drop n later) name ≡ whole → None ≡ whole
 none_left n later name whole past so_far = sym (ap (λ ls. canceller ls name) (drop_all n later past)) ∙ so_far
 
+-- no test but a true one counts
+unless_true : (test : Bool) → (test && false) ≡ false
+unless_true true = refl
+unless_true false = refl
+
+-- a name without a negative form is none
+not_negative : (other name : List ℕ) → has_negative name ≡ false → is_negative_of name other ≡ false
+not_negative [] name none = refl
+not_negative (l ∷ rest) [] none = unless_true (has_negative (l ∷ rest))
+not_negative (l ∷ rest) (m ∷ others) none = by (nat_eq l m) refl
+  where
+    -- Plan: `by` goes by both answers of `nat_eq l m`.
+    by : (test : Bool) → nat_eq l m ≡ test → is_negative_of (m ∷ others) (l ∷ rest) ≡ false
+    by true same =
+        let has_none : has_negative (l ∷ rest) ≡ false = ap (λ b. has_negative (b ∷ others)) (eqb-true l m same) ∙ none in
+        ap (λ test. test && pointwise nat_eq (negative (l ∷ rest)) (m ∷ others)) has_none
+    by false unlike =
+        ap (λ test. has_negative (l ∷ rest) && (test && pointwise nat_eq (codes "no-" ++ rest) others)) unlike
+        ∙ unless_true (has_negative (l ∷ rest))
+
+-- nothing cancels a name that is no level and has no negative form
+not_cancelled : (other name : List ℕ) → is_level name ≡ false → has_negative name ≡ false → cancels other name ≡ false
+not_cancelled other name level none =
+    ap (λ test. is_level other && test || is_negative_of other name || is_negative_of name other) level
+    ∙ ap (λ test. test || is_negative_of other name || is_negative_of name other) (unless_true (is_level other))
+    ∙ ap (λ test. test && pointwise nat_eq (negative name) other || is_negative_of name other) none
+    ∙ not_negative other name none
+
+-- For `canceller`: such a name has no canceller.
+pub uncancellable : (later : List Switch) (name : List ℕ) → is_level name ≡ false → has_negative name ≡ false → None ≡ canceller later name
+uncancellable [] name level none = refl
+uncancellable (switch ∷ later) name level none =
+    uncancellable later name level none
+    ∙ sym (ap (λ test. if test then Some switch.name else canceller later name) (not_cancelled switch.name name level none))
+
 -- bytes that differ do so in either order
 unlike_bytes : (x y : ℕ) → nat_eq x y ≡ false → nat_eq y x ≡ false
 unlike_bytes x y is = by (nat_eq y x) refl
@@ -124,11 +160,20 @@ passed_over sources name live naming text unlike =
     sym (append-nil text) ∙ ap (λ t. text ++ t) none
 
 -- For `fates_text`: if the text so far and the switches left are the whole, then they still are after one switch more.
-pub switch_next : (sources : List Source) (namings : List Naming) (switch : Switch) (later left : List Switch) (before after whole : List ℕ)
-    → left ≡ switch ∷ later → after ≡ before ++ fate_text sources namings switch later
+pub switch_next : (sources : List Source) (namings : List Naming) (switch : Switch) (later left : List Switch) (by : Option (List ℕ))
+    (live : Bool) (lines before after whole : List ℕ)
+    → left ≡ switch ∷ later → by ≡ canceller later switch.name → live ≡ is_none by
+    → lines ≡ namings_text sources switch.name live namings
+    → after ≡ before ++ switch_text switch ++ or_unnamed (cancelled_text by ++ lines)
     → before ++ fates_text sources namings left ≡ whole → after ++ fates_text sources namings later ≡ whole
-switch_next sources namings switch later left before after whole cut grows is =
-    ap (λ t. t ++ fates_text sources namings later) grows
+switch_next sources namings switch later left by live lines before after whole cut met judged told grows is =
+    let one : after ≡ before ++ fate_text sources namings switch later =
+    grows
+    ∙ ap (λ ls. before ++ switch_text switch ++ or_unnamed (cancelled_text by ++ ls))
+    (told ∙ ap (λ test. namings_text sources switch.name test namings) judged)
+    ∙ ap (λ b. before ++ switch_text switch ++ or_unnamed (lines_text sources namings switch.name b)) met
+    ∙ append_assoc before (switch_text switch) (or_unnamed (lines_text sources namings switch.name (canceller later switch.name))) in
+    ap (λ t. t ++ fates_text sources namings later) one
     ∙ append_assoc before (fate_text sources namings switch later) (fates_text sources namings later)
     ∙ ap (λ ss. before ++ fates_text sources namings ss) (sym cut) ∙ is
 

@@ -8,9 +8,12 @@ use Rattle.json.specs.Token.{Token}
 use Rattle.json.specs.Tree.{items_tokens, json_tokens}
 use Rattle.std.proofs.Common.{◌≡◌, ◌∙◌, ◌<◌, ◌+◌, ◌-◌, ◌++◌, ◌∷◌, Bool, List, None, Option, Some, [], ap, append_assoc}
 use Rattle.std.proofs.Common.{codes, drop, false, length, refl, sym, true, ℕ}
+use Rattle.std.proofs.lemmas.Bool.Decides.{Decides-eqb}
 use Rattle.std.proofs.lemmas.List.{drop_more}
+use Rattle.std.proofs.lemmas.Slice.Eq.{slice_eq-Decides}
+use Rattle.std.specs.Cmp.Lexicographic.{pointwise}
 use Rattle.std.specs.Option.{unwrap_or}
-use Rattle.std.specs.Prelude.{get_or, if◌then◌else◌}
+use Rattle.std.specs.Prelude.{get_or, if◌then◌else◌, nat_eq}
 
 -- For origins_report (src/origins.rt): the words of a command beside those of the plan, the bytes of a part, and the commands of a plan,
 -- one after another.
@@ -36,6 +39,15 @@ traced_alike command (Some line) ts known = by (are_words (traces_of line.comman
         → (if test then Some (traces_of line.command) else None) ≡ Some ts → are_words ts (words_of command) ≡ true
     by true is same = ap (λ xs. are_words xs (words_of command)) (sym (ap (λ o. unwrap_or o []) same)) ∙ is
     by false is same = absurd cc
+
+-- two lists of numbers, and two of words, that compare alike are the same
+pub same_ending : (numbers numbers' : List ℕ) (words words' : List (List ℕ)) → pointwise nat_eq numbers numbers' ≡ true
+    → pointwise (pointwise nat_eq) words words' ≡ true → (numbers ≡ numbers') × (words ≡ words')
+same_ending numbers numbers' words words' same alike = (
+  (slice_eq-Decides Decides-eqb numbers numbers' (pointwise nat_eq numbers numbers') refl).0 same,
+  (slice_eq-Decides (λ a b. slice_eq-Decides Decides-eqb a b (pointwise nat_eq a b) refl) words words'
+      (pointwise (pointwise nat_eq) words words') refl).0 alike,
+)
 
 -- For `push_shown`: if what is shown and the bytes left are the whole, then they still are after one byte more.
 pub shown_next : (n room : ℕ) (part : List ℕ) (byte : ℕ) (before after whole : List ℕ) → n < length part → byte ≡ get_or part n byte

@@ -14,7 +14,7 @@ use Rattle.drv_syntax.specs.declared.token.TestKind.{TestKind}
 use Rattle.drv_syntax.specs.declared.token.Token.{Token}
 use Rattle.drv_syntax.specs.declared.token.TokenKind.TheVariants as kinds
 use Rattle.drv_syntax.specs.declared.token.TokenKind.{TokenKind}
-use Rattle.drv_why.specs.Taken.{is_this, taken_options, with_names}
+use Rattle.drv_why.specs.Taken.{is_this, repeated_options, taken_options, with_names}
 use Rattle.drv_why.specs.Traces.{traces_by}
 use Rattle.drv_why.specs.Walks.{after_token, gives, is_passed, reach, way_to}
 use Rattle.drv_why.specs.declared.outers.Outer.{Outer}
@@ -26,7 +26,7 @@ use Rattle.drv_words.specs.declared.plan.PlanLine.{PlanLine}
 use Rattle.std.specs.Cmp.Lexicographic.{pointwise}
 use Rattle.std.specs.Option.{option_map, option_to_list, unwrap_or}
 use Rattle.std.specs.Prelude.{◌+◌, ◌-◌, ◌==◌, ◌&&◌, Bool, List, [], ◌∷◌, None, Option, Some, false, if◌then◌else◌, is_none, length}
-use Rattle.std.specs.Prelude.{map, nat_eq, nat_le, nat_lt, not, slice_get, true, ℕ}
+use Rattle.std.specs.Prelude.{nat_eq, nat_le, nat_lt, not, slice_get, true, ℕ}
 
 -- What of a line a word of a command is for: the options by which it is there, and the input that it names (GCC manual, "Spec Files";
 -- which of them are named is this project's profile). An option is named where a test in an alternative of the word's part, or around it,
@@ -40,6 +40,7 @@ pub record Case : Type 0 where
   pub jobs : List Job  -- those of the plan's sources
   pub input : Option (List ℕ)  -- the source that the command is for; the link is for none
   pub word : List ℕ
+  pub before : List ℕ  -- the word before it in the command; empty before the first
   pub parts : List MarkedPart  -- the parts that have marks
   pub outers : List ℕ  -- for each the number of the outermost one that it is in
 
@@ -102,13 +103,13 @@ leaf_takes case leaf = []
 
 -- what a test takes: only one of a switch takes any
 abbrev pub test_takes : Case → TestKind → Label → List (List ℕ)
-test_takes case asking.Switch label = taken_options (label_pattern label) None case.line.switches
+test_takes case asking.Switch label = taken_options (label_pattern label) case.line.switches
 test_takes case asks label = []
 
 -- what a token takes
 abbrev pub takes : Case → TokenKind → Label → List (List ℕ)
 takes case kinds.Test label = test_takes case label.asks label
-takes case kinds.Pattern label = taken_options (label_pattern label) (Some case.word) case.line.switches
+takes case kinds.Pattern label = repeated_options (label_pattern label) case.before case.word case.line.switches
 takes case (kinds.Leaf leaf) label = leaf_takes case leaf
 takes case kind label = []
 
@@ -206,21 +207,28 @@ causes_of case numbers = (numbers_told case (record { walk = way_to 0 0; names =
 
 -- the words of a command
 
--- a word of the command at a place
-abbrev pub case_at : Line → List Job → List MarkedPart → ℕ → List ℕ → Case
-case_at line jobs parts place word = record {
+-- a word of the command at a place, behind another one
+abbrev pub case_at : Line → List Job → List MarkedPart → ℕ → List ℕ → List ℕ → Case
+case_at line jobs parts place before word = record {
   line = line;
   jobs = jobs;
   input = input_at line.inputs (source_of jobs place);
   word = word;
+  before = before;
   parts = parts;
   outers = outers_of parts;
 }
 
--- a word with its parts, and what it is for
-abbrev pub caused : Line → List Job → List MarkedPart → ℕ → Trace → Trace
-caused line jobs parts place t = record t { causes = causes_of (case_at line jobs parts place t.word) t.parts }
+-- a word behind another one with its parts, and what it is for
+abbrev pub caused : Line → List Job → List MarkedPart → ℕ → List ℕ → Trace → Trace
+caused line jobs parts place before t = record t { causes = causes_of (case_at line jobs parts place before t.word) t.parts }
+
+-- the words of a command behind another word
+abbrev pub all_caused : Line → List Job → List MarkedPart → ℕ → List ℕ → List Trace → List Trace
+all_caused line jobs parts place before [] = []
+all_caused line jobs parts place before (t ∷ ts) =
+    caused line jobs parts place before t ∷ all_caused line jobs parts place t.word ts
 
 -- the words of a command at a place with their parts and what they are for, by the line of the marked plan in its place
 abbrev pub caused_by : Line → List Job → List MarkedPart → ℕ → Command → Option PlanLine → Option (List Trace)
-caused_by line jobs parts place command marked = option_map (map (caused line jobs parts place)) (traces_by command marked)
+caused_by line jobs parts place command marked = option_map (all_caused line jobs parts place []) (traces_by command marked)

@@ -78,10 +78,13 @@ abbrev pub causes_text : List (List ℕ) → List ℕ
 causes_text [] = []
 causes_text (name ∷ names) = codes " for " ++ quoted name ++ flat_map more_text names
 
+-- what follows a word in its line: its parts, and what it is for
+abbrev pub ending_text : List Source → List MarkedPart → List ℕ → List (List ℕ) → List ℕ
+ending_text sources parts numbers causes = codes " by " ++ parts_text sources parts numbers ++ causes_text causes ++ newline ∷ []
+
 -- the line of a word
 abbrev pub trace_text : List Source → List MarkedPart → Trace → List ℕ
-trace_text sources parts t =
-    codes "  " ++ quoted t.word ++ codes " by " ++ parts_text sources parts t.parts ++ causes_text t.causes ++ newline ∷ []
+trace_text sources parts t = codes "  " ++ quoted t.word ++ ending_text sources parts t.parts t.causes
 
 -- the lines of the words of a command, or one that says that marks change it
 abbrev pub traces_text : List Source → List MarkedPart → Option (List Trace) → List ℕ

@@ -8,6 +8,7 @@ ghost use Rattle.drv_why.specs.Causes.{source_of, takes, test_takes, word_of_inp
 ghost use Rattle.std.specs.Option.{option_map, option_to_list};
 ghost use Rattle.std.specs.Prelude.{◌≡◌, ◌∷◌, ◌<◌, [], IfOk, length};
 
+use crate::repeating::repeated_options;
 use crate::taking::{is_this, taken_options};
 use drv_args::{Input, Line};
 use drv_check::MarkedPart;
@@ -28,6 +29,10 @@ pub(crate) struct Case<'a> {
     pub(crate) input: Option<&'a Word>,
     /// The word.
     pub(crate) word: &'a [u8],
+    /// The word before it in the command; the first one has an empty one before it.
+    pub(crate) before: &'a [u8],
+    /// The place of a switch that a word before repeated.
+    pub(crate) near: usize,
     /// The parts that have marks.
     pub(crate) parts: &'a [MarkedPart],
     /// For each the number of the outermost one that it is in.
@@ -45,6 +50,7 @@ impl<'a> Model for Case<'a> {
       jobs = c.jobs.now;
       input = option_map (λ word. word.now) c.input;
       word = c.word.now;
+      before = c.before.now;
       parts = c.parts.now;
       outers = c.outers.now;
     } };
@@ -117,7 +123,7 @@ fn list_of(alloc: Global, word: Option<&Word>) -> Result<Listing<Word>, AllocErr
 }
 
 /// A word as a list of one.
-fn only(alloc: Global, word: &[u8]) -> Result<Listing<Word>, AllocError>
+pub(crate) fn only(alloc: Global, word: &[u8]) -> Result<Listing<Word>, AllocError>
     ensures { IfOk result (λ names. names ≡ word.now ∷ []) }
 {
     let mut names = Listing::new(alloc);
@@ -203,7 +209,7 @@ fn test_takes(
     match tree.asks(place) {
         TestKind::Switch => {
             let pattern = pattern_at(tree, place);
-            taken_options(alloc, &pattern, None, case.line.switches.as_slice())
+            taken_options(alloc, &pattern, case.line.switches.as_slice())
         }
         TestKind::Suffix | TestKind::Language | TestKind::Result => Ok(Listing::new(alloc)),
     }
@@ -225,12 +231,7 @@ pub(crate) fn takes(
         TokenKind::Test => test_takes(alloc, case, tree, place),
         TokenKind::Pattern => {
             let pattern = pattern_at(tree, place);
-            taken_options(
-                alloc,
-                &pattern,
-                Some(case.word),
-                case.line.switches.as_slice(),
-            )
+            repeated_options(alloc, &pattern, case)
         }
         TokenKind::Leaf(leaf) => leaf_takes(alloc, case, leaf),
         _ => Ok(Listing::new(alloc)),

@@ -1,13 +1,13 @@
 //! What becomes of the switches of a line.
 
-ghost use Rattle.drv_why.specs.Fates.{argument_text, cancelled_line, cancelled_text, concerns, deed_text, fate_text};
-ghost use Rattle.drv_why.specs.Fates.{fates_text, lines_text, naming_text, namings_text, or_unnamed, pattern_of};
+ghost use Rattle.drv_why.specs.Fates.{argument_text, cancelled_line, cancelled_text, concerns, deed_text};
+ghost use Rattle.drv_why.specs.Fates.{fates_text, naming_text, namings_text, or_unnamed, pattern_of};
 ghost use Rattle.drv_why.specs.Fates.{source_text, spot_text, switch_text, takes, text_if};
 ghost use Rattle.drv_why.specs.FatesJson.{fates_report};
 ghost use Rattle.drv_words.specs.Bytes.{hyphen};
 ghost use Rattle.drv_words.specs.Printed.{quoted};
 ghost use Rattle.std.specs.Option.{option_map};
-ghost use Rattle.std.specs.Prelude.{◌≡◌, ◌∷◌, ◌++◌, IfOk, OnOk, decimal, is_none, Some};
+ghost use Rattle.std.specs.Prelude.{◌≡◌, ◌∷◌, ◌++◌, IfOk, IsTrue, OnOk, decimal, is_none, Some};
 
 use crate::fates_json::fates_json;
 use crate::matching::{begin_alike, canceller, is_broad, is_named};
@@ -203,21 +203,67 @@ pub(crate) fn is_live(by: Option<&Word>) -> bool
     }
 }
 
-/// The lines of a switch of this name, which another one may cancel.
-fn lines_text(
+/// The lines of the parts that have to do with the switches of a name.
+#[derive(Drop)]
+struct Named<'a> {
+    /// The name.
+    name: &'a [u8],
+    /// Whether no later switch cancels them.
+    live: bool,
+    /// The lines.
+    text: Word,
+}
+
+/// The lines of the parts that have to do with the switches of a name.
+fn named_as<'a>(
     alloc: Global,
     parts: &Parts<'_>,
-    name: &[u8],
-    by: Option<&Word>,
-) -> Result<Word, AllocError>
-    ensures { IfOk result
-        (λ text. text
-        ≡ lines_text parts.now.sources.now parts.now.namings.now name.now
-        (option_map (λ word. word.now) by.entry)) }
+    name: &'a [u8],
+    live: bool,
+) -> Result<Named<'a>, AllocError>
+    ensures { IfOk result (λ named. (named.name.now ≡ name.now) × (named.live ≡ live)
+        × (named.text ≡ namings_text parts.now.sources.now name.now live parts.now.namings.now)) }
 {
-    let mut text = cancelled_text(alloc, by)?;
-    push_namings(&mut text, parts.sources, name, is_live(by), parts.namings)?;
-    Ok(text)
+    let mut text = Word::empty(alloc);
+    push_namings(&mut text, parts.sources, name, live, parts.namings)?;
+    Ok(Named { name, live, text })
+}
+
+/// Whether two tests have the same answer.
+fn are_alike(live: bool, other: bool) -> bool
+    ensures { IsTrue result → other ≡ live }
+{
+    if live { other } else { !other }
+}
+
+/// Whether these are the lines of a switch.
+#[tactic(auto, using(crate::proofs::LineCauses::same_text))]
+fn is_same(named: &Named<'_>, name: &[u8], live: bool) -> bool
+    ensures { IsTrue result → (named.now.name.now ≡ name.now) × (named.now.live ≡ live) }
+{
+    are_alike(live, named.live) && named.name == name
+}
+
+/// The lines of the parts that have to do with a switch. Those of the last one are kept if they are
+/// the same.
+fn renew_lines<'a>(
+    alloc: Global,
+    named: &mut Named<'a>,
+    parts: &Parts<'_>,
+    name: &'a [u8],
+    live: bool,
+) -> Result<(), AllocError>
+    requires { named.old.text
+        ≡ namings_text parts.now.sources.now named.old.name.now named.old.live parts.now.namings.now }
+    ensures kept { OnOk result (named.new.text
+        ≡ namings_text parts.now.sources.now named.new.name.now named.new.live parts.now.namings.now) }
+    ensures of { OnOk result (named.new.text
+        ≡ namings_text parts.now.sources.now name.now live parts.now.namings.now) }
+{
+    if !is_same(named, name, live) {
+        *named = named_as(alloc, parts, name, live)?;
+    }
+    Ok(())
 }
 
 /// Adds the lines of a switch, or that there are none.
@@ -252,23 +298,22 @@ fn push_switch(alloc: Global, text: &mut Word, switch: &Switch) -> Result<(), Al
     text.push(b'\n')
 }
 
-/// Adds what becomes of a switch before these.
+/// Adds what becomes of a switch, which another one may cancel, by the lines of the parts.
 fn push_fate(
     alloc: Global,
     text: &mut Word,
-    parts: &Parts<'_>,
     switch: &Switch,
-    later: &[Switch],
+    by: Option<&Word>,
+    lines: &Word,
 ) -> Result<(), AllocError>
     ensures { OnOk result
-        (text.new ≡ text.old
-        ++ fate_text parts.now.sources.now parts.now.namings.now switch.now later.now) }
+        (text.new ≡ text.old ++ switch_text switch.now
+        ++ or_unnamed (cancelled_text (option_map (λ word. word.now) by.entry) ++ lines.now)) }
 {
-    let name = switch.name.as_bytes();
-    let by = canceller(later, name);
-    let lines = lines_text(alloc, parts, name, by)?;
     push_switch(alloc, text, switch)?;
-    push_lines(text, &lines)
+    let mut all = cancelled_text(alloc, by)?;
+    all.extend_from_slice(lines.as_bytes())?;
+    push_lines(text, &all)
 }
 
 /// What becomes of the switches of a line, as text.
@@ -278,9 +323,21 @@ fn fates_text(alloc: Global, parts: &Parts<'_>, switches: &[Switch]) -> Result<W
         (λ text. text ≡ fates_text parts.now.sources.now parts.now.namings.now switches.now) }
 {
     let mut text = Word::empty(alloc);
+    let [first, ..] = switches else {
+        return Ok(text);
+    };
+    let mut named = named_as(alloc, parts, first.name.as_bytes(), true)?;
     let mut left = switches;
     while let [switch, later @ ..] = left {
-        push_fate(alloc, &mut text, parts, switch, later)?;
+        let by = canceller(later, switch.name.as_bytes());
+        renew_lines(
+            alloc,
+            &mut named,
+            parts,
+            switch.name.as_bytes(),
+            is_live(by),
+        )?;
+        push_fate(alloc, &mut text, switch, by, &named.text)?;
         left = later;
     }
     Ok(text)

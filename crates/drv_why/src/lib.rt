@@ -15,6 +15,7 @@ mod parting;
 mod printing;
 mod reasons;
 mod reasons_json;
+mod repeating;
 mod report;
 mod taking;
 mod telling;

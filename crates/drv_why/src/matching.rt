@@ -95,10 +95,14 @@ fn cancels(later: &[u8], name: &[u8]) -> bool
 }
 
 /// The name of the first of later switches that cancels one of this name.
-#[tactic(auto, using(crate::proofs::SwitchFates::cancelled, crate::proofs::SwitchFates::kept, crate::proofs::SwitchFates::none_left))]
+#[tactic(auto, using(crate::proofs::SwitchFates::cancelled, crate::proofs::SwitchFates::kept, crate::proofs::SwitchFates::none_left, crate::proofs::SwitchFates::uncancellable))]
 pub(crate) fn canceller<'a>(later: &'a [Switch], name: &[u8]) -> Option<&'a Word>
     ensures { option_map (λ word. word.now) result ≡ canceller later.now name.now }
 {
+    // Only levels, and names with a negative form, are ever cancelled.
+    if !is_level(name) && !has_negative(name) {
+        return None;
+    }
     for switch in later {
         if cancels(switch.name.as_bytes(), name) {
             return Some(&switch.name);

@@ -1,11 +1,11 @@
 //! Where the words of a plan are from.
 
-ghost use Rattle.drv_why.specs.Origins.{causes_text, command_text, found_text, further_text, is_cut, more_text, most_shown};
+ghost use Rattle.drv_why.specs.Origins.{causes_text, command_text, ending_text, found_text, further_text, is_cut, more_text, most_shown};
 ghost use Rattle.drv_why.specs.Origins.{origins_from, origins_report, origins_text};
 ghost use Rattle.drv_why.specs.Origins.{part_text, parts_text, shown, trace_text, traces_text};
 ghost use Rattle.drv_words.specs.Printed.{line_text, quoted};
 ghost use Rattle.std.specs.List.{flat_map};
-ghost use Rattle.std.specs.Prelude.{◌≡◌, ◌++◌, IfOk, OnOk, slice_get};
+ghost use Rattle.std.specs.Prelude.{◌≡◌, ◌++◌, IfOk, IsTrue, OnOk, codes, slice_get};
 
 use crate::fates::push_spot;
 use crate::origins_json::origins_json;
@@ -168,23 +168,78 @@ fn push_causes(alloc: Global, text: &mut Word, names: &[Word]) -> Result<(), All
     }
 }
 
-/// Adds the line of a word.
-fn push_trace(
+/// What follows a word in its line: its parts, and what it is for.
+#[derive(Drop)]
+struct Ending<'a> {
+    /// The numbers of the parts.
+    parts: &'a [usize],
+    /// What it is for.
+    causes: &'a [Word],
+    /// These as text.
+    text: Word,
+}
+
+/// What follows a word with these parts that is for these.
+fn ending_of<'a>(
     alloc: Global,
-    text: &mut Word,
     marking: &Marking<'_>,
-    trace: &Trace,
+    parts: &'a [usize],
+    causes: &'a [Word],
+) -> Result<Ending<'a>, AllocError>
+    ensures { IfOk result (λ ending. (ending.parts.now ≡ parts.now) × (ending.causes.now ≡ causes.now)
+        × (ending.text ≡ ending_text marking.now.sources marking.now.parts parts.now causes.now)) }
+{
+    let mut text = Word::from_bytes(alloc, b" by ")?;
+    push_parts(&mut text, marking, parts)?;
+    push_causes(alloc, &mut text, causes)?;
+    text.push(b'\n')?;
+    Ok(Ending {
+        parts,
+        causes,
+        text,
+    })
+}
+
+/// Whether this follows a word.
+#[tactic(auto, using(crate::proofs::WordTraces::same_ending))]
+fn is_ending(ending: &Ending<'_>, trace: &Trace) -> bool
+    ensures { IsTrue result → (ending.now.parts.now ≡ trace.now.parts) × (ending.now.causes.now ≡ trace.now.causes) }
+{
+    ending.parts == trace.parts.as_slice() && ending.causes == trace.causes.as_slice()
+}
+
+/// What follows a word. What followed the last one is kept if it is the same.
+fn renew_ending<'a>(
+    alloc: Global,
+    ending: &mut Ending<'a>,
+    marking: &Marking<'_>,
+    trace: &'a Trace,
 ) -> Result<(), AllocError>
-    ensures { OnOk result
-        (text.new ≡ text.old
-        ++ trace_text marking.now.sources marking.now.parts trace.now) }
+    requires { ending.old.text
+        ≡ ending_text marking.now.sources marking.now.parts ending.old.parts.now ending.old.causes.now }
+    ensures kept { OnOk result (ending.new.text
+        ≡ ending_text marking.now.sources marking.now.parts ending.new.parts.now ending.new.causes.now) }
+    ensures of { OnOk result (ending.new.text
+        ≡ ending_text marking.now.sources marking.now.parts trace.now.parts trace.now.causes) }
+{
+    if !is_ending(ending, trace) {
+        *ending = ending_of(
+            alloc,
+            marking,
+            trace.parts.as_slice(),
+            trace.causes.as_slice(),
+        )?;
+    }
+    Ok(())
+}
+
+/// Adds the line of a word, which ends so.
+fn push_trace(alloc: Global, text: &mut Word, word: &Word, ending: &[u8]) -> Result<(), AllocError>
+    ensures { OnOk result (text.new ≡ text.old ++ codes "  " ++ quoted word.now ++ ending.now) }
 {
     text.extend_from_slice(b"  ")?;
-    text.extend_from_slice(quote(alloc, &trace.word)?.as_bytes())?;
-    text.extend_from_slice(b" by ")?;
-    push_parts(text, marking, trace.parts.as_slice())?;
-    push_causes(alloc, text, trace.causes.as_slice())?;
-    text.push(b'\n')
+    text.extend_from_slice(quote(alloc, word)?.as_bytes())?;
+    text.extend_from_slice(ending)
 }
 
 /// Adds the lines of words.
@@ -198,8 +253,10 @@ fn push_all_traces(
         (text.new ≡ text.old
         ++ flat_map (trace_text marking.now.sources marking.now.parts) traces.now) }
 {
+    let mut ending = ending_of(alloc, marking, &[], &[])?;
     for trace in traces {
-        push_trace(alloc, text, marking, trace)?;
+        renew_ending(alloc, &mut ending, marking, trace)?;
+        push_trace(alloc, text, &trace.word, ending.text.as_bytes())?;
     }
     Ok(())
 }

@@ -11,7 +11,7 @@ ghost use Rattle.drv_why.specs.Walks.{way_to};
 ghost use Rattle.std.specs.Prelude.{◌≡◌, ◌<◌, ◌+◌, ◌-◌, [], IfOk, OnOk, false, if◌then◌else◌, length, true};
 
 use crate::causes::{Case, is_true, takes};
-use crate::taking::add_names;
+use crate::taking::add_listing;
 use crate::walking::{Walk, after_token, gives, is_behind, is_passed, reach};
 use drv_check::MarkedPart;
 use drv_syntax::{SpecTree, SyntaxFault, TestKind, Token, TokenKind, parse};
@@ -91,13 +91,18 @@ impl Telling {
     }
 
     /// Adds what a token takes, if the words are for it.
-    fn add_found(&mut self, alloc: Global, is_given: bool, found: &[Word]) -> Result<(), AllocError>
+    fn add_found(
+        &mut self,
+        alloc: Global,
+        is_given: bool,
+        found: Listing<Word>,
+    ) -> Result<(), AllocError>
         ensures { OnOk result (self.new ≡ record (self.old) {
-          names = if is_given then with_names self.old.names found.now else self.old.names;
+          names = if is_given then with_names self.old.names found else self.old.names;
         }) }
     {
         if is_given {
-            add_names(alloc, &mut self.names, found)?;
+            add_listing(alloc, &mut self.names, found)?;
         }
         Ok(())
     }
@@ -119,8 +124,8 @@ impl Telling {
         let place = met.place;
         let found = takes(alloc, case, tree, place, met.token.kind)?;
         let is_given = gives(self.walk, met.token, tree.is_negated(place));
-        self.add_found(alloc, is_given, found.as_slice())?;
         let holds = is_true(tree, place, found.as_slice());
+        self.add_found(alloc, is_given, found)?;
         self.walk = after_token(self.walk, met.token, tree.asks(place), holds);
         Ok(())
     }

@@ -134,14 +134,14 @@ fn is_marks(bytes: &[u8], trace: &Trace) -> bool
 }
 
 impl Traces {
-    /// No words.
-    fn new(alloc: Global) -> Traces
-        ensures { result ≡ no_traces }
+    /// No words, with room for so many.
+    fn new(alloc: Global, count: usize) -> Result<Traces, AllocError>
+        ensures { IfOk result (λ traces. traces ≡ no_traces) }
     {
-        Traces {
-            words: Listing::new(alloc),
+        Ok(Traces {
+            words: Listing::from_vec(Vec::with_capacity(alloc, count)?),
             last: None,
-        }
+        })
     }
 
     /// Takes a word that was read.
@@ -178,7 +178,7 @@ impl Traces {
 fn traces_of(alloc: Global, command: &Command) -> Result<Listing<Trace>, AllocError>
     ensures { IfOk result (λ traces. traces ≡ traces_of command.now) }
 {
-    let mut traces = Traces::new(alloc);
+    let mut traces = Traces::new(alloc, command.words.len().saturating_add(1))?;
     traces.take(alloc, command.program.as_bytes())?;
     traces.take_all(alloc, command.words.as_slice())?;
     Ok(traces.words)

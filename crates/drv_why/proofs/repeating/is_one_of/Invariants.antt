@@ -1,0 +1,14 @@
+use Rattle.drv_why.proofs.repeating.is_one_of.Given as goal
+use Rattle.drv_why.specs.Taken.{has_switch}
+use Rattle.std.proofs.Common.{◌≡◌, length}
+use Rattle.std.specs.Option.{option_map}
+
+-- The loops of is_one_of (src/repeating.rt). Whether one of these switches is looked for.
+
+abbrev pub invariant-loop-left : goal.invariant-loop-left
+invariant-loop-left l =
+    has_switch l.pattern l.name (option_map (λ bytes. bytes.now) l.arg) l.left
+    ≡ has_switch l.pattern l.name (option_map (λ bytes. bytes.now) l.arg) l.switches
+
+abbrev pub decreases-loop-left : goal.decreases-loop-left
+decreases-loop-left l = length l.left
