@@ -13,6 +13,7 @@ pub mod Kept
 pub mod Leads
 pub mod MarkedWords
 pub mod Meant
+pub mod MeantAsked
 pub mod MeantForms
 pub mod MeantWhole
 pub mod MeantWords
