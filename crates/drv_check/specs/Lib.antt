@@ -14,6 +14,7 @@ pub mod MarkWords
 pub mod MarkedParts
 pub mod Markings
 pub mod Namings
+pub mod NeverTrue
 pub mod Numbers
 pub mod Origins
 pub mod OwnTexts

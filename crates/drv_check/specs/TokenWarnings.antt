@@ -1,12 +1,12 @@
 use Rattle.drv_check.specs.Branches.{unreached}
 use Rattle.drv_check.specs.LostMarks.{lone_size, lost_marks}
+use Rattle.drv_check.specs.NeverTrue.{switch_warning}
 use Rattle.drv_check.specs.OwnTexts.{own_start, own_text, own_tree}
 use Rattle.drv_check.specs.Points.{name_in}
-use Rattle.drv_check.specs.declared.findings.Warning.TheVariants.{NeverLanguage, NeverLibrary, NeverOutput, NeverTrue, QuotedWord}
-use Rattle.drv_check.specs.declared.findings.Warning.TheVariants.{UnknownText}
+use Rattle.drv_check.specs.declared.findings.Warning.TheVariants.{QuotedWord, UnknownText}
 use Rattle.drv_check.specs.declared.findings.Warning.{Warning}
 use Rattle.drv_check.specs.declared.warning.Mark.{Mark}
-use Rattle.drv_specs.specs.Blanks.{has_byte, is_white}
+use Rattle.drv_specs.specs.Blanks.{is_white}
 use Rattle.drv_specs.specs.Directives.{is_colon}
 use Rattle.drv_specs.specs.Sets.{Set, text_of}
 use Rattle.drv_syntax.specs.Labels.{Label, label_at}
@@ -44,30 +44,14 @@ is_quote (b ∷ word) = b == double_quote || b == single_quote
 abbrev pub quote_warning : Option ℕ → List ℕ → Option Warning
 quote_warning before word = if is_quote word && ends_before before then Some QuotedWord else None
 
--- A pattern that no switch has: -DX is the switch D with the argument X, and so are -U, -I and -o. -lX is a library and -xX a language, so
--- no switch begins with l or x.
-
--- whether a switch of this letter takes the rest of its word as argument: D, U and I
-abbrev pub takes_argument : ℕ → Bool
-takes_argument b = b == 68 || b == 85 || b == 73
-
--- the warning on a pattern that begins with this letter and goes on: no switch is called so, if its argument would follow the letter
-abbrev pub joined_warning : ℕ → Option Warning
-joined_warning b = if takes_argument b then Some NeverTrue else if b == 111 then Some NeverOutput else None
-
--- the warning on a pattern that no switch has: l is 108, and x is 120
-abbrev pub switch_warning : List ℕ → Option Warning
-switch_warning [] = None
-switch_warning (b ∷ word) =
-    if b == 108 then Some NeverLibrary else if b == 120 then Some NeverLanguage
-    else if has_byte word then joined_warning b else None
+-- the warning on a token, by its kind
 
 -- the warning on a test whose pattern no switch has: only a test of a switch has such a pattern
-abbrev pub test_warning : TestKind → List ℕ → Option Warning
-test_warning asking.Switch word = switch_warning word
-test_warning asking.Suffix word = None
-test_warning asking.Language word = None
-test_warning asking.Result word = None
+abbrev pub test_warning : TestKind → Bool → List ℕ → Option Warning
+test_warning asking.Switch starred word = switch_warning starred word
+test_warning asking.Suffix starred word = None
+test_warning asking.Language starred word = None
+test_warning asking.Result starred word = None
 
 -- the warning on %(NAME) of a text that the set hasn't: it gives no words
 abbrev pub name_warning : Set → List ℕ → Option Warning
@@ -76,8 +60,8 @@ name_warning set name = if is_some (text_of set name) then None else Some Unknow
 -- the warning on a token of a kind, with its label and the byte before it
 abbrev pub warning_of : Set → Option ℕ → TokenKind → Label → Option Warning
 warning_of set before kinds.Plain label = quote_warning before label.word
-warning_of set before kinds.Test label = test_warning label.asks label.word
-warning_of set before kinds.Pattern label = switch_warning label.word
+warning_of set before kinds.Test label = test_warning label.asks label.starred label.word
+warning_of set before kinds.Pattern label = switch_warning label.starred label.word
 warning_of set before kinds.NamedText label = name_warning set label.word
 warning_of set before kind label = None
 

@@ -44,6 +44,12 @@ pub enum Warning {
     NeverLibrary,
     /// The same of `-xX`, a language and no switch.
     NeverLanguage,
+    /// The same of `-Wl,X` and `-Xlinker X`, words for a tool and no switch.
+    NeverPiece,
+    /// The same of `--jobs=X`, a setting of the call and no switch.
+    NeverSetting,
+    /// The same of `--specs=X`, the switch `specs=X`.
+    NeverSpecs,
     /// The name of a text that isn't there.
     UnknownText,
     /// A pair whose key a later one of its file has.

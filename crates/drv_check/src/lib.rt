@@ -18,6 +18,7 @@ mod mark_laws;
 mod mark_words;
 mod marking;
 mod naming;
+mod never_true;
 mod opening;
 mod origins;
 mod own_text;

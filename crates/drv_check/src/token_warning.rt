@@ -2,8 +2,8 @@
 
 ghost use Rattle.drv_check.specs.OwnTexts.{own_start};
 ghost use Rattle.drv_check.specs.Points.{name_in};
-ghost use Rattle.drv_check.specs.TokenWarnings.{byte_before, ends_before, is_quote, joined_warning, name_warning, own_marks};
-ghost use Rattle.drv_check.specs.TokenWarnings.{mark_at, quote_warning, switch_warning, takes_argument, test_warning};
+ghost use Rattle.drv_check.specs.TokenWarnings.{byte_before, ends_before, is_quote, mark_at};
+ghost use Rattle.drv_check.specs.TokenWarnings.{name_warning, own_marks, quote_warning, test_warning};
 ghost use Rattle.drv_check.specs.TokenWarnings.{token_warning, tokens_marks, tree_marks, warning_of};
 ghost use Rattle.drv_specs.specs.Blanks.{is_white};
 ghost use Rattle.drv_specs.specs.Directives.{is_colon};
@@ -17,6 +17,7 @@ use crate::branches::push_choices;
 use crate::bytes::is_white;
 use crate::findings::Warning;
 use crate::lost_marks::{lone_size, push_all_lost};
+use crate::never_true::switch_warning;
 use crate::own_text::{own_start, own_tree};
 use crate::pointing::name_in;
 use crate::warning::Mark;
@@ -70,44 +71,12 @@ fn quote_warning(before: Option<u8>, word: &[u8]) -> Option<Warning>
     }
 }
 
-/// Whether what follows this byte in an option is its argument.
-fn takes_argument(byte: u8) -> bool
-    ensures { result ≡ takes_argument byte }
-{
-    byte == b'D' || byte == b'U' || byte == b'I'
-}
-
-/// The warning of a pattern that begins with this letter and goes on.
-fn joined_warning(letter: u8) -> Option<Warning>
-    ensures { result ≡ joined_warning letter }
-{
-    if takes_argument(letter) {
-        Some(Warning::NeverTrue)
-    } else if letter == b'o' {
-        Some(Warning::NeverOutput)
-    } else {
-        None
-    }
-}
-
-/// The warning of a pattern for switches.
-fn switch_warning(word: &[u8]) -> Option<Warning>
-    ensures { result ≡ switch_warning word.now }
-{
-    match word {
-        [b'l', ..] => Some(Warning::NeverLibrary),
-        [b'x', ..] => Some(Warning::NeverLanguage),
-        [letter, _, ..] => joined_warning(*letter),
-        _ => None,
-    }
-}
-
 /// The warning of a test.
-fn test_warning(asks: TestKind, word: &[u8]) -> Option<Warning>
-    ensures { result ≡ test_warning asks word.now }
+fn test_warning(asks: TestKind, starred: bool, word: &[u8]) -> Option<Warning>
+    ensures { result ≡ test_warning asks starred word.now }
 {
     match asks {
-        TestKind::Switch => switch_warning(word),
+        TestKind::Switch => switch_warning(starred, word),
         TestKind::Suffix | TestKind::Language | TestKind::Result => None,
     }
 }
@@ -133,8 +102,10 @@ fn token_warning(set: &SpecSet, tree: &SpecTree, place: usize, token: Token) -> 
             let before = byte_before(tree.text(), token.start as usize);
             quote_warning(before, tree.word(place))
         }
-        TokenKind::Test => test_warning(tree.asks(place), tree.word(place)),
-        TokenKind::Pattern => switch_warning(tree.word(place)),
+        TokenKind::Test => {
+            test_warning(tree.asks(place), tree.is_starred(place), tree.word(place))
+        }
+        TokenKind::Pattern => switch_warning(tree.is_starred(place), tree.word(place)),
         TokenKind::NamedText => name_warning(set, tree.word(place)),
         _ => None,
     }

@@ -1,6 +1,6 @@
 use Rattle.drv_check.specs.declared.findings.Warning.TheVariants.{AppendToNothing, DirectiveInBody, HiddenPair, LostInPair, LostMark}
-use Rattle.drv_check.specs.declared.findings.Warning.TheVariants.{NeverLanguage, NeverLibrary, NeverOutput, NeverTrue, QuotedWord}
-use Rattle.drv_check.specs.declared.findings.Warning.TheVariants.{UnknownText, Unreachable, UnusedText}
+use Rattle.drv_check.specs.declared.findings.Warning.TheVariants.{NeverLanguage, NeverLibrary, NeverOutput, NeverPiece, NeverSetting}
+use Rattle.drv_check.specs.declared.findings.Warning.TheVariants.{NeverSpecs, NeverTrue, QuotedWord, UnknownText, Unreachable, UnusedText}
 use Rattle.drv_check.specs.declared.findings.Warning.{Warning}
 use Rattle.std.specs.Cmp.Lexicographic.{pointwise}
 use Rattle.std.specs.Prelude.{◌||◌, ◌++◌, Bool, List, codes, nat_eq, ℕ}
@@ -17,6 +17,9 @@ warning_name NeverTrue = codes "never-true"
 warning_name NeverOutput = codes "never-true"
 warning_name NeverLibrary = codes "never-true"
 warning_name NeverLanguage = codes "never-true"
+warning_name NeverPiece = codes "never-true"
+warning_name NeverSetting = codes "never-true"
+warning_name NeverSpecs = codes "never-true"
 warning_name UnknownText = codes "unknown-text"
 warning_name HiddenPair = codes "hidden-pair"
 warning_name Unreachable = codes "unreachable"
@@ -33,6 +36,9 @@ warning_words NeverTrue = codes "no switch has this name, as -DX is the switch D
 warning_words NeverOutput = codes "no switch has this name, as -oX is the switch o with the argument X"
 warning_words NeverLibrary = codes "no switch has this name, as -lX is a library"
 warning_words NeverLanguage = codes "no switch has this name, as -xX is a language"
+warning_words NeverPiece = codes "no switch has this name, as its option gives words to a tool"
+warning_words NeverSetting = codes "no switch has this name, as its option is a setting of the call"
+warning_words NeverSpecs = codes "no switch has this name, as --specs=X is the switch specs=X"
 warning_words UnknownText = codes "there is no text of this name"
 warning_words HiddenPair = codes "a later pair of this file has the same key, and it is the one that counts"
 warning_words Unreachable = codes "no line reaches this branch, as an earlier one is taken in its place"

@@ -19,7 +19,10 @@ fn warning_name(warning: Warning) -> &'static [u8]
         Warning::NeverTrue
         | Warning::NeverOutput
         | Warning::NeverLibrary
-        | Warning::NeverLanguage => b"never-true",
+        | Warning::NeverLanguage
+        | Warning::NeverPiece
+        | Warning::NeverSetting
+        | Warning::NeverSpecs => b"never-true",
         Warning::UnknownText => b"unknown-text",
         Warning::HiddenPair => b"hidden-pair",
         Warning::Unreachable => b"unreachable",
@@ -44,6 +47,9 @@ fn warning_words(warning: Warning) -> &'static [u8]
             b"no switch has this name, as -oX is the switch o with the argument X",
         Warning::NeverLibrary => b"no switch has this name, as -lX is a library",
         Warning::NeverLanguage => b"no switch has this name, as -xX is a language",
+        Warning::NeverPiece => b"no switch has this name, as its option gives words to a tool",
+        Warning::NeverSetting => b"no switch has this name, as its option is a setting of the call",
+        Warning::NeverSpecs => b"no switch has this name, as --specs=X is the switch specs=X",
         Warning::UnknownText => b"there is no text of this name",
         Warning::HiddenPair => {
             b"a later pair of this file has the same key, and it is the one that counts"
