@@ -1,19 +1,20 @@
 use Rattle.drv_check.specs.Code.OwnTrees.{tree_or_none}
-use Rattle.drv_check.specs.Namings.{headed_namings, token_namings, tokens_namings, tree_namings}
+use Rattle.drv_check.specs.Namings.{headed_namings, pieces_namings, token_namings, tokens_namings, tree_namings, used_namings}
 use Rattle.drv_check.specs.Origins.{text_spots}
-use Rattle.drv_check.specs.OwnTexts.{is_run, own_text, own_tree, tree_after}
+use Rattle.drv_check.specs.OwnTexts.{own_text, own_tree, tree_after}
 use Rattle.drv_check.specs.declared.findings.Source.{Source}
 use Rattle.drv_check.specs.declared.findings.Spot.{Spot}
 use Rattle.drv_check.specs.declared.loading_order.LoadedPiece.{LoadedPiece}
 use Rattle.drv_check.specs.declared.naming.Naming.{Naming}
+use Rattle.drv_check.specs.declared.pieces.Piece.{Piece}
 use Rattle.drv_specs.specs.Directives.{is_colon}
 use Rattle.drv_syntax.specs.Labels.{label_at}
 use Rattle.drv_syntax.specs.Parsed.{tree_of}
-use Rattle.drv_syntax.specs.Tree.{Items, none}
+use Rattle.drv_syntax.specs.Tree.{Items}
 use Rattle.drv_syntax.specs.declared.token.Token.{Token}
-use Rattle.std.proofs.Common.{◌≡◌, ◌∙◌, ◌<◌, ◌+◌, ◌++◌, ◌∷◌, Bool, Err, List, None, Ok, OnOk, Option, Result, Some, [], ap}
+use Rattle.std.proofs.Common.{◌≡◌, ◌∙◌, ◌<◌, ◌+◌, ◌++◌, ◌∷◌, Err, List, None, Ok, OnOk, Option, Result, Some, ap}
 use Rattle.std.proofs.Common.{append_assoc, drop}
-use Rattle.std.proofs.Common.{false, length, refl, sym, true, ℕ}
+use Rattle.std.proofs.Common.{length, sym, ℕ}
 use Rattle.std.proofs.lemmas.List.{append-nil, drop_more}
 use Rattle.std.specs.List.{position}
 use Rattle.std.specs.Prelude.{get_or}
@@ -21,10 +22,10 @@ use Rattle.std.specs.Prelude.{get_or}
 -- For namings_of (src/naming.rt): the parts of a text that name switches, one after another.
 -- Names: A naming is a part of a text that names a switch. `head` is what precedes the colon of a text, `text` the text or its piece, and
 -- `own` the text as the code reads it. `spots` is the spots of its bytes in files. `items` is its tree. `token` is the one at place `n` of
--- `tokens`. `before` and `after` are the namings before a step and after it, and `whole` is all of them. `sources` is the files that
--- were read, and `loaded` their directives. `colon` is the place of the colon. `result` is what the code's call gives. `tree_of` is the
--- tree of a text (drv_syntax), and `own_tree` that of a piece's text. `tree_namings` and `headed_namings` are the namings of a tree and of
--- a text with a head (specs/Namings).
+-- `tokens`. `before` and `after` are the namings before a step and after it, and `whole` is all of them. `sources` is the files that were
+-- read, and `loaded` their directives. `left` is the pieces of the dump that are left: `piece` and those after it, `later`. `colon` is the
+-- place of the colon. `result` is what the code's call gives. `tree_of` is the tree of a text (drv_syntax), and `own_tree` that of a
+-- piece's text. `tree_namings` and `headed_namings` are the namings of a tree and of a text with a head (specs/Namings).
 
 -- If the namings so far and those of the tokens left are all, then they still are after one token more.
 pub tokens_next : (head text : List ℕ) (spots : List Spot) (items : Items) (n : ℕ) (tokens : List Token) (token : Token)
@@ -54,23 +55,14 @@ of_spots sources loaded head text spots before after (Err e) found grows = grows
 of_spots sources loaded head text spots before after (Ok x) found grows =
     grows ∙ ap (λ ss. before ++ tree_namings head text ss (tree_of text)) found
 
--- For the exit where the text of a piece is run.
+-- For the exit of the code that adds the text of a piece.
 pub of_run : {X E : Type 0} (sources : List Source) (loaded : List LoadedPiece) (head own text : List ℕ) (before after : List Naming)
-    (result : Result X E) → own ≡ text → is_run head own ≡ true
+    (result : Result X E) → own ≡ text
     → OnOk result (after ≡ before ++ tree_namings head own (text_spots sources loaded head own) (tree_of own))
     → OnOk result (after ≡ before ++ headed_namings sources loaded (Some head) text (tree_of text))
-of_run sources loaded head own text before after (Err e) same runs grows = grows
-of_run sources loaded head own text before after (Ok x) same runs grows =
-    let is : before ++ headed_namings sources loaded (Some head) own (tree_of own)
-    ≡ before ++ tree_namings head own (text_spots sources loaded head own) (tree_of own) = rw runs refl in
-    grows ∙ sym is ∙ ap (λ t. before ++ headed_namings sources loaded (Some head) t (tree_of t)) same
-
--- For the exit where it isn't.
-pub of_other : (sources : List Source) (loaded : List LoadedPiece) (head own text : List ℕ) (before : List Naming) → own ≡ text
-    → is_run head own ≡ false → before ≡ before ++ headed_namings sources loaded (Some head) text (tree_of text)
-of_other sources loaded head own text before same runs =
-    let is : before ++ headed_namings sources loaded (Some head) own (tree_of own) ≡ before ++ [] = rw runs refl in
-    sym (append-nil before) ∙ sym is ∙ ap (λ t. before ++ headed_namings sources loaded (Some head) t (tree_of t)) same
+of_run sources loaded head own text before after (Err e) same grows = grows
+of_run sources loaded head own text before after (Ok x) same grows =
+    grows ∙ ap (λ t. before ++ headed_namings sources loaded (Some head) t (tree_of t)) same
 
 -- For the exit where the piece has a colon.
 pub of_colon : {X E : Type 0} (sources : List Source) (loaded : List LoadedPiece) (head text : List ℕ) (at : ℕ) (colon : Option ℕ)
@@ -81,20 +73,19 @@ of_colon sources loaded head text at colon before after (Err e) is found grows =
 of_colon sources loaded head text at colon before after (Ok x) is found grows =
     grows ∙ ap (λ c. before ++ headed_namings sources loaded (Some head) (own_text text) (tree_after c text)) (sym is ∙ found)
 
--- a text without a tree names nothing, be it run or not
-no_names : (sources : List Source) (loaded : List LoadedPiece) (head text : List ℕ) → headed_namings sources loaded (Some head) text none ≡ []
-no_names sources loaded head text = by (is_run head text) refl
-  where
-    -- Plan: `by` goes by both answers of `is_run head text`.
-    by : (runs : Bool) → is_run head text ≡ runs → headed_namings sources loaded (Some head) text none ≡ []
-    by true is = rw is refl
-    by false is = rw is refl
-
 -- For the exit where it has none, and so no text.
 pub of_none : (sources : List Source) (loaded : List LoadedPiece) (head text : List ℕ) (colon : Option ℕ) (before : List Naming)
     → colon ≡ None → colon ≡ position is_colon text
     → before ≡ before ++ headed_namings sources loaded (Some head) (own_text text) (own_tree text)
 of_none sources loaded head text colon before is found =
     sym (append-nil before)
-    ∙ ap (λ ns. before ++ ns) (sym (no_names sources loaded head (own_text text)))
     ∙ ap (λ c. before ++ headed_namings sources loaded (Some head) (own_text text) (tree_after c text)) (sym is ∙ found)
+
+-- If the namings so far and those of the pieces left are all, then they still are after one piece more, which a later one may hide.
+pub pieces_next : (sources : List Source) (loaded : List LoadedPiece) (piece : Piece) (later left : List Piece)
+    (before after whole : List Naming) → left ≡ piece ∷ later → after ≡ before ++ used_namings sources loaded later piece
+    → before ++ pieces_namings sources loaded left ≡ whole → after ++ pieces_namings sources loaded later ≡ whole
+pieces_next sources loaded piece later left before after whole cut grows is =
+    ap (λ ns. ns ++ pieces_namings sources loaded later) grows
+    ∙ append_assoc before (used_namings sources loaded later piece) (pieces_namings sources loaded later)
+    ∙ ap (λ ps. before ++ pieces_namings sources loaded ps) (sym cut) ∙ is

@@ -1,4 +1,5 @@
 use Rattle.drv_check.specs.Compared.{asks_switch, is_call, prefix_of}
+use Rattle.drv_check.specs.HiddenPairs.{is_hidden, key_in}
 use Rattle.drv_check.specs.LoadingOrder.{head_in, loaded_pieces}
 use Rattle.drv_check.specs.Origins.{spot_at, text_spots}
 use Rattle.drv_check.specs.OwnTexts.{is_run, own_text, own_tree}
@@ -18,8 +19,8 @@ use Rattle.drv_syntax.specs.declared.token.TestKind.{TestKind}
 use Rattle.drv_syntax.specs.declared.token.Token.{Token}
 use Rattle.drv_syntax.specs.declared.token.TokenKind.TheVariants as kinds
 use Rattle.drv_syntax.specs.declared.token.TokenKind.{TokenKind}
-use Rattle.std.specs.List.{flat_map}
-use Rattle.std.specs.Prelude.{◌+◌, ◌-◌, ◌||◌, Bool, List, [], ◌∷◌, ◌++◌, None, Option, Some, drop, if◌then◌else◌, length, take, ℕ}
+use Rattle.std.specs.Prelude.{◌+◌, ◌-◌, ◌&&◌, ◌||◌, Bool, List, [], ◌∷◌, ◌++◌, None, Option, Some, drop, false, if◌then◌else◌, length, not}
+use Rattle.std.specs.Prelude.{take, ℕ}
 
 -- The parts of a set's texts that name switches (GCC manual, "Spec Files", %{S}, %{S:X}, %<S and %:version-compare), each with its place in
 -- a file, if a file put its text.
@@ -82,16 +83,33 @@ tree_namings head text spots items = tokens_namings head text spots items 0 (tok
 
 -- of a text of a set, which is a directive of its dump
 
--- the namings of a text by its head, if it is run; a directive without a head gives no text
+-- the namings of a text by its head; a directive without one gives no text
 abbrev pub headed_namings : List Source → List LoadedPiece → Option (List ℕ) → List ℕ → Items → List Naming
 headed_namings sources loaded None text items = []
-headed_namings sources loaded (Some head) text items =
-    if is_run head text then tree_namings head text (text_spots sources loaded head text) items else []
+headed_namings sources loaded (Some head) text items = tree_namings head text (text_spots sources loaded head text) items
 
 -- the namings of a directive of the dump, with the spots of its bytes in files
 abbrev pub piece_namings : List Source → List LoadedPiece → Piece → List Naming
 piece_namings sources loaded piece = headed_namings sources loaded (head_in piece.text) (own_text piece.text) (own_tree piece.text)
 
+-- whether a text is run, by its head, if it has one
+abbrev pub is_headed_run : Option (List ℕ) → List ℕ → Bool
+is_headed_run None text = false
+is_headed_run (Some head) text = is_run head text
+
+-- whether a directive of the dump before these is used: its text is run, and none of them hides it
+abbrev pub is_used : List Piece → Piece → Bool
+is_used later piece = is_headed_run (head_in piece.text) (own_text piece.text) && not (is_hidden (key_in piece.text) later)
+
+-- the namings of a directive of the dump before these, if it is used
+abbrev pub used_namings : List Source → List LoadedPiece → List Piece → Piece → List Naming
+used_namings sources loaded later piece = if is_used later piece then piece_namings sources loaded piece else []
+
+-- the namings of directives of the dump, in their order
+abbrev pub pieces_namings : List Source → List LoadedPiece → List Piece → List Naming
+pieces_namings sources loaded [] = []
+pieces_namings sources loaded (piece ∷ later) = used_namings sources loaded later piece ++ pieces_namings sources loaded later
+
 -- all namings of a set, by its dump: gdrv-specs lists them
 abbrev pub namings_of : List Source → List ℕ → List Naming
-namings_of sources dump = flat_map (piece_namings sources (loaded_pieces sources)) (pieces_of dump)
+namings_of sources dump = pieces_namings sources (loaded_pieces sources) (pieces_of dump)

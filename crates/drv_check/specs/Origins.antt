@@ -1,5 +1,5 @@
 use Rattle.drv_check.specs.Checks.{all_called, empty_check}
-use Rattle.drv_check.specs.Whole.{is_key}
+use Rattle.drv_check.specs.HiddenPairs.{is_key}
 use Rattle.drv_check.specs.declared.findings.Source.{Source}
 use Rattle.drv_check.specs.declared.findings.Spot.{Spot}
 use Rattle.drv_check.specs.declared.loading_order.LoadedPiece.{LoadedPiece}

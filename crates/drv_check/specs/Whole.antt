@@ -1,4 +1,5 @@
 use Rattle.drv_check.specs.Checks.{finding_of, open_file}
+use Rattle.drv_check.specs.HiddenPairs.{is_hidden, key_in}
 use Rattle.drv_check.specs.Points.{front_length}
 use Rattle.drv_check.specs.TokenWarnings.{own_marks}
 use Rattle.drv_check.specs.UnusedTexts.{source_names, unused_marks}
@@ -11,46 +12,14 @@ use Rattle.drv_check.specs.declared.pieces.Piece.{Piece}
 use Rattle.drv_check.specs.declared.unused_text.Names.{Names}
 use Rattle.drv_check.specs.declared.warning.Mark.{Mark}
 use Rattle.drv_specs.specs.Blanks.{is_blank}
-use Rattle.drv_specs.specs.Directives.{is_colon}
 use Rattle.drv_specs.specs.Sets.{Set}
-use Rattle.drv_words.specs.Bytes.{asterisk, percent}
-use Rattle.std.specs.Cmp.Lexicographic.{pointwise}
-use Rattle.std.specs.List.{flat_map, list_any, position}
-use Rattle.std.specs.Prelude.{◌+◌, ◌==◌, ◌||◌, Bool, List, [], ◌∷◌, ◌++◌, None, Option, Some, drop, false, if◌then◌else◌, map, nat_eq, take}
-use Rattle.std.specs.Prelude.{ℕ}
+use Rattle.std.specs.List.{flat_map}
+use Rattle.std.specs.Prelude.{◌+◌, List, [], ◌∷◌, ◌++◌, drop, if◌then◌else◌, map, ℕ}
 
 -- What spec files show once all of them are loaded that is legal and surely not meant (GCC manual, "Spec Files"; this project's profile).
 -- For clauses of src/judging.rt.
 
--- the key of a pair, before the colon
-
--- the key by the place of its colon; a name (after *) and a directive (after %) are no keys
-abbrev pub key_before : Option ℕ → List ℕ → Option (List ℕ)
-key_before None line = None
-key_before (Some at) [] = None
-key_before (Some at) (b ∷ line) = if b == asterisk || b == percent then None else Some (take at (b ∷ line))
-
--- the key of a piece that is a pair, such as .c or @c
-abbrev pub key_in : List ℕ → Option (List ℕ)
-key_in text = key_before (position is_colon (drop (front_length is_blank text) text)) (drop (front_length is_blank text) text)
-
--- a pair that is never used: of pairs with one key the last counts, and a later piece of the file has this one's
-
--- whether a key is there and is this one
-abbrev pub is_key : List ℕ → Option (List ℕ) → Bool
-is_key key None = false
-is_key key (Some other) = pointwise nat_eq key other
-
--- whether a piece puts the pair of this key
-abbrev pub puts_key : List ℕ → Piece → Bool
-puts_key key piece = is_key key (key_in piece.text)
-
--- whether a later piece of the file puts the same key: then this pair is never used
-abbrev pub is_hidden : Option (List ℕ) → List Piece → Bool
-is_hidden None later = false
-is_hidden (Some key) later = list_any (puts_key key) later
-
--- the warning on a pair that a later one hides
+-- the warning on a pair that a later one of its file hides
 abbrev pub pair_marks : List Piece → List ℕ → List Mark
 pair_marks later text = if is_hidden (key_in text) later then record { at = front_length is_blank text; warning = HiddenPair } ∷ [] else []
 

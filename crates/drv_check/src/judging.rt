@@ -1,17 +1,14 @@
 //! What spec files show once all of them are loaded that is surely not meant.
 
 ghost use Rattle.drv_check.specs.Checks.{finding_of};
-ghost use Rattle.drv_check.specs.Whole.{file_judged, is_hidden, is_key, judged, key_in, pair_marks};
-ghost use Rattle.drv_check.specs.Whole.{puts_key, sources_judged, whole_marks};
-ghost use Rattle.std.specs.List.{list_any};
-ghost use Rattle.std.specs.Option.{option_map};
+ghost use Rattle.drv_check.specs.Whole.{file_judged, judged, pair_marks, sources_judged, whole_marks};
 ghost use Rattle.std.specs.Prelude.{◌≡◌, ◌++◌, IfOk, OnOk, drop, map};
 
 use crate::bytes::blanks_before;
 use crate::findings::{Checking, Finding, Source, Warning};
+use crate::hidden_pair::{is_hidden, key_in};
 use crate::opening::{FilePiece, OpenFile, open_file};
 use crate::pieces::Piece;
-use crate::pointing::colon_in;
 use crate::stepping::push_warnings;
 use crate::token_warning::push_own;
 use crate::unused_text::{Names, names_worked, push_unused};
@@ -27,50 +24,6 @@ struct Whole<'a> {
     whose: Names,
     set: &'a SpecSet,
     worked: &'a [Word],
-}
-
-/// The key of a pair that a piece puts.
-fn key_in(text: &[u8]) -> Option<&[u8]>
-    ensures { option_map (λ key. key.now) result ≡ key_in text.now }
-{
-    let line = &text[blanks_before(text)..];
-    let at = colon_in(line)?;
-    match line {
-        [] | [b'*' | b'%', ..] => None,
-        _ => Some(&line[..at]),
-    }
-}
-
-/// Whether a piece puts a pair of this key.
-fn puts_key(key: &[u8], piece: &Piece) -> bool
-    ensures { result ≡ puts_key key.now piece.now }
-{
-    match key_in(piece.text.as_bytes()) {
-        Some(other) => key == other,
-        None => false,
-    }
-}
-
-/// Whether a piece among these puts a pair of this key.
-fn is_put(key: &[u8], later: &[Piece]) -> bool
-    ensures { result ≡ list_any (puts_key key.now) later.now }
-{
-    for piece in later {
-        if puts_key(key, piece) {
-            return true;
-        }
-    }
-    false
-}
-
-/// Whether a later piece hides the pair of this key.
-fn is_hidden(key: Option<&[u8]>, later: &[Piece]) -> bool
-    ensures { result ≡ is_hidden (option_map (λ key. key.now) key.entry) later.now }
-{
-    match key {
-        Some(key) => is_put(key, later),
-        None => false,
-    }
 }
 
 /// Adds the warning of a pair that a later one hides.

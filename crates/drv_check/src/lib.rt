@@ -8,6 +8,7 @@ mod compared;
 mod differing;
 mod fault_notes;
 mod findings;
+mod hidden_pair;
 mod including;
 mod judging;
 mod known_trees;

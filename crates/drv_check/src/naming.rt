@@ -1,17 +1,19 @@
 //! The parts of a set's texts that name switches.
 
-ghost use Rattle.drv_check.specs.Namings.{call_deed, deed_of, headed_namings, naming_if, naming_word, namings_of};
-ghost use Rattle.drv_check.specs.Namings.{piece_namings, test_deed, token_namings, tree_namings, written_part};
+ghost use Rattle.drv_check.specs.LoadingOrder.{head_in};
+ghost use Rattle.drv_check.specs.Namings.{call_deed, deed_of, headed_namings, is_headed_run, is_used};
+ghost use Rattle.drv_check.specs.Namings.{naming_if, naming_word, namings_of};
+ghost use Rattle.drv_check.specs.Namings.{piece_namings, test_deed, token_namings, tree_namings, used_namings, written_part};
 ghost use Rattle.drv_check.specs.Origins.{text_spots};
 ghost use Rattle.drv_check.specs.OwnTexts.{own_text, own_tree};
 ghost use Rattle.drv_syntax.specs.Labels.{label_at};
 ghost use Rattle.drv_syntax.specs.Parsed.{tree_of};
 ghost use Rattle.drv_syntax.specs.Tokens.{tokens_of};
-ghost use Rattle.std.specs.List.{flat_map};
 ghost use Rattle.std.specs.Prelude.{◌≡◌, ◌<◌, ◌++◌, IfOk, OnOk, Some, length};
 
 use crate::compared::{asks_switch, is_call, prefix_of};
 use crate::findings::{Source, Spot};
+use crate::hidden_pair::{is_hidden, key_in};
 use crate::known_trees::known_tree;
 use crate::loading_order::{head_in, loaded_pieces};
 use crate::origins::{Files, spot_at, text_spots};
@@ -269,7 +271,7 @@ fn push_run(
 }
 
 /// Adds the parts of the text of a piece that name switches, where it has this head.
-#[tactic(auto, using(crate::proofs::Namings::of_run, crate::proofs::Namings::of_other))]
+#[tactic(auto, using(crate::proofs::Namings::of_run))]
 fn push_own(
     alloc: Global,
     namings: &mut Listing<Naming>,
@@ -282,11 +284,13 @@ fn push_own(
         ++ headed_namings files.now.sources.now files.now.pieces.now (Some head.now)
         (own_text piece.now.text) (tree_of (own_text piece.now.text))) }
 {
-    let text = own_bytes(piece.text.as_bytes());
-    if !is_run(head, text) {
-        return Ok(());
-    }
-    push_run(alloc, namings, files, head, text)
+    push_run(
+        alloc,
+        namings,
+        files,
+        head,
+        own_bytes(piece.text.as_bytes()),
+    )
 }
 
 /// Adds the parts of the text of a piece that name switches, if it has a colon, and this head before
@@ -327,9 +331,46 @@ fn push_piece(
     }
 }
 
-/// The parts of the texts of a set that name switches, by its dump, in their order. The files that
-/// were loaded into the set say where a part is. Where the set has a text of the dump, its tree is
-/// read from there.
+/// Whether the text of a piece is run, if it has one.
+fn is_headed_run(piece: &Piece) -> bool
+    ensures { result ≡ is_headed_run (head_in piece.now.text) (own_text piece.now.text) }
+{
+    let text = piece.text.as_bytes();
+    match head_in(text) {
+        Some(head) => is_run(head, own_bytes(text)),
+        None => false,
+    }
+}
+
+/// Whether a piece is used: its text is run, and none of these later pieces hides it.
+fn is_used(later: &[Piece], piece: &Piece) -> bool
+    ensures { result ≡ is_used later.now piece.now }
+{
+    is_headed_run(piece) && !is_hidden(key_in(piece.text.as_bytes()), later)
+}
+
+/// Adds the parts of the text of a piece before these that name switches, if it is used.
+fn push_used(
+    alloc: Global,
+    namings: &mut Listing<Naming>,
+    files: &Files<'_>,
+    later: &[Piece],
+    piece: &Piece,
+) -> Result<(), AllocError>
+    ensures { OnOk result
+        (namings.new ≡ namings.old
+        ++ used_namings files.now.sources.now files.now.pieces.now later.now piece.now) }
+{
+    if !is_used(later, piece) {
+        return Ok(());
+    }
+    push_piece(alloc, namings, files, piece)
+}
+
+/// The parts of the texts of a set that name switches, by its dump, in their order. A pair that a
+/// later one of its key hides is never run, and has none. The files that were loaded into the set say
+/// where a part is. Where the set has a text of the dump, its tree is read from there.
+#[tactic(auto, using(crate::proofs::Namings::pieces_next))]
 pub fn namings_of(
     alloc: Global,
     set: &SpecSet,
@@ -346,8 +387,10 @@ pub fn namings_of(
     };
     let pieces = pieces_of(alloc, dump)?;
     let mut namings = Listing::new(alloc);
-    for piece in pieces.as_slice() {
-        push_piece(alloc, &mut namings, &files, piece)?;
+    let mut left = pieces.as_slice();
+    while let [piece, later @ ..] = left {
+        push_used(alloc, &mut namings, &files, later, piece)?;
+        left = later;
     }
     Ok(namings)
 }

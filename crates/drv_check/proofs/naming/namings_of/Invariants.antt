@@ -1,12 +1,12 @@
 use Rattle.drv_check.proofs.naming.namings_of.Given as goal
 use Rattle.drv_check.specs.LoadingOrder.{loaded_pieces}
-use Rattle.drv_check.specs.Namings.{namings_of, piece_namings}
-use Rattle.std.proofs.Common.{◌≡◌, ◌++◌, drop}
-use Rattle.std.specs.List.{flat_map}
+use Rattle.drv_check.specs.Namings.{namings_of, pieces_namings}
+use Rattle.std.proofs.Common.{◌≡◌, ◌++◌, length}
 
 -- The loops of namings_of (src/naming.rt). The parts of the texts of a set that name switches, by its dump, in their order.
 
-abbrev pub invariant-loop-piece : goal.invariant-loop-piece
-invariant-loop-piece l =
-    l.namings ++ flat_map (piece_namings l.sources (loaded_pieces l.sources)) (drop l.piece-index l.piece-items)
-    ≡ namings_of l.sources l.dump
+abbrev pub invariant-loop-left : goal.invariant-loop-left
+invariant-loop-left l = l.namings ++ pieces_namings l.sources (loaded_pieces l.sources) l.left ≡ namings_of l.sources l.dump
+
+abbrev pub decreases-loop-left : goal.decreases-loop-left
+decreases-loop-left l = length l.left

@@ -1,0 +1,39 @@
+use Rattle.drv_check.specs.Points.{front_length}
+use Rattle.drv_check.specs.declared.pieces.Piece.{Piece}
+use Rattle.drv_specs.specs.Blanks.{is_blank}
+use Rattle.drv_specs.specs.Directives.{is_colon}
+use Rattle.drv_words.specs.Bytes.{asterisk, percent}
+use Rattle.std.specs.Cmp.Lexicographic.{pointwise}
+use Rattle.std.specs.List.{list_any, position}
+use Rattle.std.specs.Prelude.{◌==◌, ◌||◌, Bool, List, [], ◌∷◌, None, Option, Some, drop, false, if◌then◌else◌, nat_eq, take, ℕ}
+
+-- A pair that is never used: of pairs with one key the last counts (this project's profile).
+-- For clauses of src/hidden_pair.rt.
+
+-- the key of a pair, before the colon
+
+-- the key by the place of its colon; a name (after *) and a directive (after %) are no keys
+abbrev pub key_before : Option ℕ → List ℕ → Option (List ℕ)
+key_before None line = None
+key_before (Some at) [] = None
+key_before (Some at) (b ∷ line) = if b == asterisk || b == percent then None else Some (take at (b ∷ line))
+
+-- the key of a piece that is a pair, such as .c or @c
+abbrev pub key_in : List ℕ → Option (List ℕ)
+key_in text = key_before (position is_colon (drop (front_length is_blank text) text)) (drop (front_length is_blank text) text)
+
+-- whether a later piece has it
+
+-- whether a key is there and is this one
+abbrev pub is_key : List ℕ → Option (List ℕ) → Bool
+is_key key None = false
+is_key key (Some other) = pointwise nat_eq key other
+
+-- whether a piece puts the pair of this key
+abbrev pub puts_key : List ℕ → Piece → Bool
+puts_key key piece = is_key key (key_in piece.text)
+
+-- whether one of these later pieces puts the same key: then the pair is never used
+abbrev pub is_hidden : Option (List ℕ) → List Piece → Bool
+is_hidden None later = false
+is_hidden (Some key) later = list_any (puts_key key) later
