@@ -33,7 +33,7 @@ makes_from word words rest made (other ∷ others) =
     by false is false nearer stay go come = rw (is, nearer) (comes come)
 
 -- the edits of words make the first list the second
-makes : (words others : List (List ℕ)) → Makes words (edits words others) others
+pub makes : (words others : List (List ℕ)) → Makes words (edits words others) others
 makes [] others = comes_all others
 makes (word ∷ words) others = makes_from word words (edits words) (makes words) others
 

@@ -1,4 +1,7 @@
-use Rattle.drv_forms.specs.Difference.{changes_text, difference, lines_changes, pair_changes, replacement}
+use Rattle.drv_forms.proofs.Edited.{makes}
+use Rattle.drv_forms.specs.Difference.{changes, changes_text, difference, edits_text, entries_text, lines_changes, pair_changes, replacement}
+use Rattle.drv_forms.specs.Edits.{Comes, Edit, Goes, Makes, comes, edits, ends, goes, stays}
+use Rattle.drv_forms.specs.Entries.{entries}
 use Rattle.drv_forms.specs.declared.comparing.LineChange.{LineChange}
 use Rattle.drv_words.proofs.ReadBack.{one_list}
 use Rattle.drv_words.proofs.Shown.{shown_text}
@@ -6,12 +9,12 @@ use Rattle.drv_words.specs.Lines.{lines_of}
 use Rattle.drv_words.specs.Printed.{line_text}
 use Rattle.drv_words.specs.declared.plan.Plan.{Plan}
 use Rattle.drv_words.specs.declared.plan.PlanLine.{PlanLine}
-use Rattle.std.proofs.Common.{◌≡◌, ◌∙◌, Bool, false, true, List, [], ◌∷◌, ◌++◌, ap, append-nil, nat_eq, refl, sym}
+use Rattle.std.proofs.Common.{◌≡◌, ◌∙◌, Bool, false, true, List, [], ◌∷◌, ◌++◌, ap, append-nil, nat_eq, refl, sym, ℕ}
 use Rattle.std.specs.Cmp.Lexicographic.{pointwise, same_text}
 
--- For `no_difference_is_same` (src/laws.rt): nothing is printed of two plans only if their commands are the same.
--- Names: `line` and `other` are lines of the two plans at one place, `lines` and `others` those behind them. `t`: a test's value, so that
--- `by` can go by both cases.
+-- For `no_difference_is_same` (src/laws.rt): nothing is printed of two plans only if they are the same.
+-- Names: `line` and `other` are lines of the two plans at one place, `lines` and `others` those behind them. `none` is that nothing is
+-- printed. `t`: a test's value, so that `by` can go by both cases.
 
 -- the first of lists that are the same
 heads : (line other : PlanLine) → line ∷ [] ≡ other ∷ [] → line ≡ other
@@ -44,6 +47,36 @@ unchanged (line ∷ lines) (other ∷ others) none =
         ∙ ap (λ ls. other ∷ ls) (later (rw is at none))
     by false is later none = absurd (printed line other (lines_changes lines others) (rw is at none))
 
+-- of a text without bytes both halves have none
+first_none : (front rest : List ℕ) → front ++ rest ≡ [] → front ≡ []
+first_none [] rest none = refl
+first_none (b ∷ front) rest none = absurd cc
+
+-- and so has the second
+second_none : (front rest : List ℕ) → front ++ rest ≡ [] → rest ≡ []
+second_none [] rest none = none
+second_none (b ∷ front) rest none = absurd cc
+
+-- edits that print nothing are none
+unprinted : (found : List Edit) → edits_text found ≡ [] → found ≡ []
+unprinted [] none = refl
+unprinted (Goes word ∷ found) none = absurd cc
+unprinted (Comes word ∷ found) none = absurd cc
+
+-- words that no edit changes are the same
+unedited : {words others : List (List ℕ)} {found : List Edit} → Makes words found others → found ≡ [] → words ≡ others
+unedited ends none = refl
+unedited (stays {word} made) none = ap (λ ws. word ∷ ws) (unedited made none)
+unedited (goes made) none = absurd cc
+unedited (comes made) none = absurd cc
+
 -- plans without a difference have the same lines
 pub same_lines : (plan other : Plan) → difference plan other ≡ [] → lines_of plan ≡ lines_of other
-same_lines plan other none = unchanged (lines_of plan) (lines_of other) none
+same_lines plan other none =
+    unchanged (lines_of plan) (lines_of other) (first_none (changes_text (changes plan other)) (entries_text plan other) none)
+
+-- and the same beside these
+pub same_entries : (plan other : Plan) → difference plan other ≡ [] → entries plan ≡ entries other
+same_entries plan other none =
+    unedited (makes (entries plan) (entries other))
+    (unprinted (edits (entries plan) (entries other)) (second_none (changes_text (changes plan other)) (entries_text plan other) none))

@@ -1,4 +1,5 @@
-use Rattle.drv_forms.specs.Edits.{Comes, Edit, Goes, command_edits}
+use Rattle.drv_forms.specs.Edits.{Comes, Edit, Goes, command_edits, edits}
+use Rattle.drv_forms.specs.Entries.{entries}
 use Rattle.drv_forms.specs.declared.comparing.LineChange.{LineChange}
 use Rattle.drv_words.specs.Bytes as byte
 use Rattle.drv_words.specs.Lines.{lines_of}
@@ -83,6 +84,10 @@ change_text change = sides_text change.line change.other
 abbrev pub changes_text : List LineChange → List ℕ
 changes_text = flat_map change_text
 
--- what differs between two plans, as text; it is empty where they are printed alike
+-- what two plans have beside their commands, where they differ: of the first after <, of the second after >
+abbrev pub entries_text : Plan → Plan → List ℕ
+entries_text plan other = edits_text (edits (entries plan) (entries other))
+
+-- what differs between two plans, as text: it is empty only where they are the same
 abbrev pub difference : Plan → Plan → List ℕ
-difference plan other = changes_text (changes plan other)
+difference plan other = changes_text (changes plan other) ++ entries_text plan other

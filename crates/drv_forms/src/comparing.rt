@@ -1,12 +1,13 @@
 //! What differs between two plans.
 
 ghost use Rattle.drv_forms.specs.Difference.{addition, change_text, changed_text, changes, changes_text};
-ghost use Rattle.drv_forms.specs.Difference.{difference as difference_text, lines_changes};
+ghost use Rattle.drv_forms.specs.Difference.{difference as difference_text, entries_text, lines_changes};
 ghost use Rattle.drv_forms.specs.Difference.{marked_line, pair_changes, removal, replacement};
 ghost use Rattle.drv_words.specs.Printed.{line_text as printed_line};
 ghost use Rattle.std.specs.Prelude.{◌≡◌, ◌++◌, IfOk, OnOk, map};
 
-use crate::editing::push_command_edits;
+use crate::editing::{push_command_edits, push_edits};
+use crate::gathering::entries_of;
 use drv_words::{Listing, Plan, PlanLine, Word, plan_lines, render};
 use std::alloc::{AllocError, Global};
 use std::slice::from_ref;
@@ -178,10 +179,23 @@ pub fn changes(alloc: Global, plan: &Plan, other: &Plan) -> Result<Listing<LineC
     Ok(found)
 }
 
-/// What differs between two plans as text.
+/// What two plans have beside their commands, where they differ.
+fn entries_text(alloc: Global, plan: &Plan, other: &Plan) -> Result<Word, AllocError>
+    ensures { IfOk result (λ text. text ≡ entries_text plan.now other.now) }
+{
+    let found = entries_of(alloc, plan)?;
+    let others = entries_of(alloc, other)?;
+    let mut text = Vec::new(alloc);
+    push_edits(alloc, &mut text, found.as_slice(), others.as_slice())?;
+    Ok(Word::from_vec(text))
+}
+
+/// What differs between two plans as text: their commands, and then what they have beside these.
 pub fn difference(alloc: Global, plan: &Plan, other: &Plan) -> Result<Word, AllocError>
     ensures { IfOk result (λ text. text ≡ difference_text plan.now other.now) }
 {
     let found = changes(alloc, plan, other)?;
-    changes_text(alloc, found.as_slice())
+    let mut text = changes_text(alloc, found.as_slice())?;
+    text.extend_from_slice(entries_text(alloc, plan, other)?.as_bytes())?;
+    Ok(text)
 }

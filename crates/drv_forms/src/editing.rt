@@ -58,7 +58,7 @@ fn goes_first(here: Option<usize>, there: Option<usize>) -> bool
 }
 
 /// Adds the words that go and those that come.
-fn push_edits(
+pub(crate) fn push_edits(
     alloc: Global,
     text: &mut Vec<u8>,
     words: &[Word],

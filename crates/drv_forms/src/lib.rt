@@ -7,6 +7,7 @@ mod comparing;
 mod database;
 mod drawing;
 mod editing;
+mod gathering;
 mod json_form;
 mod laws;
 mod pieces;
