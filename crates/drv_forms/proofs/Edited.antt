@@ -1,6 +1,7 @@
 use Rattle.drv_forms.specs.Difference.{words_of}
-use Rattle.drv_forms.specs.Edits.{Comes, Edit, Makes, command_edits, comes, edits, edits_from, ends, goes, goes_first, place_of}
-use Rattle.drv_forms.specs.Edits.{stays}
+use Rattle.drv_forms.specs.Edits.{Makes, command_edits, comes, edits, edits_from, ends, goes, goes_first, place_of, stays}
+use Rattle.drv_forms.specs.declared.editing.Edit.TheVariants.{Comes}
+use Rattle.drv_forms.specs.declared.editing.Edit.{Edit}
 use Rattle.drv_words.specs.declared.plan.Command.{Command}
 use Rattle.std.proofs.Common.{◌≡◌, Bool, false, true, List, [], ◌∷◌, map, nat_eq, refl, subst, sym, ℕ}
 use Rattle.std.specs.Cmp.Lexicographic.{pointwise, same_text}

@@ -2,6 +2,6 @@ pub mod Databases
 mod Documents
 mod Edited
 mod Reading
-mod Sameness
+pub mod Sameness
 mod Shells
 mod Words

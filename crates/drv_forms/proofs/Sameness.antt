@@ -1,8 +1,10 @@
 use Rattle.drv_forms.proofs.Edited.{makes}
 use Rattle.drv_forms.specs.Difference.{changes, changes_text, difference, edits_text, entries_text, lines_changes, pair_changes, replacement}
-use Rattle.drv_forms.specs.Edits.{Comes, Edit, Goes, Makes, comes, edits, ends, goes, stays}
+use Rattle.drv_forms.specs.Edits.{Makes, comes, edits, ends, goes, stays}
 use Rattle.drv_forms.specs.Entries.{entries}
 use Rattle.drv_forms.specs.declared.comparing.LineChange.{LineChange}
+use Rattle.drv_forms.specs.declared.editing.Edit.TheVariants.{Comes, Goes}
+use Rattle.drv_forms.specs.declared.editing.Edit.{Edit}
 use Rattle.drv_words.proofs.ReadBack.{one_list}
 use Rattle.drv_words.proofs.Shown.{shown_text}
 use Rattle.drv_words.specs.Lines.{lines_of}
@@ -14,7 +16,8 @@ use Rattle.std.specs.Cmp.Lexicographic.{pointwise, same_text}
 
 -- For `no_difference_is_same` (src/laws.rt): nothing is printed of two plans only if they are the same.
 -- Names: `line` and `other` are lines of the two plans at one place, `lines` and `others` those behind them. `none` is that nothing is
--- printed. `t`: a test's value, so that `by` can go by both cases.
+-- printed. `front` and `rest` are the halves of a text, and `found` is edits. `made` is that they make the one list the other. `t`: a test's
+-- value, so that `by` can go by both cases.
 
 -- the first of lists that are the same
 heads : (line other : PlanLine) → line ∷ [] ≡ other ∷ [] → line ≡ other
@@ -48,12 +51,12 @@ unchanged (line ∷ lines) (other ∷ others) none =
     by false is later none = absurd (printed line other (lines_changes lines others) (rw is at none))
 
 -- of a text without bytes both halves have none
-first_none : (front rest : List ℕ) → front ++ rest ≡ [] → front ≡ []
+pub first_none : (front rest : List ℕ) → front ++ rest ≡ [] → front ≡ []
 first_none [] rest none = refl
 first_none (b ∷ front) rest none = absurd cc
 
 -- and so has the second
-second_none : (front rest : List ℕ) → front ++ rest ≡ [] → rest ≡ []
+pub second_none : (front rest : List ℕ) → front ++ rest ≡ [] → rest ≡ []
 second_none [] rest none = none
 second_none (b ∷ front) rest none = absurd cc
 
@@ -70,6 +73,10 @@ unedited (stays {word} made) none = ap (λ ws. word ∷ ws) (unedited made none)
 unedited (goes made) none = absurd cc
 unedited (comes made) none = absurd cc
 
+-- lists of words that have no edits are the same
+pub no_edits_same : (words others : List (List ℕ)) → edits words others ≡ [] → words ≡ others
+no_edits_same words others none = unedited (makes words others) none
+
 -- plans without a difference have the same lines
 pub same_lines : (plan other : Plan) → difference plan other ≡ [] → lines_of plan ≡ lines_of other
 same_lines plan other none =
@@ -78,5 +85,5 @@ same_lines plan other none =
 -- and the same beside these
 pub same_entries : (plan other : Plan) → difference plan other ≡ [] → entries plan ≡ entries other
 same_entries plan other none =
-    unedited (makes (entries plan) (entries other))
+    no_edits_same (entries plan) (entries other)
     (unprinted (edits (entries plan) (entries other)) (second_none (changes_text (changes plan other)) (entries_text plan other) none))

@@ -1,6 +1,8 @@
-use Rattle.drv_forms.specs.Edits.{Comes, Edit, Goes, command_edits, edits}
+use Rattle.drv_forms.specs.Edits.{command_edits, edits}
 use Rattle.drv_forms.specs.Entries.{entries}
 use Rattle.drv_forms.specs.declared.comparing.LineChange.{LineChange}
+use Rattle.drv_forms.specs.declared.editing.Edit.TheVariants.{Comes, Goes}
+use Rattle.drv_forms.specs.declared.editing.Edit.{Edit}
 use Rattle.drv_words.specs.Bytes as byte
 use Rattle.drv_words.specs.Lines.{lines_of}
 use Rattle.drv_words.specs.Printed.{line_text, quoted}

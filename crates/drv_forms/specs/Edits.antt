@@ -1,3 +1,5 @@
+use Rattle.drv_forms.specs.declared.editing.Edit.TheVariants.{Comes, Goes}
+use Rattle.drv_forms.specs.declared.editing.Edit.{Edit}
 use Rattle.drv_words.specs.declared.plan.Command.{Command}
 use Rattle.std.specs.Cmp.Lexicographic.{pointwise}
 use Rattle.std.specs.List.{position}
@@ -5,12 +7,7 @@ use Rattle.std.specs.Prelude.{Bool, false, true, List, [], ◌∷◌, ◌++◌, 
 
 -- How the words of one command become those of another: some go and others come, in their order (POSIX XCU 4 "diff"; which of several ways
 -- that is, is this project's profile).
--- For clauses of src/editing.rt and src/comparing.rt.
-
--- a word of the first list that goes, or one of the second that comes
-pub data Edit : Type 0 where
-  Goes : List ℕ → Edit
-  Comes : List ℕ → Edit
+-- For clauses of src/editing.rt and src/comparing.rt. drv_check cites it too.
 
 -- what makes the first list of words the second: a word that is in both stays
 pub data Makes : List (List ℕ) → List Edit → List (List ℕ) → Type 0 where

@@ -1,11 +1,20 @@
 //! How the words of one command become those of another.
 
-ghost use Rattle.drv_forms.specs.Difference.{edits_text, word_line};
+ghost use Rattle.drv_forms.specs.Difference.{edit_text, edits_text, word_line};
 ghost use Rattle.drv_forms.specs.Edits.{command_edits, edits, goes_first, place_of, program_edits};
-ghost use Rattle.std.specs.Prelude.{◌≡◌, ◌++◌, [], OnOk};
+ghost use Rattle.std.specs.Prelude.{◌≡◌, ◌++◌, [], IfOk, OnOk};
 
-use drv_words::{Command, Word, quote};
+use drv_words::{Command, Listing, Word, quote};
 use std::alloc::{AllocError, Global};
+
+/// What makes one list of words another, at one place: any other word stays.
+#[derive(Debug, Drop)]
+pub enum Edit {
+    /// This word of the first list goes.
+    Goes(Word),
+    /// This word of the second list comes.
+    Comes(Word),
+}
 
 /// Adds a word after a mark.
 fn push_word(alloc: Global, text: &mut Vec<u8>, mark: u8, word: &Word) -> Result<(), AllocError>
@@ -18,22 +27,32 @@ fn push_word(alloc: Global, text: &mut Vec<u8>, mark: u8, word: &Word) -> Result
     Ok(())
 }
 
-/// Adds words that go.
-fn push_going(alloc: Global, text: &mut Vec<u8>, words: &[Word]) -> Result<(), AllocError>
-    ensures { OnOk result (text.new.items ≡ text.old.items ++ edits_text (edits words.now [])) }
+/// Adds a word that goes, or one that comes.
+fn push_edit(alloc: Global, text: &mut Vec<u8>, edit: &Edit) -> Result<(), AllocError>
+    ensures { OnOk result (text.new.items ≡ text.old.items ++ edit_text edit.now) }
+{
+    match edit {
+        Edit::Goes(word) => push_word(alloc, text, b'<', word),
+        Edit::Comes(word) => push_word(alloc, text, b'>', word),
+    }
+}
+
+/// Adds that words go.
+fn push_going(found: &mut Listing<Edit>, words: &[Word]) -> Result<(), AllocError>
+    ensures { OnOk result (found.new ≡ found.old ++ edits words.now []) }
 {
     for word in words {
-        push_word(alloc, text, b'<', word)?;
+        found.push(Edit::Goes(word.clone()?))?;
     }
     Ok(())
 }
 
-/// Adds words that come.
-fn push_coming(alloc: Global, text: &mut Vec<u8>, words: &[Word]) -> Result<(), AllocError>
-    ensures { OnOk result (text.new.items ≡ text.old.items ++ edits_text (edits [] words.now)) }
+/// Adds that words come.
+fn push_coming(found: &mut Listing<Edit>, words: &[Word]) -> Result<(), AllocError>
+    ensures { OnOk result (found.new ≡ found.old ++ edits [] words.now) }
 {
     for word in words {
-        push_word(alloc, text, b'>', word)?;
+        found.push(Edit::Comes(word.clone()?))?;
     }
     Ok(())
 }
@@ -57,6 +76,34 @@ fn goes_first(here: Option<usize>, there: Option<usize>) -> bool
     }
 }
 
+/// The words of the first list that go and those of the second that come, in their order. They make
+/// the first list the second, but may not be the fewest that do.
+pub fn edits(alloc: Global, words: &[Word], others: &[Word]) -> Result<Listing<Edit>, AllocError>
+    ensures { IfOk result (λ found. found ≡ edits words.now others.now) }
+{
+    let mut found = Listing::new(alloc);
+    let mut left = words;
+    let mut coming = others;
+    while let [word, behind @ ..] = left {
+        let [other, rest @ ..] = coming else {
+            push_going(&mut found, left)?;
+            return Ok(found);
+        };
+        if word == other {
+            left = behind;
+            coming = rest;
+        } else if goes_first(place_of(other, behind), place_of(word, rest)) {
+            found.push(Edit::Goes(word.clone()?))?;
+            left = behind;
+        } else {
+            found.push(Edit::Comes(other.clone()?))?;
+            coming = rest;
+        }
+    }
+    push_coming(&mut found, coming)?;
+    Ok(found)
+}
+
 /// Adds the words that go and those that come.
 pub(crate) fn push_edits(
     alloc: Global,
@@ -67,24 +114,11 @@ pub(crate) fn push_edits(
     ensures { OnOk result (text.new.items
         ≡ text.old.items ++ edits_text (edits words.now others.now)) }
 {
-    let mut left = words;
-    let mut coming = others;
-    while let [word, behind @ ..] = left {
-        let [other, rest @ ..] = coming else {
-            return push_going(alloc, text, left);
-        };
-        if word == other {
-            left = behind;
-            coming = rest;
-        } else if goes_first(place_of(other, behind), place_of(word, rest)) {
-            push_word(alloc, text, b'<', word)?;
-            left = behind;
-        } else {
-            push_word(alloc, text, b'>', other)?;
-            coming = rest;
-        }
+    let found = edits(alloc, words, others)?;
+    for edit in found.as_slice() {
+        push_edit(alloc, text, edit)?;
     }
-    push_coming(alloc, text, coming)
+    Ok(())
 }
 
 /// Adds the program that goes and the one that comes, if they differ.

@@ -19,6 +19,7 @@ pub use changes_json::put_changes;
 pub use comparing::{LineChange, changes, changes_text, difference};
 pub use database::compile_commands;
 pub use drawing::picture;
+pub use editing::{Edit, edits};
 pub use json_form::{plan_json, put_number, put_word, put_words};
 pub use laws::{edits_make_the_words, no_difference_is_same};
 pub use scripting::script;
