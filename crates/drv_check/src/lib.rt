@@ -40,7 +40,7 @@ mod unused_text;
 mod warning;
 
 pub use checking::{FileCheck, check_files};
-pub use differing::texts_difference;
+pub use differing::{no_difference_is_same_pairs, texts_difference};
 pub use fault_notes::{SpecFiles, fault_note};
 pub use findings::{Checking, Finding, Note, Source, Spot, Warning};
 pub use laws::{
