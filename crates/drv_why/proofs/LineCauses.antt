@@ -3,28 +3,25 @@ use Rattle.drv_args.specs.declared.line.Line.{Line}
 use Rattle.drv_args.specs.declared.line.Switch.{Switch}
 use Rattle.drv_check.specs.declared.marking.MarkedPart.{MarkedPart}
 use Rattle.drv_match.specs.Pattern.{Pattern}
-use Rattle.drv_syntax.specs.Labels.{label_at}
 use Rattle.drv_syntax.specs.Outcome.{parsed}
 use Rattle.drv_syntax.specs.Parsed.{tree_in, tree_of}
-use Rattle.drv_syntax.specs.Tree.{Items, none}
+use Rattle.drv_syntax.specs.Tree.{none}
 use Rattle.drv_syntax.specs.declared.fault.SyntaxFault.{SyntaxFault}
-use Rattle.drv_syntax.specs.declared.token.Token.{Token}
-use Rattle.drv_why.specs.Causes.{Case, all_caused, behind_groups, case_at, caused, causes_of, input_at, input_word, makers, number_told, word_of_input}
-use Rattle.drv_why.specs.Causes.{numbers_told, outer_of, outers_from, outers_of, source_of, token_told, tokens_told, tree_told}
+use Rattle.drv_why.specs.Causes.{all_caused, behind_groups, case_at, caused, causes_of, input_at, input_word, makers, word_of_input}
+use Rattle.drv_why.specs.Causes.{outer_of, outers_from, outers_of, source_of}
 use Rattle.drv_why.specs.Taken.{is_taken, is_this, with_name, with_names, with_option, with_switches}
 use Rattle.drv_why.specs.declared.outers.Outer.{Outer}
-use Rattle.drv_why.specs.declared.telling.Telling.{Telling}
 use Rattle.drv_why.specs.declared.traces.Trace.{Trace}
 use Rattle.drv_words.specs.declared.plan.Command.{Command}
 use Rattle.drv_words.specs.declared.plan.Job.{Job}
-use Rattle.std.proofs.Common.{◌≡◌, ◌∙◌, ◌<◌, ◌≤◌, ◌+◌, ◌-◌, ◌∷◌, ◌++◌, Bool, Err, List, None, Option, Some, [], ap, append_assoc}
+use Rattle.std.proofs.Common.{◌≡◌, ◌∙◌, ◌<◌, ◌≤◌, ◌+◌, ◌-◌, ◌∷◌, ◌++◌, Err, List, None, Option, Some, [], ap, append_assoc}
 use Rattle.std.proofs.Common.{arith, drop, false, length, refl, sym, true, ℕ}
 use Rattle.std.proofs.lemmas.Bool.Decides.{Decides-eqb, nat_tests}
 use Rattle.std.proofs.lemmas.List.{drop_all, drop_more}
 use Rattle.std.proofs.lemmas.Slice.Eq.{slice_eq-Decides}
 use Rattle.std.specs.Cmp.Lexicographic.{pointwise}
 use Rattle.std.specs.Option.{option_to_list}
-use Rattle.std.specs.Prelude.{get_or, if◌then◌else◌, nat_eq, nat_le, nat_lt}
+use Rattle.std.specs.Prelude.{get_or, if◌then◌else◌, nat_eq, nat_lt}
 
 -- For origins_report (src/causes.rt, src/taking.rt): what the words of a command are for, token by token and part by part.
 -- Names: `n` is a place in a list, and the item there has the list's name in the singular: `job` of `jobs`, `token` of `tokens`. `before`
@@ -158,26 +155,7 @@ pub no_input : (n : ℕ) (inputs : List Input) (word : List ℕ) (whole : List (
     → word_of_input (drop n inputs) word ≡ whole → [] ≡ whole
 no_input n inputs word whole past is = sym (ap (λ is. word_of_input is word) (drop_all n inputs past)) ∙ is
 
--- tokens and parts
-
--- For `take_tree`: if what is said so far and what the tokens left say are the whole, then they still are after one token more.
-pub token_next : (case : Case) (items : Items) (n : ℕ) (tokens : List Token) (token : Token) (before after whole : Telling)
-    → n < length tokens → token ≡ get_or tokens n token → nat_le before.walk.last token.start ≡ false
-    → after ≡ token_told case token (label_at items n) before
-    → tokens_told case items n before (drop n tokens) ≡ whole
-    → tokens_told case items (n + 1) after (drop (n + 1) tokens) ≡ whole
-token_next case items n tokens token before after whole below here inside takes is =
-    ap (λ t. tokens_told case items (n + 1) t (drop (n + 1) tokens)) takes
-    ∙ sym (ap (tokens_told case items n before) (drop_more tokens n token below)
-    ∙ ap (λ t. tokens_told case items n before (t ∷ drop (n + 1) tokens)) (sym here) ∙ rw inside refl) ∙ is
-
--- For `take_tree`: if token n begins behind the part, then what is said so far is the whole.
-pub token_behind : (case : Case) (items : Items) (n : ℕ) (tokens : List Token) (token : Token) (before whole : Telling)
-    → n < length tokens → token ≡ get_or tokens n token → nat_le before.walk.last token.start ≡ true
-    → tokens_told case items n before (drop n tokens) ≡ whole → before ≡ whole
-token_behind case items n tokens token before whole below here behind is =
-    sym (ap (tokens_told case items n before) (drop_more tokens n token below)
-    ∙ ap (λ t. tokens_told case items n before (t ∷ drop (n + 1) tokens)) (sym here) ∙ rw behind refl) ∙ is
+-- texts and parts
 
 -- a text that the grammar refuses has no item
 pub no_tree : (text : List ℕ) (fault : SyntaxFault) → parsed text ≡ Err fault → tree_of text ≡ none
@@ -186,16 +164,6 @@ no_tree text fault is = ap tree_in is
 -- a text that is kept is the same one
 pub same_text : (kept text : List ℕ) → pointwise nat_eq kept text ≡ true → kept ≡ text
 same_text kept text is = (slice_eq-Decides Decides-eqb kept text (pointwise nat_eq kept text) refl).0 is
-
--- For `take_text`: if the tree that is kept is that of the text, then what it says is what the text's tree says.
-pub kept_told : (case : Case) (before after : Telling) (text kept : List ℕ) (has : Bool) → has ≡ true → (has ≡ true → kept ≡ text)
-    → after ≡ tree_told case before (tree_of kept) → after ≡ tree_told case before (tree_of text)
-kept_told case before after text kept has is same takes = takes ∙ ap (λ t. tree_told case before (tree_of t)) (same is)
-
--- For `take_text`: if the text has no tree, then it says nothing.
-pub none_told : (case : Case) (before : Telling) (text : List ℕ) (has : Bool) → has ≡ false → (has ≡ false → tree_of text ≡ none)
-    → before ≡ tree_told case before (tree_of text)
-none_told case before text has is lacks = sym (ap (tree_told case before) (lacks is))
 
 -- For `outers_of`: if the numbers so far and those of the parts left are all, then they still are after one part more.
 pub outer_next : (n : ℕ) (parts : List MarkedPart) (part : MarkedPart) (outer next : Outer) (before after whole : List ℕ) → n < length parts
@@ -207,15 +175,6 @@ outer_next n parts part outer next before after whole below here judged grows is
     ∙ ap (λ o. before ++ o.number ∷ outers_from (n + 1) o (drop (n + 1) parts)) judged
     ∙ ap (λ p. before ++ outers_from n outer (p ∷ drop (n + 1) parts)) here
     ∙ ap (λ ps. before ++ outers_from n outer ps) (sym (drop_more parts n part below)) ∙ is
-
--- For `causes_of`: if what is said so far and what the marks left say are the whole, then they still are after one mark more.
-pub number_next : (case : Case) (n number : ℕ) (numbers : List ℕ) (before after whole : Telling)
-    → n < length numbers → number ≡ get_or numbers n number → after ≡ number_told case before number
-    → numbers_told case before (drop n numbers) ≡ whole → numbers_told case after (drop (n + 1) numbers) ≡ whole
-number_next case n number numbers before after whole below here takes is =
-    ap (λ t. numbers_told case t (drop (n + 1) numbers)) takes
-    ∙ ap (λ m. numbers_told case before (m ∷ drop (n + 1) numbers)) here
-    ∙ ap (numbers_told case before) (sym (drop_more numbers n number below)) ∙ is
 
 -- The words of a command, one behind another. `behind` is the word before, and `ts` is words with their parts.
 

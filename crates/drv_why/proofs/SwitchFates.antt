@@ -159,6 +159,12 @@ passed_over sources name live naming text unlike =
     ap (λ test. if test then naming_text sources naming else []) (unlike_concerns name live naming unlike) in
     sym (append-nil text) ∙ ap (λ t. text ++ t) none
 
+-- For `push_all_lines`: a switch that another one cancels has lines.
+pub cancelled_named : (name lines text before : List ℕ) → text ≡ before ++ cancelled_text (Some name)
+    → text ++ lines ≡ before ++ or_unnamed (cancelled_text (Some name) ++ lines)
+cancelled_named name lines text before is =
+    ap (λ t. t ++ lines) is ∙ append_assoc before (cancelled_text (Some name)) lines
+
 -- For `fates_text`: if the text so far and the switches left are the whole, then they still are after one switch more.
 pub switch_next : (sources : List Source) (namings : List Naming) (switch : Switch) (later left : List Switch) (by : Option (List ℕ))
     (live : Bool) (lines before after whole : List ℕ)

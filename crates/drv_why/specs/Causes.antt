@@ -18,8 +18,8 @@ use Rattle.drv_why.specs.Taken.{is_this, repeated_options, taken_options, with_n
 use Rattle.drv_why.specs.Traces.{traces_by}
 use Rattle.drv_why.specs.Walks.{after_token, gives, is_passed, reach, way_to}
 use Rattle.drv_why.specs.declared.outers.Outer.{Outer}
-use Rattle.drv_why.specs.declared.telling.Telling.{Telling}
 use Rattle.drv_why.specs.declared.traces.Trace.{Trace}
+use Rattle.drv_why.specs.declared.walking.Walk.{Walk}
 use Rattle.drv_words.specs.declared.plan.Command.{Command}
 use Rattle.drv_words.specs.declared.plan.Job.{Job}
 use Rattle.drv_words.specs.declared.plan.PlanLine.{PlanLine}
@@ -114,6 +114,11 @@ takes case (kinds.Leaf leaf) label = leaf_takes case leaf
 takes case kind label = []
 
 -- the tokens of a text
+
+-- the way to a word's part, and what the word is for so far
+pub record Telling : Type 0 where
+  pub walk : Walk
+  pub names : List (List ℕ)
 
 -- whether a test is true that takes these
 abbrev pub is_true : Label → List (List ℕ) → Bool

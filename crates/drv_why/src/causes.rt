@@ -4,16 +4,16 @@ ghost use Rattle.drv_syntax.specs.Labels.{label_at};
 ghost use Rattle.drv_syntax.specs.Parsed.{tree_of};
 ghost use Rattle.drv_syntax.specs.Tokens.{tokens_of};
 ghost use Rattle.drv_why.specs.Causes.{behind_groups, input_at, input_word, is_true, label_pattern, leaf_takes, makers, output_takes};
-ghost use Rattle.drv_why.specs.Causes.{source_of, takes, test_takes, word_of_input};
+ghost use Rattle.drv_why.specs.Causes.{source_of, word_of_input};
+ghost use Rattle.drv_why.specs.Code.Takers.{asked_options};
 ghost use Rattle.std.specs.Option.{option_map, option_to_list};
 ghost use Rattle.std.specs.Prelude.{◌≡◌, ◌∷◌, ◌<◌, [], IfOk, length};
 
-use crate::repeating::repeated_options;
 use crate::taking::{is_this, taken_options};
-use drv_args::{Input, Line};
+use drv_args::{Input, Line, Switch};
 use drv_check::MarkedPart;
 use drv_match::Pattern;
-use drv_syntax::{Leaf, SpecTree, TestKind, TokenKind};
+use drv_syntax::{Leaf, SpecTree, TestKind};
 use drv_words::{Group, Job, Listing, Word};
 use std::alloc::{AllocError, Global};
 use std::marker::Model;
@@ -174,7 +174,11 @@ fn output_takes(alloc: Global, case: &Case<'_>) -> Result<Listing<Word>, AllocEr
 }
 
 /// What a directive without an inside takes of the line.
-fn leaf_takes(alloc: Global, case: &Case<'_>, leaf: Leaf) -> Result<Listing<Word>, AllocError>
+pub(crate) fn leaf_takes(
+    alloc: Global,
+    case: &Case<'_>,
+    leaf: Leaf,
+) -> Result<Listing<Word>, AllocError>
     ensures { IfOk result (λ names. names ≡ leaf_takes case.now leaf) }
 {
     match leaf {
@@ -195,46 +199,23 @@ fn pattern_at(tree: &SpecTree, place: usize) -> Pattern<'_>
     }
 }
 
-/// What the test at this place takes.
-fn test_takes(
+/// What the test at this place takes of the switches of a line.
+pub(crate) fn asked_options(
     alloc: Global,
-    case: &Case<'_>,
+    switches: &[Switch],
     tree: &SpecTree,
     place: usize,
 ) -> Result<Listing<Word>, AllocError>
     requires { place < length (tokens_of (tree_of tree.now)) }
     ensures { IfOk result (λ names. names
-        ≡ test_takes case.now (label_at (tree_of tree.now) place).asks (label_at (tree_of tree.now) place)) }
+        ≡ asked_options switches.now (label_at (tree_of tree.now) place).asks (label_at (tree_of tree.now) place)) }
 {
     match tree.asks(place) {
         TestKind::Switch => {
             let pattern = pattern_at(tree, place);
-            taken_options(alloc, &pattern, case.line.switches.as_slice())
+            taken_options(alloc, &pattern, switches)
         }
         TestKind::Suffix | TestKind::Language | TestKind::Result => Ok(Listing::new(alloc)),
-    }
-}
-
-/// What the token at this place takes.
-pub(crate) fn takes(
-    alloc: Global,
-    case: &Case<'_>,
-    tree: &SpecTree,
-    place: usize,
-    kind: TokenKind,
-) -> Result<Listing<Word>, AllocError>
-    requires { place < length (tokens_of (tree_of tree.now)) }
-    ensures { IfOk result
-        (λ names. names ≡ takes case.now kind (label_at (tree_of tree.now) place)) }
-{
-    match kind {
-        TokenKind::Test => test_takes(alloc, case, tree, place),
-        TokenKind::Pattern => {
-            let pattern = pattern_at(tree, place);
-            repeated_options(alloc, &pattern, case)
-        }
-        TokenKind::Leaf(leaf) => leaf_takes(alloc, case, leaf),
-        _ => Ok(Listing::new(alloc)),
     }
 }
 

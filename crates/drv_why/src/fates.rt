@@ -182,17 +182,6 @@ fn later_switch_text(alloc: Global, name: &Word) -> Result<Word, AllocError>
     cancelled_line(alloc, &option)
 }
 
-/// The line of the switch that cancels one, if one does.
-fn cancelled_text(alloc: Global, by: Option<&Word>) -> Result<Word, AllocError>
-    ensures { IfOk result
-        (λ text. text ≡ cancelled_text (option_map (λ word. word.now) by.entry)) }
-{
-    match by {
-        Some(name) => later_switch_text(alloc, name),
-        None => Ok(Word::empty(alloc)),
-    }
-}
-
 /// Whether no switch cancels one.
 pub(crate) fn is_live(by: Option<&Word>) -> bool
     ensures { result ≡ is_none (option_map (λ word. word.now) by.entry) }
@@ -276,6 +265,27 @@ fn push_lines(text: &mut Word, lines: &Word) -> Result<(), AllocError>
     text.extend_from_slice(lines.as_bytes())
 }
 
+/// Adds the lines of a switch, which another one may cancel, or that there are none.
+#[tactic(auto, using(crate::proofs::SwitchFates::cancelled_named))]
+fn push_all_lines(
+    alloc: Global,
+    text: &mut Word,
+    by: Option<&Word>,
+    lines: &Word,
+) -> Result<(), AllocError>
+    ensures { OnOk result
+        (text.new ≡ text.old
+        ++ or_unnamed (cancelled_text (option_map (λ word. word.now) by.entry) ++ lines.now)) }
+{
+    match by {
+        Some(name) => {
+            text.extend_from_slice(later_switch_text(alloc, name)?.as_bytes())?;
+            text.extend_from_slice(lines.as_bytes())
+        }
+        None => push_lines(text, lines),
+    }
+}
+
 /// Adds the argument of a switch.
 fn push_argument(alloc: Global, text: &mut Word, arg: &Option<Word>) -> Result<(), AllocError>
     ensures { OnOk result (text.new ≡ text.old ++ argument_text arg.now) }
@@ -311,9 +321,7 @@ fn push_fate(
         ++ or_unnamed (cancelled_text (option_map (λ word. word.now) by.entry) ++ lines.now)) }
 {
     push_switch(alloc, text, switch)?;
-    let mut all = cancelled_text(alloc, by)?;
-    all.extend_from_slice(lines.as_bytes())?;
-    push_lines(text, &all)
+    push_all_lines(alloc, text, by, lines)
 }
 
 /// What becomes of the switches of a line, as text.

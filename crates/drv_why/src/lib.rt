@@ -17,6 +17,7 @@ mod reasons;
 mod reasons_json;
 mod repeating;
 mod report;
+mod takers;
 mod taking;
 mod telling;
 mod traces;

@@ -125,15 +125,32 @@ fn repeats(case: &Case<'_>, switch: &Switch) -> bool {
         || (is_option(case.before, switch.name.as_bytes()) && is_this(case.word, &switch.arg))
 }
 
+/// Whether a word repeats the switch at a place.
+fn repeats_at(case: &Case<'_>, place: usize) -> bool {
+    match case.line.switches.as_slice().get(place) {
+        Some(switch) => repeats(case, switch),
+        None => false,
+    }
+}
+
 /// The place of a switch that a word repeats, from the last such place on. Without one it stays.
+/// Most often it is that place or the next one.
 pub(crate) fn place_near(case: &Case<'_>) -> usize {
+    let near = case.near;
+    let next = near.saturating_add(1);
+    if repeats_at(case, near) {
+        return near;
+    }
+    if repeats_at(case, next) {
+        return next;
+    }
     let switches = case.line.switches.as_slice();
-    let from = switches_from(switches, case.near);
-    match from.iter().position(|switch| repeats(case, switch)) {
-        Some(further) => case.near.saturating_add(further),
+    let further = switches_from(switches, next);
+    match further.iter().position(|switch| repeats(case, switch)) {
+        Some(count) => next.saturating_add(count),
         None => {
             let place = switches.iter().position(|switch| repeats(case, switch));
-            place.unwrap_or(case.near)
+            place.unwrap_or(near)
         }
     }
 }

@@ -34,7 +34,11 @@ fn add_name(alloc: Global, names: &mut Listing<Word>, name: &[u8]) -> Result<(),
 
 /// Adds several names, each unless it is there.
 #[tactic(auto, using(crate::proofs::LineCauses::name_next))]
-fn add_names(alloc: Global, names: &mut Listing<Word>, others: &[Word]) -> Result<(), AllocError>
+pub(crate) fn add_names(
+    alloc: Global,
+    names: &mut Listing<Word>,
+    others: &[Word],
+) -> Result<(), AllocError>
     ensures { OnOk result (names.new ≡ with_names names.old others.now) }
 {
     for name in others {

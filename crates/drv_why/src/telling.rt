@@ -1,246 +1,149 @@
-//! Goes through the parts of a word for what it is for.
+//! What a word of a command is for, by the takers of its parts.
 
-ghost use Rattle.drv_syntax.specs.Labels.{label_at};
-ghost use Rattle.drv_syntax.specs.Parsed.{tree_of};
-ghost use Rattle.drv_syntax.specs.Tokens.{tokens_of};
-ghost use Rattle.drv_syntax.specs.Tree.{none};
-ghost use Rattle.drv_why.specs.Causes.{causes_of, may_take, number_told, takes, token_told};
-ghost use Rattle.drv_why.specs.Causes.{told_by, told_on, tree_told};
+ghost use Rattle.drv_why.specs.Causes.{causes_of};
+ghost use Rattle.drv_why.specs.Code.Takers.{all_taken, last_takers, taker_takes, takers_at};
 ghost use Rattle.drv_why.specs.Taken.{with_names};
-ghost use Rattle.drv_why.specs.Walks.{way_to};
-ghost use Rattle.std.specs.Prelude.{◌≡◌, ◌<◌, ◌+◌, ◌-◌, [], IfOk, OnOk, false, if◌then◌else◌, length, true};
+ghost use Rattle.std.specs.Prelude.{◌≡◌, [], IfOk, IsTrue, None, OnOk, Some};
 
-use crate::causes::{Case, is_true, takes};
-use crate::taking::add_listing;
-use crate::walking::{Walk, after_token, gives, is_behind, is_passed, reach};
-use drv_check::MarkedPart;
-use drv_syntax::{SpecTree, SyntaxFault, TestKind, Token, TokenKind, parse};
+use crate::causes::{Case, leaf_takes};
+use crate::repeating::repeated_options;
+use crate::takers::{Taker, takers_in};
+use crate::taking::{add_listing, add_names};
+use drv_match::Pattern;
+use drv_syntax::SpecTree;
 use drv_words::{Listing, Word};
 use std::alloc::{AllocError, Global};
 
-/// What a word is for, as far as the tokens of a text were read.
+/// What is kept of the last part, since the next word is often of the same one.
 #[derive(Drop)]
-pub(crate) struct Telling {
-    /// The way to the word's part.
-    walk: Walk,
-    /// The options and inputs so far.
-    names: Listing<Word>,
+pub(crate) struct Kept {
+    /// The tree of the last text.
+    tree: SpecTree,
+    /// The number of the last part.
+    number: Option<usize>,
+    /// The takers of that part.
+    takers: Listing<Taker>,
 }
 
-/// A token of a tree.
-#[derive(Drop)]
-struct Met<'a> {
-    /// The tree.
-    tree: &'a SpecTree,
-    /// The token's place among those of the tree.
-    place: usize,
-    /// The token.
-    token: Token,
-}
-
-/// Keeps the tree of a text, unless that has none. A text that is kept isn't read again.
-#[tactic(auto, using(crate::proofs::LineCauses::no_tree, crate::proofs::LineCauses::same_text))]
-fn keep(alloc: Global, kept: &mut SpecTree, text: &[u8]) -> Result<bool, AllocError>
-    ensures kept { IfOk result (λ has. has ≡ true → kept.new ≡ text.now) }
-    ensures none { IfOk result (λ has. has ≡ false → tree_of text.now ≡ none) }
-{
-    if kept.text() == text {
-        return Ok(true);
-    }
-    match parse(alloc, text) {
-        Ok(tree) => {
-            *kept = tree;
-            Ok(true)
-        }
-        Err(SyntaxFault::Memory) => Err(AllocError),
-        Err(_) => Ok(false),
-    }
-}
-
-/// The way to a part in its outermost one.
-fn way_in(part: &MarkedPart, outer: &MarkedPart) -> Result<Walk, AllocError>
-    ensures { IfOk result (λ walk. walk
-        ≡ way_to (part.now.at - outer.now.at) (part.now.at - outer.now.at + length part.now.written)) }
-{
-    let at = part.at.saturating_sub(outer.at);
-    let Some(last) = at.checked_add(part.written.len()) else {
-        return Err(AllocError);
-    };
-    Ok(Walk::new(at, last))
-}
-
-/// Whether a token of this kind may take something.
-fn may_take(kind: TokenKind) -> bool
-    ensures { result ≡ may_take kind }
-{
-    matches!(
-        kind,
-        TokenKind::Test | TokenKind::Pattern | TokenKind::Leaf(_)
-    )
-}
-
-impl Telling {
-    /// Before the first part of a word.
-    fn new(alloc: Global) -> Telling
-        ensures { result ≡ record { walk = way_to 0 0; names = [] } }
-    {
-        Telling {
-            walk: Walk::new(0, 0),
-            names: Listing::new(alloc),
-        }
-    }
-
-    /// Adds what a token takes, if the words are for it.
-    fn add_found(
-        &mut self,
-        alloc: Global,
-        is_given: bool,
-        found: Listing<Word>,
-    ) -> Result<(), AllocError>
-        ensures { OnOk result (self.new ≡ record (self.old) {
-          names = if is_given then with_names self.old.names found else self.old.names;
-        }) }
-    {
-        if is_given {
-            add_listing(alloc, &mut self.names, found)?;
-        }
-        Ok(())
-    }
-
-    /// Takes a token on the way.
-    fn take_on_way(
-        &mut self,
-        alloc: Global,
-        case: &Case<'_>,
-        met: &Met<'_>,
-    ) -> Result<(), AllocError>
-        requires { met.now.place < length (tokens_of (tree_of met.now.tree.now)) }
-        ensures { OnOk result (self.new
-            ≡ told_by met.now.token (label_at (tree_of met.now.tree.now) met.now.place)
-            (takes case.now met.now.token.kind
-            (label_at (tree_of met.now.tree.now) met.now.place)) self.old) }
-    {
-        let tree = met.tree;
-        let place = met.place;
-        let found = takes(alloc, case, tree, place, met.token.kind)?;
-        let is_given = gives(self.walk, met.token, tree.is_negated(place));
-        let holds = is_true(tree, place, found.as_slice());
-        self.add_found(alloc, is_given, found)?;
-        self.walk = after_token(self.walk, met.token, tree.asks(place), holds);
-        Ok(())
-    }
-
-    /// Takes a token on the way, which may take nothing.
-    fn take_met(&mut self, alloc: Global, case: &Case<'_>, met: &Met<'_>) -> Result<(), AllocError>
-        requires { met.now.place < length (tokens_of (tree_of met.now.tree.now)) }
-        ensures { OnOk result (self.new
-            ≡ told_on case.now met.now.token
-            (label_at (tree_of met.now.tree.now) met.now.place) self.old) }
-    {
-        if may_take(met.token.kind) {
-            return self.take_on_way(alloc, case, met);
-        }
-        self.walk = after_token(self.walk, met.token, TestKind::Switch, false);
-        Ok(())
-    }
-
-    /// Takes one more token.
-    fn take_token(
-        &mut self,
-        alloc: Global,
-        case: &Case<'_>,
-        met: &Met<'_>,
-    ) -> Result<(), AllocError>
-        requires { met.now.place < length (tokens_of (tree_of met.now.tree.now)) }
-        ensures { OnOk result (self.new
-            ≡ token_told case.now met.now.token
-            (label_at (tree_of met.now.tree.now) met.now.place) self.old) }
-    {
-        self.walk = reach(self.walk, met.token);
-        if is_passed(self.walk, met.token) {
-            return Ok(());
-        }
-        self.take_met(alloc, case, met)
-    }
-
-    /// Takes the tokens of a tree.
-    #[tactic(auto, using(crate::proofs::LineCauses::token_next, crate::proofs::LineCauses::token_behind))]
-    fn take_tree(
-        &mut self,
-        alloc: Global,
-        case: &Case<'_>,
-        tree: &SpecTree,
-    ) -> Result<(), AllocError>
-        ensures { OnOk result (self.new ≡ tree_told case.now self.old (tree_of tree.now)) }
-    {
-        let tokens = tree.tokens();
-        let mut place = 0;
-        while place < tokens.len() {
-            let token = tokens[place];
-            if is_behind(self.walk, token) {
-                return Ok(());
-            }
-            self.take_token(alloc, case, &Met { tree, place, token })?;
-            place += 1;
-        }
-        Ok(())
-    }
-
-    /// Takes a text. Its tree is kept for the next one.
-    #[tactic(auto, using(crate::proofs::LineCauses::kept_told, crate::proofs::LineCauses::none_told))]
-    fn take_text(
-        &mut self,
-        alloc: Global,
-        kept: &mut SpecTree,
-        case: &Case<'_>,
-        text: &[u8],
-    ) -> Result<(), AllocError>
-        ensures { OnOk result (self.new ≡ tree_told case.now self.old (tree_of text.now)) }
-    {
-        if keep(alloc, kept, text)? {
-            self.take_tree(alloc, case, kept)?;
-        }
-        Ok(())
-    }
-
-    /// Takes the part with this number.
-    fn take_number(
-        &mut self,
-        alloc: Global,
-        kept: &mut SpecTree,
-        case: &Case<'_>,
-        number: usize,
-    ) -> Result<(), AllocError>
-        ensures { OnOk result (self.new ≡ number_told case.now self.old number) }
-    {
-        let Some(part) = case.parts.get(number) else {
-            return Ok(());
-        };
-        let Some(outer) = case.outers.get(number) else {
-            return Ok(());
-        };
-        let Some(outer) = case.parts.get(*outer) else {
-            return Ok(());
-        };
-        self.walk = way_in(part, outer)?;
-        self.take_text(alloc, kept, case, outer.written.as_bytes())
-    }
-}
-
-/// What a word is for that has bytes of the parts with these numbers. The tree of the last text is
-/// kept for the next word.
-#[tactic(auto, using(crate::proofs::LineCauses::number_next))]
-pub(crate) fn causes_of(
+/// The takers of the part with this number. The tree of its outermost part is kept.
+fn takers_at(
     alloc: Global,
     kept: &mut SpecTree,
     case: &Case<'_>,
+    number: usize,
+) -> Result<Listing<Taker>, AllocError>
+    ensures { IfOk result (λ takers. takers
+        ≡ takers_at case.now.line.switches case.now.parts case.now.outers number) }
+{
+    let Some(part) = case.parts.get(number) else {
+        return Ok(Listing::new(alloc));
+    };
+    let Some(outer) = case.outers.get(number) else {
+        return Ok(Listing::new(alloc));
+    };
+    let Some(outer) = case.parts.get(*outer) else {
+        return Ok(Listing::new(alloc));
+    };
+    takers_in(alloc, kept, case.line.switches.as_slice(), part, outer)
+}
+
+impl Kept {
+    /// Before the first word.
+    pub(crate) fn new(alloc: Global) -> Kept
+        ensures number { result.number ≡ None }
+        ensures takers { result.takers ≡ [] }
+    {
+        Kept {
+            tree: SpecTree::empty(alloc),
+            number: None,
+            takers: Listing::new(alloc),
+        }
+    }
+
+    /// Whether this is the number of the last part.
+    fn is_of(&self, number: usize) -> bool
+        ensures { IsTrue result → self.now.number ≡ Some number }
+    {
+        match self.number {
+            Some(last) => last == number,
+            None => false,
+        }
+    }
+
+    /// Takes the part with this number for the last one.
+    fn renew(&mut self, alloc: Global, case: &Case<'_>, number: usize) -> Result<(), AllocError>
+        requires { self.old.takers
+            ≡ last_takers case.now.line.switches case.now.parts case.now.outers self.old.number }
+        ensures kept { OnOk result (self.new.takers
+            ≡ last_takers case.now.line.switches case.now.parts case.now.outers self.new.number) }
+        ensures of { OnOk result (self.new.takers
+            ≡ takers_at case.now.line.switches case.now.parts case.now.outers number) }
+    {
+        if !self.is_of(number) {
+            self.takers = takers_at(alloc, &mut self.tree, case, number)?;
+            self.number = Some(number);
+        }
+        Ok(())
+    }
+}
+
+/// Adds what a taker takes.
+fn add_taken(
+    alloc: Global,
+    case: &Case<'_>,
+    names: &mut Listing<Word>,
+    taker: &Taker,
+) -> Result<(), AllocError>
+    ensures { OnOk result (names.new ≡ with_names names.old (taker_takes case.now taker.now)) }
+{
+    match taker {
+        Taker::Known(known) => add_names(alloc, names, known.as_slice()),
+        Taker::Repeats { name, star } => {
+            let pattern = Pattern {
+                name: name.as_bytes(),
+                star: *star,
+            };
+            add_listing(alloc, names, repeated_options(alloc, &pattern, case)?)
+        }
+        Taker::Takes(leaf) => add_listing(alloc, names, leaf_takes(alloc, case, *leaf)?),
+    }
+}
+
+/// Adds what takers take.
+#[tactic(auto, using(crate::proofs::PartTakers::taker_next))]
+fn add_all_taken(
+    alloc: Global,
+    case: &Case<'_>,
+    names: &mut Listing<Word>,
+    takers: &[Taker],
+) -> Result<(), AllocError>
+    ensures { OnOk result (names.new ≡ all_taken case.now names.old takers.now) }
+{
+    for taker in takers {
+        add_taken(alloc, case, names, taker)?;
+    }
+    Ok(())
+}
+
+/// What a word is for that has bytes of the parts with these numbers. The takers of the last one are
+/// kept for the next word.
+#[tactic(auto, using(crate::proofs::PartTakers::number_next, crate::proofs::PartTakers::all_told))]
+pub(crate) fn causes_of(
+    alloc: Global,
+    kept: &mut Kept,
+    case: &Case<'_>,
     numbers: &[usize],
 ) -> Result<Listing<Word>, AllocError>
-    ensures { IfOk result (λ names. names ≡ causes_of case.now numbers.now) }
+    requires { kept.old.takers
+        ≡ last_takers case.now.line.switches case.now.parts case.now.outers kept.old.number }
+    ensures kept { OnOk result (kept.new.takers
+        ≡ last_takers case.now.line.switches case.now.parts case.now.outers kept.new.number) }
+    ensures causes { IfOk result (λ names. names ≡ causes_of case.now numbers.now) }
 {
-    let mut telling = Telling::new(alloc);
+    let mut names = Listing::new(alloc);
     for number in numbers {
-        telling.take_number(alloc, kept, case, *number)?;
+        kept.renew(alloc, case, *number)?;
+        add_all_taken(alloc, case, &mut names, kept.takers.as_slice())?;
     }
-    Ok(telling.names)
+    Ok(names)
 }

@@ -7,9 +7,8 @@ use crate::causes::{Case, input_at, source_of};
 use crate::origins::Marking;
 use crate::outers::outers_of;
 use crate::repeating::place_near;
-use crate::telling::causes_of;
+use crate::telling::{Kept, causes_of};
 use crate::traces::{Trace, traces_at};
-use drv_syntax::SpecTree;
 use drv_words::{Command, Listing, Word};
 use std::alloc::{AllocError, Global};
 
@@ -36,7 +35,7 @@ fn all_caused(
     let jobs = marking.plan.jobs.as_slice();
     let input = input_at(marking.line.inputs.as_slice(), source_of(jobs, place));
     let outers = outers_of(alloc, marking.parts)?;
-    let mut kept = SpecTree::empty(alloc);
+    let mut kept = Kept::new(alloc);
     let mut all = Listing::from_vec(Vec::with_capacity(alloc, traces.len())?);
     let mut before = Word::empty(alloc);
     let mut near = 0;

@@ -1,0 +1,241 @@
+//! Goes through the tokens of a text for those whose takings the words of a part are for.
+
+ghost use Rattle.drv_syntax.specs.Labels.{label_at};
+ghost use Rattle.drv_syntax.specs.Parsed.{tree_of};
+ghost use Rattle.drv_syntax.specs.Tokens.{tokens_of};
+ghost use Rattle.drv_syntax.specs.Tree.{none};
+ghost use Rattle.drv_why.specs.Code.Takers.{asked_options, met_by, takers_in, taker_met, test_met, token_met};
+ghost use Rattle.drv_why.specs.Code.Takers.{tree_met, way_in, with_taker};
+ghost use Rattle.drv_why.specs.declared.takers.Taker.TheVariants.{Repeats};
+ghost use Rattle.std.specs.Prelude.{◌≡◌, ◌<◌, IfOk, OnOk, false, length, true};
+
+use crate::causes::{asked_options, is_true};
+use crate::walking::{Walk, after_token, gives, is_behind, is_passed, reach};
+use drv_args::Switch;
+use drv_check::MarkedPart;
+use drv_syntax::{Leaf, SpecTree, SyntaxFault, TestKind, Token, TokenKind, parse};
+use drv_words::{Listing, Word};
+use std::alloc::{AllocError, Global};
+
+/// A token on the way to a part for whose takings its words are.
+#[derive(Drop)]
+pub(crate) enum Taker {
+    /// A test, which takes these options for each word.
+    Known(Listing<Word>),
+    /// A pattern. It takes the option that the word repeats.
+    Repeats { name: Word, star: bool },
+    /// A directive without an inside.
+    Takes(Leaf),
+}
+
+/// The way to a part, as far as the tokens of a text were read.
+#[derive(Drop)]
+struct Way {
+    /// The way.
+    walk: Walk,
+    /// The takers on it so far.
+    takers: Listing<Taker>,
+}
+
+/// A token of a tree.
+#[derive(Drop)]
+struct Met<'a> {
+    /// The tree.
+    tree: &'a SpecTree,
+    /// The token's place among those of the tree.
+    place: usize,
+    /// The token.
+    token: Token,
+}
+
+/// Keeps the tree of a text, unless that has none. A text that is kept isn't read again.
+#[tactic(auto, using(crate::proofs::LineCauses::no_tree, crate::proofs::LineCauses::same_text))]
+fn keep(alloc: Global, kept: &mut SpecTree, text: &[u8]) -> Result<bool, AllocError>
+    ensures kept { IfOk result (λ has. has ≡ true → kept.new ≡ text.now) }
+    ensures none { IfOk result (λ has. has ≡ false → tree_of text.now ≡ none) }
+{
+    if kept.text() == text {
+        return Ok(true);
+    }
+    match parse(alloc, text) {
+        Ok(tree) => {
+            *kept = tree;
+            Ok(true)
+        }
+        Err(SyntaxFault::Memory) => Err(AllocError),
+        Err(_) => Ok(false),
+    }
+}
+
+/// The pattern at this place as a taker.
+fn repeats_at(alloc: Global, tree: &SpecTree, place: usize) -> Result<Taker, AllocError>
+    requires { place < length (tokens_of (tree_of tree.now)) }
+    ensures { IfOk result (λ taker. taker
+        ≡ Repeats (label_at (tree_of tree.now) place).word (label_at (tree_of tree.now) place).starred) }
+{
+    Ok(Taker::Repeats {
+        name: Word::from_bytes(alloc, tree.word(place))?,
+        star: tree.is_starred(place),
+    })
+}
+
+impl Way {
+    /// The way to a part in its outermost one, before the first token.
+    fn new(alloc: Global, part: &MarkedPart, outer: &MarkedPart) -> Result<Way, AllocError>
+        ensures { IfOk result (λ way. way ≡ way_in part.now outer.now) }
+    {
+        let at = part.at.saturating_sub(outer.at);
+        let Some(last) = at.checked_add(part.written.len()) else {
+            return Err(AllocError);
+        };
+        Ok(Way {
+            walk: Walk::new(at, last),
+            takers: Listing::new(alloc),
+        })
+    }
+
+    /// Adds a taker, if the words are for what it takes.
+    fn add_taker(&mut self, is_given: bool, taker: Taker) -> Result<(), AllocError>
+        ensures { OnOk result (self.new ≡ record (self.old) {
+          takers = with_taker is_given self.old.takers taker;
+        }) }
+    {
+        if is_given {
+            self.takers.push(taker)?;
+        }
+        Ok(())
+    }
+
+    /// Takes a test on the way.
+    fn take_test(
+        &mut self,
+        alloc: Global,
+        switches: &[Switch],
+        met: &Met<'_>,
+    ) -> Result<(), AllocError>
+        requires { met.now.place < length (tokens_of (tree_of met.now.tree.now)) }
+        ensures { OnOk result (self.new
+            ≡ test_met met.now.token (label_at (tree_of met.now.tree.now) met.now.place)
+            (asked_options switches.now (label_at (tree_of met.now.tree.now) met.now.place).asks
+            (label_at (tree_of met.now.tree.now) met.now.place)) self.old) }
+    {
+        let tree = met.tree;
+        let place = met.place;
+        let found = asked_options(alloc, switches, tree, place)?;
+        let holds = is_true(tree, place, found.as_slice());
+        let is_given = gives(self.walk, met.token, tree.is_negated(place));
+        self.walk = after_token(self.walk, met.token, tree.asks(place), holds);
+        self.add_taker(is_given, Taker::Known(found))
+    }
+
+    /// Takes another taker on the way.
+    fn take_taker(&mut self, met: &Met<'_>, taker: Taker) -> Result<(), AllocError>
+        requires { met.now.place < length (tokens_of (tree_of met.now.tree.now)) }
+        ensures { OnOk result (self.new
+            ≡ taker_met met.now.token (label_at (tree_of met.now.tree.now) met.now.place) taker self.old) }
+    {
+        let is_given = gives(self.walk, met.token, met.tree.is_negated(met.place));
+        self.walk = after_token(self.walk, met.token, TestKind::Switch, false);
+        self.add_taker(is_given, taker)
+    }
+
+    /// Takes a token on the way.
+    fn take_met(
+        &mut self,
+        alloc: Global,
+        switches: &[Switch],
+        met: &Met<'_>,
+    ) -> Result<(), AllocError>
+        requires { met.now.place < length (tokens_of (tree_of met.now.tree.now)) }
+        ensures { OnOk result (self.new
+            ≡ met_by switches.now met.now.token.kind met.now.token
+            (label_at (tree_of met.now.tree.now) met.now.place) self.old) }
+    {
+        match met.token.kind {
+            TokenKind::Test => self.take_test(alloc, switches, met),
+            TokenKind::Pattern => {
+                let taker = repeats_at(alloc, met.tree, met.place)?;
+                self.take_taker(met, taker)
+            }
+            TokenKind::Leaf(leaf) => self.take_taker(met, Taker::Takes(leaf)),
+            _ => {
+                self.walk = after_token(self.walk, met.token, TestKind::Switch, false);
+                Ok(())
+            }
+        }
+    }
+
+    /// Takes one more token.
+    fn take_token(
+        &mut self,
+        alloc: Global,
+        switches: &[Switch],
+        met: &Met<'_>,
+    ) -> Result<(), AllocError>
+        requires { met.now.place < length (tokens_of (tree_of met.now.tree.now)) }
+        ensures { OnOk result (self.new
+            ≡ token_met switches.now met.now.token
+            (label_at (tree_of met.now.tree.now) met.now.place) self.old) }
+    {
+        self.walk = reach(self.walk, met.token);
+        if is_passed(self.walk, met.token) {
+            return Ok(());
+        }
+        self.take_met(alloc, switches, met)
+    }
+
+    /// Takes the tokens of a tree.
+    #[tactic(auto, using(crate::proofs::PartTakers::token_next, crate::proofs::PartTakers::token_behind))]
+    fn take_tree(
+        &mut self,
+        alloc: Global,
+        switches: &[Switch],
+        tree: &SpecTree,
+    ) -> Result<(), AllocError>
+        ensures { OnOk result (self.new ≡ tree_met switches.now self.old (tree_of tree.now)) }
+    {
+        let tokens = tree.tokens();
+        let mut place = 0;
+        while place < tokens.len() {
+            let token = tokens[place];
+            if is_behind(self.walk, token) {
+                return Ok(());
+            }
+            self.take_token(alloc, switches, &Met { tree, place, token })?;
+            place += 1;
+        }
+        Ok(())
+    }
+
+    /// Takes a text. Its tree is kept for the next one.
+    #[tactic(auto, using(crate::proofs::PartTakers::kept_met, crate::proofs::PartTakers::none_met))]
+    fn take_text(
+        &mut self,
+        alloc: Global,
+        kept: &mut SpecTree,
+        switches: &[Switch],
+        text: &[u8],
+    ) -> Result<(), AllocError>
+        ensures { OnOk result (self.new ≡ tree_met switches.now self.old (tree_of text.now)) }
+    {
+        if keep(alloc, kept, text)? {
+            self.take_tree(alloc, switches, kept)?;
+        }
+        Ok(())
+    }
+}
+
+/// The takers of a part in its outermost one. The tree of that is kept for the next part.
+pub(crate) fn takers_in(
+    alloc: Global,
+    kept: &mut SpecTree,
+    switches: &[Switch],
+    part: &MarkedPart,
+    outer: &MarkedPart,
+) -> Result<Listing<Taker>, AllocError>
+    ensures { IfOk result (λ takers. takers ≡ takers_in switches.now part.now outer.now) }
+{
+    let mut way = Way::new(alloc, part, outer)?;
+    way.take_text(alloc, kept, switches, outer.written.as_bytes())?;
+    Ok(way.takers)
+}
