@@ -4,8 +4,10 @@ use Rattle.drv_check.specs.declared.naming.Naming.{Naming}
 use Rattle.drv_match.specs.Matching.{cancels, has_negative, is_level, is_live, is_named, is_negative_of, name_at, negative}
 use Rattle.drv_match.specs.Pattern.{Pattern}
 use Rattle.drv_why.specs.Code.Beginning.{begin_alike}
-use Rattle.drv_why.specs.Fates.{cancelled_text, canceller, concerns, fate_text, fates_text, lines_text, naming_text, namings_text}
+use Rattle.drv_why.specs.Fates.{argument_text, cancelled_text, canceller, concerns, fate_text, fates_text, lines_text, naming_text, namings_text}
 use Rattle.drv_why.specs.Fates.{or_unnamed, pattern_of, switch_text, text_if}
+use Rattle.drv_words.specs.Bytes.{hyphen, newline}
+use Rattle.drv_words.specs.Printed.{quoted}
 use Rattle.std.proofs.Common.{◌≡◌, ◌∙◌, ◌<◌, ◌≤◌, ◌+◌, ◌&&◌, ◌||◌, ◌++◌, ◌∷◌, Bool, List, None, Option, Some, [], ap, append-nil, append_assoc}
 use Rattle.std.proofs.Common.{drop, false, length, refl, sym, true, ℕ}
 use Rattle.std.proofs.lemmas.Bool.{eqb-true}
@@ -164,6 +166,16 @@ pub cancelled_named : (name lines text before : List ℕ) → text ≡ before ++
     → text ++ lines ≡ before ++ or_unnamed (cancelled_text (Some name) ++ lines)
 cancelled_named name lines text before is =
     ap (λ t. t ++ lines) is ∙ append_assoc before (cancelled_text (Some name)) lines
+
+-- For `push_fate`: a switch is its option, which is kept, with its argument.
+pub fate_written : (switch : Switch) (option name lines before middle after : List ℕ) → option ≡ quoted (hyphen ∷ name)
+    → name ≡ switch.name → middle ≡ before ++ (option ++ argument_text switch.arg ++ newline ∷ []) → after ≡ middle ++ lines
+    → after ≡ before ++ switch_text switch ++ lines
+fate_written switch option name lines before middle after is same first then_lines =
+    then_lines
+    ∙ ap (λ t. t ++ lines)
+    (first
+    ∙ ap (λ o. before ++ (o ++ argument_text switch.arg ++ newline ∷ [])) (is ∙ ap (λ n. quoted (hyphen ∷ n)) same))
 
 -- For `fates_text`: if the text so far and the switches left are the whole, then they still are after one switch more.
 pub switch_next : (sources : List Source) (namings : List Naming) (switch : Switch) (later left : List Switch) (by : Option (List ℕ))

@@ -4,10 +4,10 @@ ghost use Rattle.drv_why.specs.Fates.{argument_text, cancelled_line, cancelled_t
 ghost use Rattle.drv_why.specs.Fates.{fates_text, naming_text, namings_text, or_unnamed, pattern_of};
 ghost use Rattle.drv_why.specs.Fates.{source_text, spot_text, switch_text, takes, text_if};
 ghost use Rattle.drv_why.specs.FatesJson.{fates_report};
-ghost use Rattle.drv_words.specs.Bytes.{hyphen};
+ghost use Rattle.drv_words.specs.Bytes.{hyphen, newline};
 ghost use Rattle.drv_words.specs.Printed.{quoted};
 ghost use Rattle.std.specs.Option.{option_map};
-ghost use Rattle.std.specs.Prelude.{◌≡◌, ◌∷◌, ◌++◌, IfOk, IsTrue, OnOk, decimal, is_none, Some};
+ghost use Rattle.std.specs.Prelude.{◌≡◌, ◌∷◌, ◌++◌, [], IfOk, IsTrue, OnOk, decimal, is_none, Some};
 
 use crate::fates_json::fates_json;
 use crate::matching::{begin_alike, canceller, is_broad, is_named};
@@ -155,12 +155,12 @@ fn push_namings(
 }
 
 /// A name as an option, as the driver prints words.
-fn option_text(alloc: Global, name: &Word) -> Result<Word, AllocError>
+fn option_text(alloc: Global, name: &[u8]) -> Result<Word, AllocError>
     ensures { IfOk result (λ text. text ≡ quoted (hyphen ∷ name.now)) }
 {
     let mut option = Word::empty(alloc);
     option.push(b'-')?;
-    option.extend_from_slice(name.as_bytes())?;
+    option.extend_from_slice(name)?;
     quote(alloc, &option)
 }
 
@@ -178,7 +178,7 @@ fn cancelled_line(alloc: Global, option: &Word) -> Result<Word, AllocError>
 fn later_switch_text(alloc: Global, name: &Word) -> Result<Word, AllocError>
     ensures { IfOk result (λ text. text ≡ cancelled_text (Some name.now)) }
 {
-    let option = option_text(alloc, name)?;
+    let option = option_text(alloc, name.as_bytes())?;
     cancelled_line(alloc, &option)
 }
 
@@ -197,6 +197,8 @@ pub(crate) fn is_live(by: Option<&Word>) -> bool
 struct Named<'a> {
     /// The name.
     name: &'a [u8],
+    /// The name as an option, as the driver prints words.
+    option: Word,
     /// Whether no later switch cancels them.
     live: bool,
     /// The lines.
@@ -211,11 +213,18 @@ fn named_as<'a>(
     live: bool,
 ) -> Result<Named<'a>, AllocError>
     ensures { IfOk result (λ named. (named.name.now ≡ name.now) × (named.live ≡ live)
+        × (named.option ≡ quoted (hyphen ∷ name.now))
         × (named.text ≡ namings_text parts.now.sources.now name.now live parts.now.namings.now)) }
 {
     let mut text = Word::empty(alloc);
     push_namings(&mut text, parts.sources, name, live, parts.namings)?;
-    Ok(Named { name, live, text })
+    let option = option_text(alloc, name)?;
+    Ok(Named {
+        name,
+        option,
+        live,
+        text,
+    })
 }
 
 /// Whether two tests have the same answer.
@@ -242,8 +251,11 @@ fn renew_lines<'a>(
     name: &'a [u8],
     live: bool,
 ) -> Result<(), AllocError>
-    requires { named.old.text
+    requires text { named.old.text
         ≡ namings_text parts.now.sources.now named.old.name.now named.old.live parts.now.namings.now }
+    requires option { named.old.option ≡ quoted (hyphen ∷ named.old.name.now) }
+    ensures option { OnOk result (named.new.option ≡ quoted (hyphen ∷ named.new.name.now)) }
+    ensures name { OnOk result (named.new.name.now ≡ name.now) }
     ensures kept { OnOk result (named.new.text
         ≡ namings_text parts.now.sources.now named.new.name.now named.new.live parts.now.namings.now) }
     ensures of { OnOk result (named.new.text
@@ -299,29 +311,38 @@ fn push_argument(alloc: Global, text: &mut Word, arg: &Option<Word>) -> Result<(
     }
 }
 
-/// Adds a switch on a line.
-fn push_switch(alloc: Global, text: &mut Word, switch: &Switch) -> Result<(), AllocError>
-    ensures { OnOk result (text.new ≡ text.old ++ switch_text switch.now) }
+/// Adds a switch on a line, whose option is this.
+fn push_switch(
+    alloc: Global,
+    text: &mut Word,
+    option: &Word,
+    arg: &Option<Word>,
+) -> Result<(), AllocError>
+    ensures { OnOk result
+        (text.new ≡ text.old ++ (option.now ++ argument_text arg.now ++ newline ∷ [])) }
 {
-    text.extend_from_slice(option_text(alloc, &switch.name)?.as_bytes())?;
-    push_argument(alloc, text, &switch.arg)?;
+    text.extend_from_slice(option.as_bytes())?;
+    push_argument(alloc, text, arg)?;
     text.push(b'\n')
 }
 
-/// Adds what becomes of a switch, which another one may cancel, by the lines of the parts.
+/// Adds what becomes of a switch of a name, which another one may cancel.
+#[tactic(auto, using(crate::proofs::SwitchFates::fate_written))]
 fn push_fate(
     alloc: Global,
     text: &mut Word,
+    named: &Named<'_>,
     switch: &Switch,
     by: Option<&Word>,
-    lines: &Word,
 ) -> Result<(), AllocError>
+    requires option { named.now.option ≡ quoted (hyphen ∷ named.now.name.now) }
+    requires name { named.now.name.now ≡ switch.now.name }
     ensures { OnOk result
         (text.new ≡ text.old ++ switch_text switch.now
-        ++ or_unnamed (cancelled_text (option_map (λ word. word.now) by.entry) ++ lines.now)) }
+        ++ or_unnamed (cancelled_text (option_map (λ word. word.now) by.entry) ++ named.now.text)) }
 {
-    push_switch(alloc, text, switch)?;
-    push_all_lines(alloc, text, by, lines)
+    push_switch(alloc, text, &named.option, &switch.arg)?;
+    push_all_lines(alloc, text, by, &named.text)
 }
 
 /// What becomes of the switches of a line, as text.
@@ -345,7 +366,7 @@ fn fates_text(alloc: Global, parts: &Parts<'_>, switches: &[Switch]) -> Result<W
             switch.name.as_bytes(),
             is_live(by),
         )?;
-        push_fate(alloc, &mut text, switch, by, &named.text)?;
+        push_fate(alloc, &mut text, &named, switch, by)?;
         left = later;
     }
     Ok(text)
