@@ -21,16 +21,16 @@ use Rattle.std.specs.Prelude.{List, [], ◌∷◌, ◌++◌, codes, ℕ}
 abbrev pub heading : List (List ℕ) → List ℕ
 heading words = codes "without" ++ words_text words
 
--- what differs, or that nothing does: then the part has no effect
-abbrev pub difference_text : List ℕ → List ℕ
-difference_text [] = codes ": no difference\n"
-difference_text (b ∷ text) = codes ":\n" ++ b ∷ text
+-- what differs between things of a kind, or that they are the same
+abbrev pub difference_text : List ℕ → List ℕ → List ℕ
+difference_text kind [] = codes ": the same " ++ kind ++ codes "\n"
+difference_text kind (b ∷ text) = codes ":\n" ++ b ∷ text
 
 -- what the line without the part is, as text
 abbrev pub rest_text : Rest → List ℕ
 rest_text (Refused text) = codes ": " ++ text ++ codes "\n"
-rest_text (Commands changes) = difference_text (changes_text changes)
-rest_text (Texts text) = difference_text text
+rest_text (Commands changes) = difference_text (codes "commands") (changes_text changes)
+rest_text (Texts text) = difference_text (codes "texts") text
 rest_text Unlike = codes ": only one of the two lines has commands\n"
 
 -- a part of the line, and what the line without it is

@@ -4,7 +4,7 @@ ghost use Rattle.drv_forms.specs.Difference.{changes_text};
 ghost use Rattle.drv_why.specs.Reasons.{difference_text, heading, reason_text, reasons_report};
 ghost use Rattle.drv_why.specs.Reasons.{reasons_text, rest_text};
 ghost use Rattle.drv_why.specs.declared.reasons.Rest.TheVariants.{Refused};
-ghost use Rattle.std.specs.Prelude.{◌≡◌, ◌++◌, IfOk, OnOk};
+ghost use Rattle.std.specs.Prelude.{◌≡◌, ◌++◌, IfOk, OnOk, codes};
 
 use crate::printing::words_text;
 use crate::reasons_json::reasons_json;
@@ -44,12 +44,15 @@ fn heading(alloc: Global, part: &[Word]) -> Result<Word, AllocError>
     Ok(text)
 }
 
-/// A difference, or that there is none.
-fn difference_text(alloc: Global, difference: &[u8]) -> Result<Word, AllocError>
-    ensures { IfOk result (λ text. text ≡ difference_text difference.now) }
+/// What differs between things of a kind, or that they are the same.
+fn difference_text(alloc: Global, kind: &[u8], difference: &[u8]) -> Result<Word, AllocError>
+    ensures { IfOk result (λ text. text ≡ difference_text kind.now difference.now) }
 {
     if difference.is_empty() {
-        return Word::from_bytes(alloc, b": no difference\n");
+        let mut text = Word::from_bytes(alloc, b": the same ")?;
+        text.extend_from_slice(kind)?;
+        text.push(b'\n')?;
+        return Ok(text);
     }
     let mut text = Word::from_bytes(alloc, b":\n")?;
     text.extend_from_slice(difference)?;
@@ -58,10 +61,11 @@ fn difference_text(alloc: Global, difference: &[u8]) -> Result<Word, AllocError>
 
 /// What is said of commands that differ so.
 fn commands_text(alloc: Global, changes: &[LineChange]) -> Result<Word, AllocError>
-    ensures { IfOk result (λ text. text ≡ difference_text (changes_text changes.now)) }
+    ensures { IfOk result (λ text. text
+        ≡ difference_text (codes "commands") (changes_text changes.now)) }
 {
     let text = changes_text(alloc, changes)?;
-    difference_text(alloc, text.as_bytes())
+    difference_text(alloc, b"commands", text.as_bytes())
 }
 
 /// What is said of a line that is refused in these words.
@@ -81,7 +85,7 @@ fn rest_text(alloc: Global, rest: &Rest) -> Result<Word, AllocError>
     match rest {
         Rest::Refused(refusal) => refused_text(alloc, refusal),
         Rest::Commands(changes) => commands_text(alloc, changes.as_slice()),
-        Rest::Texts(difference) => difference_text(alloc, difference.as_bytes()),
+        Rest::Texts(difference) => difference_text(alloc, b"texts", difference.as_bytes()),
         Rest::Unlike => Word::from_bytes(alloc, b": only one of the two lines has commands\n"),
     }
 }
