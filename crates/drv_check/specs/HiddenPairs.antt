@@ -2,12 +2,13 @@ use Rattle.drv_check.specs.Points.{front_length}
 use Rattle.drv_check.specs.declared.pieces.Piece.{Piece}
 use Rattle.drv_specs.specs.Blanks.{is_blank}
 use Rattle.drv_specs.specs.Directives.{is_colon}
+use Rattle.drv_specs.specs.Sets.{begins_with_at}
 use Rattle.drv_words.specs.Bytes.{asterisk, percent}
 use Rattle.std.specs.Cmp.Lexicographic.{pointwise}
-use Rattle.std.specs.List.{list_any, position}
-use Rattle.std.specs.Prelude.{◌==◌, ◌||◌, Bool, List, [], ◌∷◌, None, Option, Some, drop, false, if◌then◌else◌, nat_eq, take, ℕ}
+use Rattle.std.specs.List.{ends_with, list_any, position}
+use Rattle.std.specs.Prelude.{◌==◌, ◌&&◌, ◌||◌, Bool, List, [], ◌∷◌, None, Option, Some, drop, false, if◌then◌else◌, nat_eq, not, take, ℕ}
 
--- A pair that is never used: of pairs with one key the last counts (this project's profile).
+-- A pair that is never used, since of those that fit a file or a language the last counts (this project's profile: last_text of drv_plan).
 -- For clauses of src/hidden_pair.rt.
 
 -- the key of a pair, before the colon
@@ -22,18 +23,27 @@ key_before (Some at) (b ∷ line) = if b == asterisk || b == percent then None e
 abbrev pub key_in : List ℕ → Option (List ℕ)
 key_in text = key_before (position is_colon (drop (front_length is_blank text) text)) (drop (front_length is_blank text) text)
 
--- whether a later piece has it
+-- whether a later piece hides it
 
 -- whether a key is there and is this one
 abbrev pub is_key : List ℕ → Option (List ℕ) → Bool
 is_key key None = false
 is_key key (Some other) = pointwise nat_eq key other
 
--- whether a piece puts the pair of this key
-abbrev pub puts_key : List ℕ → Piece → Bool
-puts_key key piece = is_key key (key_in piece.text)
+-- whether a suffix fits each name that another one fits: it ends that one. The key of a language is no suffix.
+abbrev pub ends_key : List ℕ → List ℕ → Bool
+ends_key key other = not (begins_with_at key) && (not (begins_with_at other) && ends_with nat_eq key other)
 
--- whether one of these later pieces puts the same key: then the pair is never used
+-- whether a key fits all that the first one fits, if it is there
+abbrev pub covers_key : List ℕ → Option (List ℕ) → Bool
+covers_key key None = false
+covers_key key (Some other) = pointwise nat_eq key other || ends_key key other
+
+-- whether a piece puts a pair that counts wherever one of this key would
+abbrev pub hides_key : List ℕ → Piece → Bool
+hides_key key piece = covers_key key (key_in piece.text)
+
+-- whether one of these later pieces does: then the pair is never used
 abbrev pub is_hidden : Option (List ℕ) → List Piece → Bool
 is_hidden None later = false
-is_hidden (Some key) later = list_any (puts_key key) later
+is_hidden (Some key) later = list_any (hides_key key) later

@@ -1,6 +1,7 @@
 //! Which pairs of spec files later ones hide.
 
-ghost use Rattle.drv_check.specs.HiddenPairs.{is_hidden, is_key, key_in, puts_key};
+ghost use Rattle.drv_check.specs.HiddenPairs.{covers_key, ends_key, hides_key, is_hidden, key_in};
+ghost use Rattle.drv_specs.specs.Sets.{begins_with_at};
 ghost use Rattle.std.specs.List.{list_any};
 ghost use Rattle.std.specs.Option.{option_map};
 ghost use Rattle.std.specs.Prelude.{◌≡◌};
@@ -21,22 +22,43 @@ pub(crate) fn key_in(text: &[u8]) -> Option<&[u8]>
     }
 }
 
-/// Whether a piece puts a pair of this key.
-fn puts_key(key: &[u8], piece: &Piece) -> bool
-    ensures { result ≡ puts_key key.now piece.now }
+/// Whether a key is that of a language.
+fn begins_with_at(key: &[u8]) -> bool
+    ensures { result ≡ begins_with_at key.now }
 {
-    match key_in(piece.text.as_bytes()) {
-        Some(other) => key == other,
+    matches!(key, [b'@', ..])
+}
+
+/// Whether a suffix fits each name that another one fits.
+fn ends_key(key: &[u8], other: &[u8]) -> bool
+    ensures { result ≡ ends_key key.now other.now }
+{
+    !begins_with_at(key) && !begins_with_at(other) && key.ends_with(other)
+}
+
+/// Whether a key fits all that the first one fits, if it is there.
+fn covers_key(key: &[u8], other: Option<&[u8]>) -> bool
+    ensures { result ≡ covers_key key.now (option_map (λ other. other.now) other.entry) }
+{
+    match other {
+        Some(other) => key == other || ends_key(key, other),
         None => false,
     }
 }
 
-/// Whether a piece among these puts a pair of this key.
-fn is_put(key: &[u8], later: &[Piece]) -> bool
-    ensures { result ≡ list_any (puts_key key.now) later.now }
+/// Whether a piece puts a pair that counts wherever one of this key would.
+fn hides_key(key: &[u8], piece: &Piece) -> bool
+    ensures { result ≡ hides_key key.now piece.now }
+{
+    covers_key(key, key_in(piece.text.as_bytes()))
+}
+
+/// Whether a piece among these hides a pair of this key.
+fn is_covered(key: &[u8], later: &[Piece]) -> bool
+    ensures { result ≡ list_any (hides_key key.now) later.now }
 {
     for piece in later {
-        if puts_key(key, piece) {
+        if hides_key(key, piece) {
             return true;
         }
     }
@@ -48,7 +70,7 @@ pub(crate) fn is_hidden(key: Option<&[u8]>, later: &[Piece]) -> bool
     ensures { result ≡ is_hidden (option_map (λ key. key.now) key.entry) later.now }
 {
     match key {
-        Some(key) => is_put(key, later),
+        Some(key) => is_covered(key, later),
         None => false,
     }
 }

@@ -368,7 +368,7 @@ fn push_used(
 }
 
 /// The parts of the texts of a set that name switches, by its dump, in their order. A pair that a
-/// later one of its key hides is never run, and has none. The files that were loaded into the set say
+/// later one hides is never run, and has none. The files that were loaded into the set say
 /// where a part is. Where the set has a text of the dump, its tree is read from there.
 #[tactic(auto, using(crate::proofs::Namings::pieces_next))]
 pub fn namings_of(

@@ -40,7 +40,7 @@ warning_words NeverPiece = codes "no switch has this name, as its option gives w
 warning_words NeverSetting = codes "no switch has this name, as its option is a setting of the call"
 warning_words NeverSpecs = codes "no switch has this name, as --specs=X is the switch specs=X"
 warning_words UnknownText = codes "there is no text of this name"
-warning_words HiddenPair = codes "a later pair of this file has the same key, and it is the one that counts"
+warning_words HiddenPair = codes "a later pair of this file counts wherever this one would"
 warning_words Unreachable = codes "no line reaches this branch, as an earlier one is taken in its place"
 warning_words LostMark = codes "this marks no word, as white space is on both sides"
 warning_words LostInPair = codes "this marks no word, as the text of a pair begins or ends beside it"

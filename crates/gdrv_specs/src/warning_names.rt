@@ -51,9 +51,7 @@ fn warning_words(warning: Warning) -> &'static [u8]
         Warning::NeverSetting => b"no switch has this name, as its option is a setting of the call",
         Warning::NeverSpecs => b"no switch has this name, as --specs=X is the switch specs=X",
         Warning::UnknownText => b"there is no text of this name",
-        Warning::HiddenPair => {
-            b"a later pair of this file has the same key, and it is the one that counts"
-        }
+        Warning::HiddenPair => b"a later pair of this file counts wherever this one would",
         Warning::Unreachable => {
             b"no line reaches this branch, as an earlier one is taken in its place"
         }

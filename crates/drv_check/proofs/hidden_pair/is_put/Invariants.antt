@@ -1,9 +1,0 @@
-use Rattle.drv_check.proofs.hidden_pair.is_put.Given as goal
-use Rattle.drv_check.specs.HiddenPairs.{puts_key}
-use Rattle.std.proofs.Common.{◌≡◌, drop}
-use Rattle.std.specs.List.{list_any}
-
--- The loops of is_put (src/hidden_pair.rt). Whether a piece among these puts a pair of this key.
-
-abbrev pub invariant-loop-piece : goal.invariant-loop-piece
-invariant-loop-piece l = list_any (puts_key l.key) (drop l.piece-index l.later) ≡ list_any (puts_key l.key) l.later
