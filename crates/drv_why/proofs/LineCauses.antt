@@ -9,19 +9,20 @@ use Rattle.drv_syntax.specs.Tree.{none}
 use Rattle.drv_syntax.specs.declared.fault.SyntaxFault.{SyntaxFault}
 use Rattle.drv_why.specs.Causes.{all_caused, behind_groups, case_at, caused, causes_of, input_at, input_word, makers, word_of_input}
 use Rattle.drv_why.specs.Causes.{outer_of, outers_from, outers_of, source_of}
+use Rattle.drv_why.specs.Code.Behind.{word_behind}
 use Rattle.drv_why.specs.Taken.{is_taken, is_this, with_name, with_names, with_option, with_switches}
 use Rattle.drv_why.specs.declared.outers.Outer.{Outer}
 use Rattle.drv_why.specs.declared.traces.Trace.{Trace}
 use Rattle.drv_words.specs.declared.plan.Command.{Command}
 use Rattle.drv_words.specs.declared.plan.Job.{Job}
 use Rattle.std.proofs.Common.{◌≡◌, ◌∙◌, ◌<◌, ◌≤◌, ◌+◌, ◌-◌, ◌∷◌, ◌++◌, Err, List, None, Option, Some, [], ap, append_assoc}
-use Rattle.std.proofs.Common.{arith, drop, false, length, refl, sym, true, ℕ}
+use Rattle.std.proofs.Common.{arith, drop, false, length, refl, set, sym, take, true, ℕ}
 use Rattle.std.proofs.lemmas.Bool.Decides.{Decides-eqb, nat_tests}
-use Rattle.std.proofs.lemmas.List.{drop_all, drop_more}
+use Rattle.std.proofs.lemmas.List.{drop-set-lt, drop_all, drop_more, get_or_default, take_more_set}
 use Rattle.std.proofs.lemmas.Slice.Eq.{slice_eq-Decides}
 use Rattle.std.specs.Cmp.Lexicographic.{pointwise}
 use Rattle.std.specs.Option.{option_to_list}
-use Rattle.std.specs.Prelude.{get_or, if◌then◌else◌, nat_eq, nat_lt}
+use Rattle.std.specs.Prelude.{get_or, if◌then◌else◌, nat_eq, nat_lt, suc}
 
 -- For origins_report (src/causes.rt, src/taking.rt): what the words of a command are for, token by token and part by part.
 -- Names: `n` is a place in a list, and the item there has the list's name in the singular: `job` of `jobs`, `token` of `tokens`. `before`
@@ -178,33 +179,27 @@ outer_next n parts part outer next before after whole below here judged grows is
 
 -- The words of a command, one behind another. `behind` is the word before, and `ts` is words with their parts.
 
--- the last of words behind another one
-abbrev pub word_behind : List ℕ → List Trace → List ℕ
-word_behind behind [] = behind
-word_behind behind (t ∷ ts) = word_behind t.word ts
-
 -- the last one of words with one more is that one
 last_behind : (behind : List ℕ) (ts : List Trace) (t : Trace) → word_behind behind (ts ++ t ∷ []) ≡ t.word
 last_behind behind [] t = refl
 last_behind behind (x ∷ ts) t = last_behind x.word ts t
 
--- one more word is for what it is behind the last one
-one_more : (line : Line) (jobs : List Job) (parts : List MarkedPart) (place : ℕ) (behind : List ℕ) (ts : List Trace) (t : Trace)
-    → all_caused line jobs parts place behind (ts ++ t ∷ [])
-    ≡ all_caused line jobs parts place behind ts ++ caused line jobs parts place (word_behind behind ts) t ∷ []
-one_more line jobs parts place behind [] t = refl
-one_more line jobs parts place behind (x ∷ ts) t =
-    ap (λ others. caused line jobs parts place behind x ∷ others) (one_more line jobs parts place x.word ts t)
+-- the last one of words is at their end
+at_end : (behind : List ℕ) (ts : List Trace) (t : Trace) → 1 ≤ length ts → t ≡ get_or ts (length ts - 1) t → word_behind behind ts ≡ t.word
+at_end behind [] t some is = absurd (omega (arith, some))
+at_end behind (x ∷ []) t some is = ap (λ y. y.word) (sym is)
+at_end behind (x ∷ y ∷ ts) t some is =
+    let place : length (x ∷ y ∷ ts) - 1 ≡ suc (length (y ∷ ts) - 1) = omega (arith) in
+    at_end x.word (y ∷ ts) t (omega (arith)) (is ∙ ap (λ n. get_or (x ∷ y ∷ ts) n t) place)
 
--- For `all_caused`: the word that was read last is the one before the next.
-pub word_next : (word : List ℕ) (trace : Trace) (yielded : List Trace) → word ≡ trace.word
-    → word ≡ word_behind [] (yielded ++ trace ∷ [])
-word_next word trace yielded same = same ∙ sym (last_behind [] yielded trace)
+-- For `last_word`: the same where its bytes are given.
+pub last_one : (word : List ℕ) (ts : List Trace) (t : Trace) → 1 ≤ length ts → t ≡ get_or ts (length ts - 1) t → word ≡ t.word
+    → word ≡ word_behind [] ts
+last_one word ts t some is same = same ∙ sym (at_end [] ts t some is)
 
--- For `all_caused`: if the words so far have their causes, then they still have after one word more.
-pub cause_next : (line : Line) (jobs js : List Job) (parts : List MarkedPart) (place : ℕ) (input : Option (List ℕ)) (outers : List ℕ)
-    (behind : List ℕ) (trace it : Trace) (causes : List (List ℕ)) (before after yielded : List Trace)
-    → js ≡ jobs → input ≡ input_at line.inputs (source_of js place) → outers ≡ outers_of parts → behind ≡ word_behind [] yielded
+-- a word is for what it is, by what is known of its command
+one_caused : (line : Line) (jobs js : List Job) (parts : List MarkedPart) (place : ℕ) (input : Option (List ℕ)) (outers : List ℕ)
+    (behind last : List ℕ) (trace : Trace) (causes : List (List ℕ)) → js ≡ jobs → input ≡ input_at line.inputs (source_of js place) → outers ≡ outers_of parts → behind ≡ last
     → causes
     ≡ causes_of (record {
       line = line;
@@ -215,14 +210,9 @@ pub cause_next : (line : Line) (jobs js : List Job) (parts : List MarkedPart) (p
       parts = parts;
       outers = outers;
     }) trace.parts
-    → it ≡ record trace { causes = causes } → after ≡ before ++ it ∷ [] → before ≡ all_caused line jobs parts place [] yielded
-    → after ≡ all_caused line jobs parts place [] (yielded ++ trace ∷ [])
-cause_next line jobs js parts place input outers behind trace it causes before after yielded same at outer last told is grows so_far =
-    grows
-    ∙ ap (λ ts. ts ++ it ∷ []) so_far
-    ∙ ap (λ t. all_caused line jobs parts place [] yielded ++ t ∷ [])
-    (is
-    ∙ ap (λ cs. record trace { causes = cs })
+    → record trace { causes = causes } ≡ caused line jobs parts place last trace
+one_caused line jobs js parts place input outers behind last trace causes same at outer is_last told =
+    ap (λ cs. record trace { causes = cs })
     (told
     ∙ ap (λ os. causes_of (record {
       line = line;
@@ -243,5 +233,48 @@ cause_next line jobs js parts place input outers behind trace it causes before a
       outers = outers_of parts;
     }) trace.parts) at
     ∙ ap (λ xs. causes_of (case_at line xs parts place behind trace.word) trace.parts) same
-    ∙ ap (λ b. causes_of (case_at line jobs parts place b trace.word) trace.parts) last))
-    ∙ sym (one_more line jobs parts place [] yielded trace)
+    ∙ ap (λ b. causes_of (case_at line jobs parts place b trace.word) trace.parts) is_last)
+
+-- words of which those before the place n have their causes, with the causes of the others
+abbrev pub half_caused : Line → List Job → List MarkedPart → ℕ → ℕ → List Trace → List Trace
+half_caused line jobs parts place n ts =
+    take n ts ++ all_caused line jobs parts place (word_behind [] (take n ts)) (drop n ts)
+
+-- they are the same words after one more word has its causes
+one_more : (line : Line) (jobs : List Job) (parts : List MarkedPart) (place n : ℕ) (trace it : Trace) (all : List Trace)
+    → n < length all → trace ≡ get_or all n trace → it ≡ caused line jobs parts place (word_behind [] (take n all)) trace
+    → half_caused line jobs parts place (n + 1) (set all n it) ≡ half_caused line jobs parts place n all
+one_more line jobs parts place n trace it all below here is =
+    let read : take (n + 1) (set all n it) ≡ take n all ++ it ∷ [] = take_more_set all n it below in
+    let left : drop (n + 1) (set all n it) ≡ drop (n + 1) all = drop-set-lt (n + 1) all n it (omega (arith)) in
+    let last : word_behind [] (take n all ++ it ∷ []) ≡ trace.word = last_behind [] (take n all) it ∙ ap (λ t. t.word) is in
+    ap (λ ts. ts ++ all_caused line jobs parts place (word_behind [] ts) (drop (n + 1) (set all n it))) read
+    ∙ ap (λ ts. (take n all ++ it ∷ []) ++ all_caused line jobs parts place (word_behind [] (take n all ++ it ∷ [])) ts) left
+    ∙ ap (λ b. (take n all ++ it ∷ []) ++ all_caused line jobs parts place b (drop (n + 1) all)) last
+    ∙ append_assoc (take n all) (it ∷ []) (all_caused line jobs parts place trace.word (drop (n + 1) all))
+    ∙ ap (λ t. take n all ++ t ∷ all_caused line jobs parts place trace.word (drop (n + 1) all)) is
+    ∙ ap (λ t. take n all ++ all_caused line jobs parts place (word_behind [] (take n all)) (t ∷ drop (n + 1) all)) here
+    ∙ ap (λ ts. take n all ++ all_caused line jobs parts place (word_behind [] (take n all)) ts) (sym (drop_more all n trace below))
+
+-- For `set_causes`: if the words so far with those left have their causes, then they still have after one word more.
+pub cause_next : (line : Line) (jobs js : List Job) (parts : List MarkedPart) (place n : ℕ) (input : Option (List ℕ)) (outers : List ℕ)
+    (behind : List ℕ) (trace other : Trace) (causes : List (List ℕ)) (all whole : List Trace)
+    → n < length all → trace ≡ get_or all n trace → js ≡ jobs → input ≡ input_at line.inputs (source_of js place) → outers ≡ outers_of parts
+    → behind ≡ word_behind [] (take n all)
+    → causes
+    ≡ causes_of (record {
+      line = line;
+      jobs = js;
+      input = input;
+      word = trace.word;
+      before = behind;
+      parts = parts;
+      outers = outers;
+    }) trace.parts
+    → half_caused line jobs parts place n all ≡ whole
+    → half_caused line jobs parts place (n + 1) (set all n (record (get_or all n other) { causes = causes })) ≡ whole
+cause_next line jobs js parts place n input outers behind trace other causes all whole below here same at outer last told so_far =
+    one_more line jobs parts place n trace (record (get_or all n other) { causes = causes }) all below here
+    (ap (λ (t : Trace). record t { causes = causes }) (get_or_default all n other trace below ∙ sym here)
+    ∙ one_caused line jobs js parts place input outers behind (word_behind [] (take n all)) trace causes same at outer last told)
+    ∙ so_far

@@ -1,5 +1,6 @@
 -- How the code finds what an option takes and what a word is for, and what it writes of a part of a text. No public contract rests on these.
 pub mod Beginning
+pub mod Behind
 pub mod Counting
 pub mod ListedParts
 pub mod Takers

@@ -1,7 +1,8 @@
 //! The words of a command with their parts and what they are for.
 
 ghost use Rattle.drv_why.specs.Causes.{all_caused, caused_by};
-ghost use Rattle.std.specs.Prelude.{◌≡◌, [], IfOk, slice_get};
+ghost use Rattle.drv_why.specs.Code.Behind.{word_behind};
+ghost use Rattle.std.specs.Prelude.{◌≡◌, [], IfOk, OnOk, slice_get};
 
 use crate::causes::{Case, input_at, source_of};
 use crate::origins::Marking;
@@ -9,43 +10,44 @@ use crate::outers::outers_of;
 use crate::repeating::place_near;
 use crate::telling::{Kept, causes_of};
 use crate::traces::{Trace, traces_at};
-use drv_words::{Command, Listing, Word};
+use drv_words::{Command, Listing};
 use std::alloc::{AllocError, Global};
 
-/// A word with what it is for.
-fn with_causes(mut trace: Trace, causes: Listing<Word>) -> Trace
-    ensures { result ≡ record trace { causes = causes } }
+/// The last of these words. Without one it is empty.
+#[tactic(auto, using(crate::proofs::LineCauses::last_one))]
+fn last_word(traces: &[Trace]) -> &[u8]
+    ensures { result.now ≡ word_behind [] traces.now }
 {
-    trace.causes = causes;
-    trace
+    match traces {
+        [.., last] => last.word.as_bytes(),
+        [] => &[],
+    }
 }
 
-/// The words of the command at a place, each with what it is for.
-#[tactic(auto, using(crate::proofs::LineCauses::cause_next, crate::proofs::LineCauses::word_next))]
-fn all_caused(
+/// Says for each word of the command at a place what it is for.
+fn set_causes(
     alloc: Global,
     marking: &Marking<'_>,
     place: usize,
-    traces: Listing<Trace>,
-) -> Result<Listing<Trace>, AllocError>
-    ensures { IfOk result
-        (λ all. all
-        ≡ all_caused marking.now.line marking.now.plan.jobs marking.now.parts place [] traces) }
+    traces: &mut [Trace],
+) -> Result<(), AllocError>
+    ensures { OnOk result (traces.new
+        ≡ all_caused marking.now.line marking.now.plan.jobs marking.now.parts place [] traces.old) }
 {
     let jobs = marking.plan.jobs.as_slice();
     let input = input_at(marking.line.inputs.as_slice(), source_of(jobs, place));
     let outers = outers_of(alloc, marking.parts)?;
     let mut kept = Kept::new(alloc);
-    let mut all = Listing::from_vec(Vec::with_capacity(alloc, traces.len())?);
-    let mut before = Word::empty(alloc);
     let mut near = 0;
-    for trace in traces.into_vec() {
+    for n in 0..traces.len() {
+        let read = &*traces;
+        let trace = &read[n];
         let case = Case {
             line: marking.line,
             jobs,
             input,
             word: trace.word.as_bytes(),
-            before: before.as_bytes(),
+            before: last_word(&read[..n]),
             near,
             parts: marking.parts,
             outers: outers.as_slice(),
@@ -54,10 +56,9 @@ fn all_caused(
         if !causes.is_empty() {
             near = place_near(&case);
         }
-        before = trace.word.clone()?;
-        all.push(with_causes(trace, causes))?;
+        traces[n].causes = causes;
     }
-    Ok(all)
+    Ok(())
 }
 
 /// The words of the command at a place with their parts and what they are for, by the line of the
@@ -75,8 +76,9 @@ pub(crate) fn caused_at(
 {
     match traces_at(alloc, command, marking.marked, place)? {
         Some(traces) => {
-            let all = all_caused(alloc, marking, place, traces)?;
-            Ok(Some(all))
+            let mut all = traces.into_vec();
+            set_causes(alloc, marking, place, all.as_mut_slice())?;
+            Ok(Some(Listing::from_vec(all)))
         }
         None => Ok(None),
     }

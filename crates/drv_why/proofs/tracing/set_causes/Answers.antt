@@ -1,0 +1,18 @@
+use Rattle.drv_why.proofs.LineCauses.{cause_next}
+use Rattle.drv_why.proofs.PartTakers.{last_kept}
+use Rattle.drv_why.proofs.tracing.set_causes.Goals as goal
+use Rattle.std.proofs.Common.{rules}
+use Rattle.std.specs.Option.{option_map}
+
+-- set_causes (src/tracing.rt). Says for each word of the command at a place what it is for.
+
+-- one more word has its causes, and the takers of its last part are kept
+pub loop-n-preserved : goal.loop-n-preserved
+loop-n-preserved c = (
+  cause_next c.args.marking.now.line c.args.marking.now.plan.jobs c.as_slice-jobs.result.now c.args.marking.now.parts c.args.place c.loop-n.n
+      (option_map (λ word. word.now) c.input_at-input.result) c.as_slice-in-loop-n.result.now c.last_word.result.now c.index-read-n.result
+      c.index-traces-n.result c.in_ok-causes.causes c.loop-n.traces _
+      (search rules) c.index-read-n.is (search rules) (search rules) (search rules) (search rules) (search rules) (search rules),
+  last_kept c.args.marking.now.line.switches c.args.marking.now.parts c.as_slice-in-loop-n.result.now c.causes_of.new.kept.number
+      c.causes_of.new.kept.takers (search rules) (search rules),
+)
