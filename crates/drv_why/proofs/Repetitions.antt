@@ -11,13 +11,13 @@ use Rattle.std.specs.Prelude.{suc, zero}
 -- for. `switch` is one switch, and `later` those after it. `left` is the switches that are left, `place` where they begin, and `whole` is
 -- whether one of all switches is looked for. `is_one` says it of one switch, and `has_switch` that there is one (specs/Taken).
 
--- For `is_one_of`: if the next switch is looked for, then one is.
+-- For `find_switch`: if the next switch is looked for, then one is.
 pub found : (pattern : Pattern) (name : List ℕ) (arg : Option (List ℕ)) (switch : Switch) (later left : List Switch) (whole : Bool)
-    → left ≡ switch ∷ later → is_one pattern name arg switch later ≡ true → has_switch pattern name arg left ≡ whole → true ≡ whole
+    → left ≡ switch ∷ later → is_one pattern name arg switch later ≡ true → has_switch pattern name arg left ≡ whole → whole ≡ true
 found pattern name arg switch later left whole cut is so_far =
-    sym (ap (has_switch pattern name arg) cut ∙ ap (λ test. test || has_switch pattern name arg later) is) ∙ so_far
+    sym so_far ∙ ap (has_switch pattern name arg) cut ∙ ap (λ test. test || has_switch pattern name arg later) is
 
--- For `is_one_of`: if it isn't, then one is exactly if one behind it is.
+-- For `find_switch`: if it isn't, then one is exactly if one behind it is.
 pub not_found : (pattern : Pattern) (name : List ℕ) (arg : Option (List ℕ)) (switch : Switch) (later left : List Switch) (whole : Bool)
     → left ≡ switch ∷ later → is_one pattern name arg switch later ≡ false → has_switch pattern name arg left ≡ whole
     → has_switch pattern name arg later ≡ whole
@@ -33,7 +33,7 @@ or_behind false others is = is
 at_place : (pattern : Pattern) (name : List ℕ) (arg : Option (List ℕ)) (place : ℕ) (switches : List Switch) (switch : Switch)
     (later : List Switch) → drop place switches ≡ switch ∷ later → is_one pattern name arg switch later ≡ true
     → has_switch pattern name arg switches ≡ true
-at_place pattern name arg zero switches switch later cut is = sym (found pattern name arg switch later switches _ cut is refl)
+at_place pattern name arg zero switches switch later cut is = found pattern name arg switch later switches _ cut is refl
 at_place pattern name arg (suc n) [] switch later cut is = absurd cc
 at_place pattern name arg (suc n) (s ∷ switches) switch later cut is =
     or_behind (is_one pattern name arg s switches) (has_switch pattern name arg switches)

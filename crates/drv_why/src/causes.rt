@@ -31,8 +31,6 @@ pub(crate) struct Case<'a> {
     pub(crate) word: &'a [u8],
     /// The word before it in the command; the first one has an empty one before it.
     pub(crate) before: &'a [u8],
-    /// The place of a switch that a word before repeated.
-    pub(crate) near: usize,
     /// The parts that have marks.
     pub(crate) parts: &'a [MarkedPart],
     /// For each the number of the outermost one that it is in.

@@ -2,11 +2,11 @@
 
 ghost use Rattle.drv_why.specs.Taken.{has_argument, has_switch, is_one, is_repeated, repeated_options};
 ghost use Rattle.std.specs.Option.{option_map};
-ghost use Rattle.std.specs.Prelude.{◌≡◌, IfOk, IsTrue, drop, true};
+ghost use Rattle.std.specs.Prelude.{◌≡◌, IfOk, IsTrue, MatchOption, drop, false, true};
 
 use crate::causes::{Case, only};
 use crate::matching::is_named;
-use crate::taking::{is_hit, is_option, is_this};
+use crate::taking::{is_hit, is_this};
 use drv_args::Switch;
 use drv_match::Pattern;
 use drv_words::{Listing, Word};
@@ -61,96 +61,93 @@ fn switches_from(switches: &[Switch], place: usize) -> &[Switch]
     switches.get(place..).unwrap_or(&[])
 }
 
-/// Whether one of these switches is looked for.
+/// The place of the first of these switches that is looked for, if there is one.
 #[tactic(auto, using(crate::proofs::Repetitions::found, crate::proofs::Repetitions::not_found))]
-fn is_one_of(pattern: &Pattern<'_>, name: &[u8], arg: Option<&[u8]>, switches: &[Switch]) -> bool
-    ensures { result
-        ≡ has_switch pattern.now name.now (option_map (λ bytes. bytes.now) arg.entry) switches.now }
+fn find_switch(
+    pattern: &Pattern<'_>,
+    name: &[u8],
+    arg: Option<&[u8]>,
+    switches: &[Switch],
+) -> Option<usize>
+    ensures { MatchOption result
+        (has_switch pattern.now name.now (option_map (λ bytes. bytes.now) arg.entry) switches.now ≡ false)
+        (λ place. has_switch pattern.now name.now (option_map (λ bytes. bytes.now) arg.entry) switches.now ≡ true) }
 {
     let mut left = switches;
     while let [switch, later @ ..] = left {
         if is_one(pattern, name, arg, switch, later) {
-            return true;
+            return Some(switches.len().saturating_sub(left.len()));
         }
         left = later;
     }
-    false
+    None
 }
 
-/// Whether a switch of the line is looked for. The words of a command repeat the switches in the
-/// order of the line, so the one that the last word repeated, and the next one, come first.
-fn has_switch(pattern: &Pattern<'_>, name: &[u8], arg: Option<&[u8]>, case: &Case<'_>) -> bool
-    ensures { result
-        ≡ has_switch pattern.now name.now (option_map (λ bytes. bytes.now) arg.entry) case.now.line.switches }
+/// The place of a switch of the line that is looked for, if there is one. The words of a command
+/// repeat the switches in the order of the line, so the one that the last word repeated, and the next
+/// one, come first.
+fn find_near(
+    pattern: &Pattern<'_>,
+    name: &[u8],
+    arg: Option<&[u8]>,
+    switches: &[Switch],
+    near: usize,
+) -> Option<usize>
+    ensures { MatchOption result
+        (has_switch pattern.now name.now (option_map (λ bytes. bytes.now) arg.entry) switches.now ≡ false)
+        (λ place. has_switch pattern.now name.now (option_map (λ bytes. bytes.now) arg.entry) switches.now ≡ true) }
 {
-    let switches = case.line.switches.as_slice();
-    is_one_at(pattern, name, arg, switches, case.near)
-        || is_one_at(pattern, name, arg, switches, case.near.saturating_add(1))
-        || is_one_of(pattern, name, arg, switches)
+    let next = near.saturating_add(1);
+    if is_one_at(pattern, name, arg, switches, near) {
+        return Some(near);
+    }
+    if is_one_at(pattern, name, arg, switches, next) {
+        return Some(next);
+    }
+    find_switch(pattern, name, arg, switches)
 }
 
-/// Whether an option, with this argument if one is asked for, is of a switch that a pattern takes.
-fn is_repeated(pattern: &Pattern<'_>, option: &[u8], arg: Option<&[u8]>, case: &Case<'_>) -> bool
-    ensures { result
-        ≡ is_repeated pattern.now option.now (option_map (λ bytes. bytes.now) arg.entry) case.now.line.switches }
+/// The place of a switch that a pattern takes, and whose option this is, with this argument if one is
+/// asked for. If there is one.
+fn find_repeated(
+    pattern: &Pattern<'_>,
+    option: &[u8],
+    arg: Option<&[u8]>,
+    switches: &[Switch],
+    near: usize,
+) -> Option<usize>
+    ensures { MatchOption result
+        (is_repeated pattern.now option.now (option_map (λ bytes. bytes.now) arg.entry) switches.now ≡ false)
+        (λ place. is_repeated pattern.now option.now (option_map (λ bytes. bytes.now) arg.entry) switches.now ≡ true) }
 {
     match option {
-        [b'-', name @ ..] => is_named(pattern, name) && has_switch(pattern, name, arg, case),
-        _ => false,
+        [b'-', name @ ..] if is_named(pattern, name) => {
+            find_near(pattern, name, arg, switches, near)
+        }
+        _ => None,
     }
 }
 
-/// The option of a switch that a pattern takes and a word repeats, if there is one.
+/// The option of a switch that a pattern takes and a word repeats, if there is one. Its place is near
+/// for the next word.
 pub(crate) fn repeated_options(
     alloc: Global,
     pattern: &Pattern<'_>,
     case: &Case<'_>,
+    near: &mut usize,
 ) -> Result<Listing<Word>, AllocError>
     ensures { IfOk result
         (λ names. names
         ≡ repeated_options pattern.now case.now.before case.now.word case.now.line.switches) }
 {
-    if is_repeated(pattern, case.word, None, case) {
+    let switches = case.line.switches.as_slice();
+    if let Some(place) = find_repeated(pattern, case.word, None, switches, *near) {
+        *near = place;
         return only(alloc, case.word);
     }
-    if is_repeated(pattern, case.before, Some(case.word), case) {
+    if let Some(place) = find_repeated(pattern, case.before, Some(case.word), switches, *near) {
+        *near = place;
         return only(alloc, case.before);
     }
     Ok(Listing::new(alloc))
-}
-
-/// Whether a word is the option of a switch, or its argument behind its option.
-fn repeats(case: &Case<'_>, switch: &Switch) -> bool {
-    is_option(case.word, switch.name.as_bytes())
-        || (is_option(case.before, switch.name.as_bytes()) && is_this(case.word, &switch.arg))
-}
-
-/// Whether a word repeats the switch at a place.
-fn repeats_at(case: &Case<'_>, place: usize) -> bool {
-    match case.line.switches.as_slice().get(place) {
-        Some(switch) => repeats(case, switch),
-        None => false,
-    }
-}
-
-/// The place of a switch that a word repeats, from the last such place on. Without one it stays.
-/// Most often it is that place or the next one.
-pub(crate) fn place_near(case: &Case<'_>) -> usize {
-    let near = case.near;
-    let next = near.saturating_add(1);
-    if repeats_at(case, near) {
-        return near;
-    }
-    if repeats_at(case, next) {
-        return next;
-    }
-    let switches = case.line.switches.as_slice();
-    let further = switches_from(switches, next);
-    match further.iter().position(|switch| repeats(case, switch)) {
-        Some(count) => next.saturating_add(count),
-        None => {
-            let place = switches.iter().position(|switch| repeats(case, switch));
-            place.unwrap_or(near)
-        }
-    }
 }

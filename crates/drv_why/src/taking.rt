@@ -75,7 +75,7 @@ pub(crate) fn option_of(alloc: Global, name: &[u8]) -> Result<Word, AllocError>
 }
 
 /// Whether a word is the option of this name.
-pub(crate) fn is_option(word: &[u8], name: &[u8]) -> bool
+fn is_option(word: &[u8], name: &[u8]) -> bool
     ensures { result ≡ is_option word.now name.now }
 {
     match word {

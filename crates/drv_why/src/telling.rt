@@ -23,6 +23,8 @@ pub(crate) struct Kept {
     number: Option<usize>,
     /// The takers of that part.
     takers: Listing<Taker>,
+    /// The place of the last switch that a word repeated.
+    near: usize,
 }
 
 /// The takers of the part with this number. The tree of its outermost part is kept.
@@ -57,6 +59,7 @@ impl Kept {
             tree: SpecTree::empty(alloc),
             number: None,
             takers: Listing::new(alloc),
+            near: 0,
         }
     }
 
@@ -92,6 +95,7 @@ fn add_taken(
     alloc: Global,
     case: &Case<'_>,
     names: &mut Listing<Word>,
+    near: &mut usize,
     taker: &Taker,
 ) -> Result<(), AllocError>
     ensures { OnOk result (names.new ≡ with_names names.old (taker_takes case.now taker.now)) }
@@ -103,7 +107,7 @@ fn add_taken(
                 name: name.as_bytes(),
                 star: *star,
             };
-            add_listing(alloc, names, repeated_options(alloc, &pattern, case)?)
+            add_listing(alloc, names, repeated_options(alloc, &pattern, case, near)?)
         }
         Taker::Takes(leaf) => add_listing(alloc, names, leaf_takes(alloc, case, *leaf)?),
     }
@@ -115,12 +119,13 @@ fn add_all_taken(
     alloc: Global,
     case: &Case<'_>,
     names: &mut Listing<Word>,
+    near: &mut usize,
     takers: &[Taker],
 ) -> Result<(), AllocError>
     ensures { OnOk result (names.new ≡ all_taken case.now names.old takers.now) }
 {
     for taker in takers {
-        add_taken(alloc, case, names, taker)?;
+        add_taken(alloc, case, names, near, taker)?;
     }
     Ok(())
 }
@@ -143,7 +148,13 @@ pub(crate) fn causes_of(
     let mut names = Listing::new(alloc);
     for number in numbers {
         kept.renew(alloc, case, *number)?;
-        add_all_taken(alloc, case, &mut names, kept.takers.as_slice())?;
+        add_all_taken(
+            alloc,
+            case,
+            &mut names,
+            &mut kept.near,
+            kept.takers.as_slice(),
+        )?;
     }
     Ok(names)
 }

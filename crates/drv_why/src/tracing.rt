@@ -7,7 +7,6 @@ ghost use Rattle.std.specs.Prelude.{◌≡◌, [], IfOk, OnOk, slice_get};
 use crate::causes::{Case, input_at, source_of};
 use crate::origins::Marking;
 use crate::outers::outers_of;
-use crate::repeating::place_near;
 use crate::telling::{Kept, causes_of};
 use crate::traces::{Trace, traces_at};
 use drv_words::{Command, Listing};
@@ -38,7 +37,6 @@ fn set_causes(
     let input = input_at(marking.line.inputs.as_slice(), source_of(jobs, place));
     let outers = outers_of(alloc, marking.parts)?;
     let mut kept = Kept::new(alloc);
-    let mut near = 0;
     for n in 0..traces.len() {
         let read = &*traces;
         let trace = &read[n];
@@ -48,14 +46,10 @@ fn set_causes(
             input,
             word: trace.word.as_bytes(),
             before: last_word(&read[..n]),
-            near,
             parts: marking.parts,
             outers: outers.as_slice(),
         };
         let causes = causes_of(alloc, &mut kept, &case, trace.parts.as_slice())?;
-        if !causes.is_empty() {
-            near = place_near(&case);
-        }
         traces[n].causes = causes;
     }
     Ok(())

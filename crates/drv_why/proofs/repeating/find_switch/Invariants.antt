@@ -1,9 +1,9 @@
-use Rattle.drv_why.proofs.repeating.is_one_of.Given as goal
+use Rattle.drv_why.proofs.repeating.find_switch.Given as goal
 use Rattle.drv_why.specs.Taken.{has_switch}
 use Rattle.std.proofs.Common.{◌≡◌, length}
 use Rattle.std.specs.Option.{option_map}
 
--- The loops of is_one_of (src/repeating.rt). Whether one of these switches is looked for.
+-- The loops of find_switch (src/repeating.rt). The place of the first of these switches that is looked for, if there is one.
 
 abbrev pub invariant-loop-left : goal.invariant-loop-left
 invariant-loop-left l =
