@@ -84,8 +84,8 @@ fn find_switch(
 }
 
 /// The place of a switch of the line that is looked for, if there is one. The words of a command
-/// repeat the switches in the order of the line, so the one that the last word repeated, and the next
-/// one, come first.
+/// repeat the switches in the order of the line. So most often an option is that of the switch behind
+/// the last one that was repeated, and an argument that of the last one.
 fn find_near(
     pattern: &Pattern<'_>,
     name: &[u8],
@@ -98,11 +98,15 @@ fn find_near(
         (λ place. has_switch pattern.now name.now (option_map (λ bytes. bytes.now) arg.entry) switches.now ≡ true) }
 {
     let next = near.saturating_add(1);
-    if is_one_at(pattern, name, arg, switches, near) {
-        return Some(near);
+    let (first, second) = match arg {
+        Some(_) => (near, next),
+        None => (next, near),
+    };
+    if is_one_at(pattern, name, arg, switches, first) {
+        return Some(first);
     }
-    if is_one_at(pattern, name, arg, switches, next) {
-        return Some(next);
+    if is_one_at(pattern, name, arg, switches, second) {
+        return Some(second);
     }
     find_switch(pattern, name, arg, switches)
 }
