@@ -1,6 +1,8 @@
+use Rattle.drv_check.specs.MarkWords.{mark_end}
 use Rattle.drv_forms.specs.Difference.{words_of}
+use Rattle.drv_why.specs.Code.Marks.{has_mark, unmarked}
 use Rattle.drv_why.specs.Origins.{Marking, command_json, command_text, is_cut, origins_from, origins_items, shown}
-use Rattle.drv_why.specs.Traces.{are_words, is_found, traces_by, traces_of}
+use Rattle.drv_why.specs.Traces.{are_words, at_word, is_found, read, taken, taken_by, traces_by, traces_of, with_byte}
 use Rattle.drv_why.specs.declared.traces.Trace.{Trace}
 use Rattle.drv_words.specs.declared.plan.Command.{Command}
 use Rattle.drv_words.specs.declared.plan.PlanLine.{PlanLine}
@@ -9,11 +11,11 @@ use Rattle.json.specs.Tree.{items_tokens, json_tokens}
 use Rattle.std.proofs.Common.{◌≡◌, ◌∙◌, ◌<◌, ◌+◌, ◌-◌, ◌++◌, ◌∷◌, Bool, List, None, Option, Some, [], ap, append_assoc}
 use Rattle.std.proofs.Common.{codes, drop, false, length, refl, sym, true, ℕ}
 use Rattle.std.proofs.lemmas.Bool.Decides.{Decides-eqb}
-use Rattle.std.proofs.lemmas.List.{drop_more}
+use Rattle.std.proofs.lemmas.List.{append-nil, drop_more}
 use Rattle.std.proofs.lemmas.Slice.Eq.{slice_eq-Decides}
 use Rattle.std.specs.Cmp.Lexicographic.{pointwise}
-use Rattle.std.specs.Option.{unwrap_or}
-use Rattle.std.specs.Prelude.{get_or, if◌then◌else◌, nat_eq}
+use Rattle.std.specs.Option.{option_to_list, unwrap_or}
+use Rattle.std.specs.Prelude.{◌==◌, ◌||◌, get_or, if◌then◌else◌, nat_eq}
 
 -- For origins_report (src/origins.rt): the words of a command beside those of the plan, the bytes of a part, and the commands of a plan,
 -- one after another.
@@ -21,6 +23,39 @@ use Rattle.std.specs.Prelude.{get_or, if◌then◌else◌, nat_eq}
 -- `command` is a command, and `marked` the same in the plan with marks. `part` is the bytes of a part, `byte` the one at place `n`, and
 -- `room` how many may still be shown. `line` is the command at place `n` of `lines`. `before` and `after` are what is written before a step
 -- and after it, and `whole` is all of it. `m` is what is known of the plan's marks. `is_cut` says that no further byte is shown.
+
+-- bytes without marks, outside of marks where no part is due, are those of the word
+more_read : (t : Trace) (bytes : List ℕ) → t.number ≡ None → t.due ≡ None → has_mark bytes ≡ false
+    → read t bytes ≡ record t { word = t.word ++ bytes }
+more_read t [] outside none plain = ap (λ word. record t { word = word }) (sym (append-nil t.word))
+more_read t (b ∷ bytes) outside none plain = by (b == mark_end) refl plain (more_read (with_byte t b) bytes outside refl)
+  where
+    -- Plan: `by` goes by both answers of `b == mark_end`.
+    by : (test : Bool) → (b == mark_end) ≡ test → (test || has_mark bytes) ≡ false
+        → (has_mark bytes ≡ false → read (with_byte t b) bytes ≡ record (with_byte t b) { word = (t.word ++ b ∷ []) ++ bytes })
+        → read (taken t b) bytes ≡ record t { word = t.word ++ b ∷ bytes }
+    by true is plain others = absurd cc
+    by false is plain others =
+        ap (λ n. read (taken_by n t b) bytes) outside
+        ∙ ap (λ test. read (if test then record t { number = Some 0 } else with_byte t b) bytes) is
+        ∙ others plain
+        ∙ ap (λ d. record t { word = (t.word ++ b ∷ []) ++ bytes; parts = t.parts ++ option_to_list d; due = None }) none
+        ∙ ap (λ ps. record t { word = (t.word ++ b ∷ []) ++ bytes; parts = ps; due = None }) (append-nil t.parts)
+        ∙ ap (λ d. record t { word = (t.word ++ b ∷ []) ++ bytes; due = d }) (sym none)
+        ∙ ap (λ word. record t { word = word }) (append_assoc t.word (b ∷ []) bytes)
+
+-- For `read`: a word without a mark has its last part alone.
+pub unmarked_read : (last : Option ℕ) (bytes : List ℕ) (t : Trace) → ((bytes ≡ []) → ⊥) → has_mark bytes ≡ false → t ≡ unmarked last bytes
+    → t ≡ read (at_word last) bytes
+unmarked_read last [] t some plain is = absurd (some refl)
+unmarked_read last (b ∷ bytes) t some plain is = is ∙ sym (by (b == mark_end) refl plain)
+  where
+    -- Plan: `by` goes by both answers of `b == mark_end`.
+    by : (test : Bool) → (b == mark_end) ≡ test → (test || has_mark bytes) ≡ false → read (at_word last) (b ∷ bytes) ≡ unmarked last (b ∷ bytes)
+    by true is plain = absurd cc
+    by false is plain =
+        ap (λ test. read (if test then record (at_word last) { number = Some 0 } else with_byte (at_word last) b) bytes) is
+        ∙ more_read (with_byte (at_word last) b) bytes refl refl plain
 
 -- For `are_words`: if the first word is the same, then all are exactly if the others are.
 pub are_next : (t : Trace) (word : List ℕ) (ts ts' : List Trace) (words words' : List (List ℕ)) → ts ≡ t ∷ ts' → words ≡ word ∷ words'

@@ -3,5 +3,6 @@ pub mod Beginning
 pub mod Behind
 pub mod Counting
 pub mod ListedParts
+pub mod Marks
 pub mod Takers
 pub mod Wanting

@@ -1,6 +1,7 @@
 //! The parts of texts that each word of a command has its bytes from, by marks.
 
 ghost use Rattle.drv_forms.specs.Difference.{words_of};
+ghost use Rattle.drv_why.specs.Code.Marks.{has_mark, unmarked};
 ghost use Rattle.drv_why.specs.Traces.{are_words, at_word, before_name, in_mark, is_found, is_marks, no_traces, outside_marks, read, taken};
 ghost use Rattle.drv_why.specs.Traces.{command_traces, traces_by, traces_of, with_byte, with_digit};
 ghost use Rattle.drv_why.specs.Traces.{with_trace, with_word, words_read};
@@ -115,10 +116,45 @@ impl Trace {
     }
 }
 
+/// Whether a word has a mark.
+fn has_mark(bytes: &[u8]) -> bool
+    ensures { result ≡ has_mark bytes.now }
+{
+    // Words are short, so a plain loop costs less than `contains`.
+    for byte in bytes {
+        if *byte == MARK_END {
+            return true;
+        }
+    }
+    false
+}
+
+/// A word without a mark.
+fn unmarked(alloc: Global, last: Option<usize>, bytes: &[u8]) -> Result<Trace, AllocError>
+    ensures { IfOk result (λ trace. trace ≡ unmarked last bytes.now) }
+{
+    let mut parts = Listing::new(alloc);
+    if let Some(number) = last {
+        parts.push(number)?;
+    }
+    Ok(Trace {
+        word: Word::from_bytes(alloc, bytes)?,
+        parts,
+        causes: Listing::new(alloc),
+        last,
+        due: None,
+        number: None,
+    })
+}
+
 /// A word of a command whose last mark before it is this one.
+#[tactic(auto, using(crate::proofs::WordTraces::unmarked_read))]
 fn read(alloc: Global, last: Option<usize>, bytes: &[u8]) -> Result<Trace, AllocError>
     ensures { IfOk result (λ trace. trace ≡ read (at_word last) bytes.now) }
 {
+    if !bytes.is_empty() && !has_mark(bytes) {
+        return unmarked(alloc, last, bytes);
+    }
     let mut trace = Trace::new(alloc, last);
     for byte in bytes {
         trace.take(*byte)?;
