@@ -45,12 +45,6 @@ name_next n others name before after whole below here grows is =
     ∙ ap (λ m. with_names before (m ∷ drop (n + 1) others)) here
     ∙ ap (with_names before) (sym (drop_more others n name below)) ∙ is
 
--- For `add_listing`: one name alone is itself.
-pub only_name : (names others : List (List ℕ)) → names ≡ [] → length others ≡ 1 → others ≡ with_names names others
-only_name names [] empty one = absurd (omega (arith, one))
-only_name names (name ∷ []) empty one = sym (ap (λ ns. with_names ns (name ∷ [])) empty)
-only_name names (name ∷ other ∷ others) empty one = absurd (omega (arith, one))
-
 -- For `taken_options`: if the options so far with those of the switches left are all, then they still are after a switch that is taken.
 pub switch_told : (pattern : Pattern) (switch : Switch) (later left : List Switch) (before after whole : List (List ℕ))
     → left ≡ switch ∷ later → is_taken pattern switch later ≡ true → after ≡ with_option before switch.name

@@ -6,7 +6,7 @@ use Rattle.std.proofs.Common.{true, ℕ}
 use Rattle.std.proofs.Math.Seq.{take-length}
 use Rattle.std.specs.Prelude.{suc, zero}
 
--- For repeated_options (src/repeating.rt): the switches of a line, one after another, among which one is looked for.
+-- For add_repeated (src/repeating.rt): the switches of a line, one after another, among which one is looked for.
 -- Names: `pattern` is a pattern of a text, `name` a name that it names, and `arg` the argument that the switch has to have, if one is asked
 -- for. `switch` is one switch, and `later` those after it. `left` is the switches that are left, `place` where they begin, and `whole` is
 -- whether one of all switches is looked for. `is_one` says it of one switch, and `has_switch` that there is one (specs/Taken).

@@ -121,7 +121,7 @@ fn list_of(alloc: Global, word: Option<&Word>) -> Result<Listing<Word>, AllocErr
 }
 
 /// A word as a list of one.
-pub(crate) fn only(alloc: Global, word: &[u8]) -> Result<Listing<Word>, AllocError>
+fn only(alloc: Global, word: &[u8]) -> Result<Listing<Word>, AllocError>
     ensures { IfOk result (λ names. names ≡ word.now ∷ []) }
 {
     let mut names = Listing::new(alloc);

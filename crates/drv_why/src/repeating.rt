@@ -1,12 +1,12 @@
 //! The options that a pattern takes and a word repeats.
 
-ghost use Rattle.drv_why.specs.Taken.{has_argument, has_switch, is_one, is_repeated, repeated_options};
+ghost use Rattle.drv_why.specs.Taken.{has_argument, has_switch, is_one, is_repeated, repeated_options, with_names};
 ghost use Rattle.std.specs.Option.{option_map};
-ghost use Rattle.std.specs.Prelude.{◌≡◌, IfOk, IsTrue, MatchOption, drop, false, true};
+ghost use Rattle.std.specs.Prelude.{◌≡◌, IsTrue, MatchOption, OnOk, drop, false, true};
 
-use crate::causes::{Case, only};
+use crate::causes::Case;
 use crate::matching::is_named;
-use crate::taking::{is_hit, is_this};
+use crate::taking::{add_name, is_hit, is_this};
 use drv_args::Switch;
 use drv_match::Pattern;
 use drv_words::{Listing, Word};
@@ -132,26 +132,27 @@ fn find_repeated(
     }
 }
 
-/// The option of a switch that a pattern takes and a word repeats, if there is one. Its place is near
-/// for the next word.
-pub(crate) fn repeated_options(
+/// Adds the option of a switch that a pattern takes and a word repeats, if there is one. Its place is
+/// near for the next word.
+pub(crate) fn add_repeated(
     alloc: Global,
-    pattern: &Pattern<'_>,
     case: &Case<'_>,
+    names: &mut Listing<Word>,
     near: &mut usize,
-) -> Result<Listing<Word>, AllocError>
-    ensures { IfOk result
-        (λ names. names
-        ≡ repeated_options pattern.now case.now.before case.now.word case.now.line.switches) }
+    pattern: &Pattern<'_>,
+) -> Result<(), AllocError>
+    ensures { OnOk result (names.new
+        ≡ with_names names.old
+        (repeated_options pattern.now case.now.before case.now.word case.now.line.switches)) }
 {
     let switches = case.line.switches.as_slice();
     if let Some(place) = find_repeated(pattern, case.word, None, switches, *near) {
         *near = place;
-        return only(alloc, case.word);
+        return add_name(alloc, names, case.word);
     }
     if let Some(place) = find_repeated(pattern, case.before, Some(case.word), switches, *near) {
         *near = place;
-        return only(alloc, case.before);
+        return add_name(alloc, names, case.before);
     }
-    Ok(Listing::new(alloc))
+    Ok(())
 }

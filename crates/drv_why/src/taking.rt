@@ -22,7 +22,11 @@ fn is_among(names: &[Word], name: &[u8]) -> bool
 }
 
 /// Adds a name, unless it is there.
-fn add_name(alloc: Global, names: &mut Listing<Word>, name: &[u8]) -> Result<(), AllocError>
+pub(crate) fn add_name(
+    alloc: Global,
+    names: &mut Listing<Word>,
+    name: &[u8],
+) -> Result<(), AllocError>
     ensures { OnOk result (names.new ≡ with_name names.old name.now) }
 {
     if is_among(names.as_slice(), name) {
@@ -45,23 +49,6 @@ pub(crate) fn add_names(
         add_name(alloc, names, name.as_bytes())?;
     }
     Ok(())
-}
-
-/// Adds the names of a list, each unless it is there.
-#[tactic(auto, using(crate::proofs::LineCauses::only_name))]
-pub(crate) fn add_listing(
-    alloc: Global,
-    names: &mut Listing<Word>,
-    others: Listing<Word>,
-) -> Result<(), AllocError>
-    ensures { OnOk result (names.new ≡ with_names names.old others) }
-{
-    // Most words are for one option, which moves.
-    if names.is_empty() && others.len() == 1 {
-        *names = others;
-        return Ok(());
-    }
-    add_names(alloc, names, others.as_slice())
 }
 
 /// A name as an option.

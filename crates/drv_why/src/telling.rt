@@ -6,9 +6,9 @@ ghost use Rattle.drv_why.specs.Taken.{with_names};
 ghost use Rattle.std.specs.Prelude.{◌≡◌, [], IfOk, IsTrue, None, OnOk, Some};
 
 use crate::causes::{Case, leaf_takes};
-use crate::repeating::repeated_options;
+use crate::repeating::add_repeated;
 use crate::takers::{Taker, takers_in};
-use crate::taking::{add_listing, add_names};
+use crate::taking::add_names;
 use drv_match::Pattern;
 use drv_syntax::SpecTree;
 use drv_words::{Listing, Word};
@@ -107,9 +107,9 @@ fn add_taken(
                 name: name.as_bytes(),
                 star: *star,
             };
-            add_listing(alloc, names, repeated_options(alloc, &pattern, case, near)?)
+            add_repeated(alloc, case, names, near, &pattern)
         }
-        Taker::Takes(leaf) => add_listing(alloc, names, leaf_takes(alloc, case, *leaf)?),
+        Taker::Takes(leaf) => add_names(alloc, names, leaf_takes(alloc, case, *leaf)?.as_slice()),
     }
 }
 
