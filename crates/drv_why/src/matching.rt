@@ -125,6 +125,7 @@ pub(crate) fn begin_alike(text: &[u8], other: &[u8]) -> bool
 }
 
 /// Whether a pattern names a switch.
+#[inline(always)]
 #[tactic(auto, using(crate::proofs::SwitchFates::unlike_begun))]
 pub(crate) fn is_named(pattern: &Pattern<'_>, name: &[u8]) -> bool
     ensures { result ≡ is_named pattern.now name.now }
