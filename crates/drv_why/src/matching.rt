@@ -26,13 +26,6 @@ fn has_negative(name: &[u8]) -> bool
     matches!(name, [b'f' | b'm' | b'W', ..])
 }
 
-/// The first three bytes of a name.
-fn front_of(name: &[u8]) -> &[u8]
-    ensures { result.now ≡ take 3 name.now }
-{
-    name.get(..3).unwrap_or(name)
-}
-
 /// The bytes of a name behind the first three.
 fn behind_front(name: &[u8]) -> &[u8]
     ensures { result.now ≡ drop 3 name.now }
@@ -44,7 +37,7 @@ fn behind_front(name: &[u8]) -> &[u8]
 fn has_front(name: &[u8]) -> bool
     ensures { result ≡ pointwise nat_eq (codes "no-") (take 3 name.now) }
 {
-    b"no-".as_slice() == front_of(name)
+    matches!(name, [b'n', b'o', b'-', ..])
 }
 
 /// Whether these bytes are behind the first three of a name.
