@@ -34,6 +34,7 @@ fn behind_front(name: &[u8]) -> &[u8]
 }
 
 /// Whether the first three bytes of a name are `no-`.
+#[inline(always)]
 fn has_front(name: &[u8]) -> bool
     ensures { result ≡ pointwise nat_eq (codes "no-") (take 3 name.now) }
 {
@@ -48,6 +49,7 @@ fn has_back(name: &[u8], rest: &[u8]) -> bool
 }
 
 /// Whether a name goes on with `no-` and these bytes.
+#[inline(always)]
 #[tactic(auto, using(crate::proofs::SwitchFates::no_front))]
 fn goes_on(name: &[u8], rest: &[u8]) -> bool
     ensures { result ≡ pointwise nat_eq (codes "no-" ++ rest.now) name.now }
@@ -59,6 +61,7 @@ fn goes_on(name: &[u8], rest: &[u8]) -> bool
 }
 
 /// Whether a name is the negative form of one that begins with this letter and goes on so.
+#[inline(always)]
 fn is_form(name: &[u8], letter: u8, rest: &[u8]) -> bool
     ensures { result ≡ pointwise nat_eq (letter ∷ codes "no-" ++ rest.now) name.now }
 {
@@ -69,6 +72,7 @@ fn is_form(name: &[u8], letter: u8, rest: &[u8]) -> bool
 }
 
 /// Whether the first name is the negative form of the second.
+#[inline(always)]
 fn is_negative_of(other: &[u8], name: &[u8]) -> bool
     ensures { result ≡ is_negative_of other.now name.now }
 {
@@ -79,6 +83,7 @@ fn is_negative_of(other: &[u8], name: &[u8]) -> bool
 }
 
 /// Whether a later switch cancels an earlier one, by their names.
+#[inline(always)]
 fn cancels(later: &[u8], name: &[u8]) -> bool
     ensures { result ≡ cancels later.now name.now }
 {
