@@ -1,12 +1,11 @@
 use Rattle.drv_args.specs.declared.option_table.Effect.TheVariants as effect
 use Rattle.drv_args.specs.declared.option_table.Effect.{Effect}
-use Rattle.drv_cc.specs.Front.{front_of, macro_word, quoted_line}
+use Rattle.drv_cc.specs.Front.{front_of, macro_word}
 use Rattle.drv_cc.specs.Levels.{debugged_by}
 use Rattle.drv_cc.specs.Table.{ignored, sections, texts, unpaired}
 use Rattle.drv_cc.specs.declared.answer.Answer.TheVariants.{Ask, Refuse, Run}
 use Rattle.drv_cc.specs.declared.answer.Answer.{Answer}
 use Rattle.drv_cc.specs.declared.answer.Surroundings.{Surroundings}
-use Rattle.drv_cc.specs.declared.answer.Variable.{Variable}
 use Rattle.drv_cc.specs.declared.refusal.Refusal.TheVariants.{EmptyOutput, NoArgument, NoInput, NotTaken, UnknownOption}
 use Rattle.std.proofs.Common.{◌≡◌, List, [], ◌∷◌, ◌++◌, codes, refl, ℕ}
 use Rattle.std.specs.List.{flat_map}
@@ -31,7 +30,7 @@ nowhere = record { compiler = codes "/usr/bin/gcc"; folders = codes "/g/" ∷ []
 abbrev front_by : List ℕ → List ℕ → Answer
 front_by names line = front_of names [] nowhere (texts line)
 
-abbrev front : List ℕ → Answer
+abbrev pub front : List ℕ → Answer
 front line = front_by known line
 
 -- an item by its words, as a line has them
@@ -49,11 +48,6 @@ spelled_by _ option argument = option ∷ argument ∷ []
 abbrev pub words_given : Answer → Option (List (List ℕ))
 words_given (Run call) = Some (flat_map (λ i. spelled_by i.effect i.option i.argument) call.items)
 words_given _ = None
-
--- The variables that it sets for its children.
-abbrev children_given : Answer → List Variable
-children_given (Run call) = call.children
-children_given _ = []
 
 -- The words of a line by these names.
 abbrev line_by : List ℕ → List ℕ → Option (List (List ℕ))
@@ -547,13 +541,6 @@ no_place_of_no_file : line (codes "a.c -dumpdir p- -save-temps=obj -o /dev/null"
 unfolding sections ignored unpaired debugged_by
 no_place_of_no_file = refl
 
--- The base and -dumpdir name the link's own dumps, which its children learn by a variable.
-link_with_a_base : children_given (front (codes "o.o -dumpdir p- -dumpbase n.c -dumpbase-ext .c"))
-    ≡ record { name = codes "COLLECT_GCC"; value = codes "/usr/bin/gcc" }
-    ∷ record { name = codes "COLLECT_GCC_OPTIONS"; value = codes "'-dumpdir' 'p-n.'" } ∷ []
-unfolding sections ignored unpaired debugged_by
-link_with_a_base = refl
-
 -- words before each command: a pipe would hide the second of two
 wrapped : line (codes "-c a.c -wrapper x -wrapper a,,b")
     ≡ gives (codes "-c a.c --gdrv-wrapper=a --gdrv-wrapper=b --gdrv-base=a.c --gdrv-ext=.c")
@@ -574,28 +561,3 @@ inputs_given _ = []
 inputs : inputs_given (front (codes "b.c -x c - -lm a.o -o c.o -Wl,-O1")) ≡ codes "b.c" ∷ codes "a.o" ∷ []
 unfolding sections ignored unpaired debugged_by
 inputs = refl
-
--- variables of the children
-no_children : children_given (front (codes "-c a.c")) ≡ []
-unfolding sections ignored unpaired debugged_by
-no_children = refl
-
--- The children of a link get its switches, and no files, libraries or languages.
-options_of_a_link : children_given (front (codes "a.c -B x -Lfoo -l m -x c -fopenmp -o d/foo"))
-    ≡ record { name = codes "COLLECT_GCC"; value = codes "/usr/bin/gcc" }
-    ∷ record { name = codes "COLLECT_GCC_OPTIONS"; value = codes "'-B' 'x' '-Lfoo' '-fopenmp' '-o' 'd/foo' '-pthread' '-dumpdir' 'd/foo.'" }
-    ∷ []
-unfolding sections ignored unpaired debugged_by
-options_of_a_link = refl
-
--- They get the words for the assembler in a variable of their own.
-pieces : children_given (front (codes "o.o -Wa,--a,b -Xassembler e -Wa,"))
-    ≡ record { name = codes "COLLECT_GCC"; value = codes "/usr/bin/gcc" }
-    ∷ record { name = codes "COLLECT_GCC_OPTIONS"; value = codes "'-dumpdir' 'a.'" }
-    ∷ record { name = codes "COLLECT_AS_OPTIONS"; value = codes "'--a' 'b' 'e' ''" } ∷ []
-unfolding sections ignored unpaired debugged_by
-pieces = refl
-
--- A quote within a word is closed, escaped and opened again, as a shell reads it.
-quotes : quoted_line (codes "a'b" ∷ [] ∷ []) ≡ codes "'a'\\''b' ''"
-quotes = refl
