@@ -1,8 +1,7 @@
-use Rattle.drv_after.specs.Answered.{ChangesOnePlace, answer_to, claim_at, claim_or, is_at, is_same, removal_at, removal_or, start_at}
+use Rattle.drv_after.specs.Answered.{ChangesOnePlace, answer_to, claim_at, claim_or, is_at, removal_at, removal_or, start_at}
 use Rattle.drv_after.specs.Answered.{start_answer, start_or, wait_at, wait_or}
 use Rattle.drv_after.specs.declared.answers.Given.{Given}
 use Rattle.drv_words.specs.declared.answers.Answer.TheVariants as answer
-use Rattle.drv_words.specs.declared.steps.Place.{Place}
 use Rattle.drv_words.specs.declared.steps.Step.{Step}
 use Rattle.drv_words.specs.declared.steps.Step.TheVariants as step
 use Rattle.std.proofs.Common.{◌≡◌, List, ◌∷◌, ap, false, refl, ℕ}

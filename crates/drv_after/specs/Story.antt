@@ -16,7 +16,6 @@ use Rattle.drv_words.specs.declared.answers.WaitAnswer.{WaitAnswer}
 use Rattle.drv_words.specs.declared.answers.WaitAnswer.TheVariants as wait
 use Rattle.drv_words.specs.declared.plan.Command.{Command}
 use Rattle.drv_words.specs.declared.plan.Plan.{Plan}
-use Rattle.drv_words.specs.declared.steps.Place.{Place}
 use Rattle.drv_words.specs.declared.steps.RunEvent.{RunEvent}
 use Rattle.drv_words.specs.declared.steps.Step.{Step}
 use Rattle.drv_words.specs.declared.steps.Step.TheVariants as step

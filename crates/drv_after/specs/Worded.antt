@@ -15,7 +15,7 @@ use Rattle.drv_words.specs.declared.plan.Plan.{Plan}
 use Rattle.drv_words.specs.declared.steps.Place.{Place}
 use Rattle.drv_words.specs.declared.steps.Place.TheVariants as place
 use Rattle.std.specs.Cmp.Lexicographic.{pointwise}
-use Rattle.std.specs.Prelude.{◌+◌, ◌*◌, ◌-◌, ◌&&◌, Bool, Err, List, [], ◌∷◌, None, Ok, Option, Result, Some, codes, if◌then◌else◌}
+use Rattle.std.specs.Prelude.{◌+◌, ◌*◌, ◌-◌, ◌&&◌, Err, List, [], ◌∷◌, None, Ok, Option, Result, Some, codes, if◌then◌else◌}
 use Rattle.std.specs.Prelude.{is_some, length, nat_eq, nat_le, ℕ}
 
 -- An answer that is given in words: PLACE=ANSWER (this project's profile).

@@ -1,6 +1,5 @@
 use Rattle.drv_cc.proofs.Groups.{same_is}
-use Rattle.drv_cc.specs.Asked.{asks, has_no_number, is_asked, is_question, is_stabs, is_xcoff, numeric, tells}
-use Rattle.drv_cc.specs.Checks.{names_no_check}
+use Rattle.drv_cc.specs.Asked.{asks, is_asked, is_question, is_stabs, is_xcoff, numeric, tells}
 use Rattle.drv_cc.specs.Code.Asking.{is_judged, is_speaking, may_ask}
 use Rattle.drv_cc.specs.Items.{is_among, same}
 use Rattle.drv_cc.specs.Kept.{has}

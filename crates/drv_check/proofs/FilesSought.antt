@@ -2,7 +2,7 @@ use Rattle.drv_check.proofs.Agreeing.{change_alone, loaded_alone, same_in}
 use Rattle.drv_check.proofs.PiecesChecked.{begins, enters, name_done, piece_gone}
 use Rattle.drv_check.proofs.PiecesRead.{pieces_read}
 use Rattle.drv_check.specs.Checks.{all_called, by_text, called, changed, entered, enters_at, faulty, file_checked, noted, opened, opened_of}
-use Rattle.drv_check.specs.Checks.{empty_check, found_text, pieces_checked, put_aside, spot_in, step, stepped, warned}
+use Rattle.drv_check.specs.Checks.{found_text, pieces_checked, put_aside, spot_in, step, stepped, warned}
 use Rattle.drv_check.specs.Code.Seeking.{Goes, IsFile, Seeks, beside, sought, sought_by}
 use Rattle.drv_check.specs.FaultNotes.{unchecked_over}
 use Rattle.drv_check.specs.Includes.{inclusion_in}

@@ -2,7 +2,7 @@ use Rattle.drv_check.specs.Checks.{with_number}
 use Rattle.drv_specs.proofs.Changes.{filled_body}
 use Rattle.drv_specs.specs.Blanks.{is_white}
 use Rattle.drv_specs.specs.Sets.{Set, append, appended_text, appends, begins_with_at, by_tree, ends_with_backslash, is_key, is_name}
-use Rattle.drv_specs.specs.Sets.{is_no_text, pair_text, put, text_of, with_body, with_name, with_named, with_pair, with_pair_body}
+use Rattle.drv_specs.specs.Sets.{is_no_text, pair_text, put, text_of, with_body, with_name, with_pair, with_pair_body}
 use Rattle.drv_specs.specs.Sets.{with_pair_text, with_text}
 use Rattle.drv_specs.specs.declared.fault.SpecsFault.TheVariants.{AliasOfAlias, BadName, RenameMissing, RenameTaken, TrailingBackslash}
 use Rattle.drv_specs.specs.declared.fault.SpecsFault.{SpecsFault}

@@ -1,6 +1,6 @@
 use Rattle.drv_place.specs.Settling.{Marked, marked_from, marked_onto, nothing, shorter}
 use Rattle.drv_specs.specs.Lines.{is_kept, joined_onto, settle}
-use Rattle.std.proofs.Common.{◌≡◌, ◌∙◌, ◌&&◌, ◌+◌, ◌-◌, ◌==◌, ◌++◌, ◌∷◌, Bool, List, [], Option, Some, ap, append_assoc, arith, false}
+use Rattle.std.proofs.Common.{◌≡◌, ◌∙◌, ◌&&◌, ◌+◌, ◌-◌, ◌==◌, ◌++◌, ◌∷◌, Bool, List, [], Some, ap, append_assoc, false}
 use Rattle.std.proofs.Common.{filter, fold, if◌then◌else◌, length, map, nat_eq, refl, slice_get, subst, sym, take, true, ℕ}
 use Rattle.std.proofs.lemmas.List.{length-append, length-map, map-append, take-map}
 use Rattle.std.specs.List.{ends_with}

@@ -1,4 +1,4 @@
-use Rattle.drv_core.specs.Choices.{BetweenBlocks, ChoicesAre, IsChoice}
+use Rattle.drv_core.specs.Choices.{ChoicesAre, IsChoice}
 use Rattle.drv_core.specs.Run.{Run}
 use Rattle.std.proofs.Common.{◌≡◌, ◌<◌, subst, sym, ℕ}
 

@@ -14,8 +14,8 @@ use Rattle.drv_words.specs.Lines.{lines_of}
 use Rattle.drv_words.specs.Printed.{lines_text}
 use Rattle.drv_words.specs.Stepping.{pipe_pending}
 use Rattle.drv_words.specs.declared.plan.Plan.{Plan}
-use Rattle.std.proofs.Common.{◌≡◌, ◌∙◌, Bool, Err, IfOk, List, [], ◌∷◌, ◌++◌, Ok, OnErr, Result, ap, append_assoc, false, map, refl, subst}
-use Rattle.std.proofs.Common.{sym, true, ℕ}
+use Rattle.std.proofs.Common.{◌≡◌, ◌∙◌, Err, IfOk, List, [], ◌∷◌, ◌++◌, Ok, OnErr, Result, ap, append_assoc, false, map, refl, subst}
+use Rattle.std.proofs.Common.{sym, ℕ}
 use Rattle.std.proofs.lemmas.List.{append-nil}
 
 -- For `do_work`: the texts that a call prints (notices, and with -v the commands), and the run after them. Only a run makes steps, so

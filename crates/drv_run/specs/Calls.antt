@@ -19,7 +19,7 @@ use Rattle.drv_words.specs.Lines.{lines_of}
 use Rattle.drv_words.specs.Printed.{lines_text}
 use Rattle.drv_words.specs.declared.plan.Plan.{Plan}
 use Rattle.std.specs.List.{flat_map}
-use Rattle.std.specs.Prelude.{◌≡◌, Bool, List, [], ◌∷◌, ◌++◌, codes, false, true, ℕ, ⊤}
+use Rattle.std.specs.Prelude.{◌≡◌, List, [], ◌∷◌, ◌++◌, codes, ℕ, ⊤}
 
 -- What a call of the driver does (GCC manual, "Overall Options", -v, -###, -dumpspecs, -pass-exit-codes): what follows its questions in the
 -- journal, and its ending.

@@ -1,13 +1,13 @@
-use Rattle.indexmap.proofs.MapLemmas.{absent_from_lookup, insert_entry-absent, swap_remove_entry-found}
-use Rattle.indexmap.specs.IndexMap.{insert_entry, swap_remove_entry}
+use Rattle.indexmap.proofs.MapLemmas.{swap_remove_entry-found}
+use Rattle.indexmap.specs.IndexMap.{swap_remove_entry}
 use Rattle.std.proofs.Common.{◌≡◌, ◌<◌, ◌+◌, ◌-◌, ◌∙◌, Bool, List, [], ◌∷◌, ◌++◌, None, Some, ap, arith, cond, false, length, length-append}
 use Rattle.std.proofs.Common.{lt-ltb, not, refl, set, slice_index_or, suc, swap_remove, sym, take, true, zero, ℕ}
 use Rattle.std.specs.Cmp.Lexicographic.{pointwise}
 use Rattle.std.specs.Global.{Vec}
 use Rattle.std.specs.List.{AllZip}
-use Rattle.std.specs.Map.{keys_of, lookup, remove_entry, set_key}
+use Rattle.std.specs.Map.{keys_of, lookup, set_key}
 use Rattle.std.specs.List.{position_or_len}
-use Rattle.std.specs.Prelude.{nat_eq, nat_lt, position, unwrap_or, vec_len}
+use Rattle.std.specs.Prelude.{nat_eq, nat_lt, position, unwrap_or}
 
 -- For the map of named texts: it finds a name where the list of the set has it.
 -- Names: `i` is an index. `X` is the type of what a list has. `K` is the type of keys, and `t` a test of them. `es` is entries: keys and

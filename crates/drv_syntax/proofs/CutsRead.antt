@@ -11,7 +11,7 @@ use Rattle.drv_syntax.proofs.Shorter.{Loops, asked_shorter, items_shorter, item_
 use Rattle.drv_syntax.specs.Bytes.{is_mark, is_white, is_word}
 use Rattle.drv_syntax.specs.Contexts.{InArguments, InX, Kind, ListContext, Top, in_arguments, in_braces, in_x}
 use Rattle.drv_syntax.specs.Descent as d
-use Rattle.drv_syntax.specs.Descent.{Ends, Lists, Operand, Read, Run, Stops, Took, by_word, mapped, quoted_at, then_read, with_byte, within}
+use Rattle.drv_syntax.specs.Descent.{Ends, Lists, Operand, Read, Run, Stops, Took, by_word, mapped, quoted_at, then_read, with_byte}
 use Rattle.drv_syntax.specs.Directives.{directive_of}
 use Rattle.drv_syntax.specs.Faults.{is_closed_by_end}
 use Rattle.drv_syntax.specs.Fronts as cuts

@@ -14,8 +14,7 @@ use Rattle.drv_syntax.specs.Code.Tests.{result_after, test_added, test_written, 
 use Rattle.drv_syntax.specs.Code.Writing.{Parts, Reading, at_rest, given, item_on, leafed, open_at, value_given, wrote}
 use Rattle.drv_syntax.specs.Contexts.{ListContext, all_starred, in_braces, in_x, top}
 use Rattle.drv_syntax.specs.Descent as d
-use Rattle.drv_syntax.specs.Descent.{Ends, Last, Lists, More, Read, Stops, Took, Turn, after_turn, levels, mapped, no_lists, then_read}
-use Rattle.drv_syntax.specs.Descent.{within}
+use Rattle.drv_syntax.specs.Descent.{Ends, Last, More, Read, Stops, Took, after_turn, levels, no_lists, then_read}
 use Rattle.drv_syntax.specs.Directives.{braced}
 use Rattle.drv_syntax.specs.Labels.{Label, Nodes, choice_nodes, no_label, no_node, node, nodes_of, part_label, pattern_label, pattern_nodes}
 use Rattle.drv_syntax.specs.Labels.{test_nodes}
@@ -24,7 +23,7 @@ use Rattle.drv_syntax.specs.Rest.{Left, after, begins_with, by_byte, first_of, p
 use Rattle.drv_syntax.specs.Spelling.{span}
 use Rattle.drv_syntax.specs.Stars.{choices_have_star, has_star, tests_have_star}
 use Rattle.drv_syntax.specs.Tree as tree
-use Rattle.drv_syntax.specs.Tree.{Brace, Choices, Function, HasResult, Items, Pattern, Span, Tests, alternative, first_place, last_place}
+use Rattle.drv_syntax.specs.Tree.{Brace, Choices, HasResult, Items, Pattern, Span, Tests, alternative, first_place, last_place}
 use Rattle.drv_syntax.specs.Tree.{no_choice, no_test, test, trimmed}
 use Rattle.drv_syntax.specs.declared.descent.lists.Form as code
 use Rattle.drv_syntax.specs.declared.descent.lists.Form.TheVariants as forms

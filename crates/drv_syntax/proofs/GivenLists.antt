@@ -14,7 +14,7 @@ use Rattle.drv_syntax.specs.Code.Tokens.{plain_tokens, whole_token}
 use Rattle.drv_syntax.specs.Code.Writing.{Parts, Reading, at_rest, given, item_given, item_on, kind_seen, value_given}
 use Rattle.drv_syntax.specs.Contexts.{InArguments, InX, Kind, ListContext, Mixed, Nobody, Owner, Starred, Top, in_braces}
 use Rattle.drv_syntax.specs.Descent as d
-use Rattle.drv_syntax.specs.Descent.{Ends, Last, Lists, More, Read, Stops, Took, Turn, after_turn, mapped, no_lists, then_read, within}
+use Rattle.drv_syntax.specs.Descent.{Ends, Last, Lists, More, Read, Stops, Took, Turn, after_turn, no_lists, then_read, within}
 use Rattle.drv_syntax.specs.Directives.{directive_of, is_allowed}
 use Rattle.drv_syntax.specs.Labels.{word_label}
 use Rattle.drv_syntax.specs.Refusals.{AtBar, AtNext}

@@ -11,7 +11,7 @@ use Rattle.drv_syntax.specs.Directives.{said}
 use Rattle.drv_syntax.specs.Fronts as cuts
 use Rattle.drv_syntax.specs.Fronts.{RunsOut, AreFrontItems, CutsCall, CutsDirective}
 use Rattle.drv_syntax.specs.Refusals as r
-use Rattle.drv_syntax.specs.Refusals.{Empty, IsNoFunction, not_a_front, not_a_name, Reaches, Breaks, Due, ReachesIn, Refuses}
+use Rattle.drv_syntax.specs.Refusals.{Empty, IsNoFunction, not_a_front, not_a_name, Reaches, Breaks, Due, ReachesIn}
 use Rattle.drv_syntax.specs.Rest.{Left, past_white, after, past_byte}
 use Rattle.drv_syntax.specs.Spelling as s
 use Rattle.drv_syntax.specs.Spelling.{AreSpaces, At, IsPattern, IsQuoted, IsRun, AreItems, IsCall, IsDirective}

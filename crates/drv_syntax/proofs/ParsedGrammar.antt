@@ -11,7 +11,7 @@ use Rattle.drv_syntax.proofs.Shorter.{Loops, item_shorter}
 use Rattle.drv_syntax.proofs.WholeRead.{inner, levels_known, spelled_is_read, start, refusal_kinds}
 use Rattle.drv_syntax.specs.Contexts.{Top, in_arguments, in_braces, in_x, top}
 use Rattle.drv_syntax.specs.Descent as d
-use Rattle.drv_syntax.specs.Descent.{Ends, Read, Stops, Took, levels, mapped}
+use Rattle.drv_syntax.specs.Descent.{Ends, Read, Stops, Took, levels}
 use Rattle.drv_syntax.specs.Directives.{directive_of}
 use Rattle.drv_syntax.specs.Faults.{IsCutAt, IsOpenAt, after_item, is_closed_by_end, open_byte, open_directive, open_last, MemoryOrRefused}
 use Rattle.drv_syntax.specs.Faults.{Refused, cut_short, misfit, too_long}

@@ -1,7 +1,7 @@
 use Rattle.drv_system.proofs.AnswerMaps.{pair_elsewhere, pair_here, same_key}
 use Rattle.drv_system.specs.Code.Ordered.{SameAnswers, in_order, in_order_from}
 use Rattle.drv_system.specs.Facts.{answer_to, with_answer, with_pair}
-use Rattle.std.proofs.Common.{◌≡◌, ◌∙◌, ◌++◌, Bool, List, [], ◌∷◌, None, Option, Some, ap, false, refl, sym, true, ℕ}
+use Rattle.std.proofs.Common.{◌≡◌, ◌∙◌, ◌++◌, Bool, List, [], ◌∷◌, None, Some, ap, false, refl, sym, true, ℕ}
 use Rattle.std.proofs.lemmas.Cmp.{nat_list_eq_equiv}
 use Rattle.indexmap.proofs.MapLemmas.{absent_from_lookup, insert_entry-absent}
 use Rattle.indexmap.specs.IndexMap.{insert_entry}

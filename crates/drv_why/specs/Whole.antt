@@ -4,7 +4,7 @@ use Rattle.drv_why.specs.Origins.{Marking, origins_report, origins_value}
 use Rattle.drv_why.specs.declared.report.Report.TheVariants.{Json as InJson, Lines}
 use Rattle.drv_why.specs.declared.report.Report.{Report}
 use Rattle.drv_words.specs.Bytes.{newline}
-use Rattle.json.specs.Json.{Json, Members, member, no_members, object}
+use Rattle.json.specs.Json.{Members, member, no_members, object}
 use Rattle.json.specs.Layout.{pretty}
 use Rattle.json.specs.Tree.{json_tokens}
 use Rattle.std.specs.Prelude.{Bool, List, [], ◌∷◌, ◌++◌, codes, false, if◌then◌else◌, true, ℕ}

@@ -1,7 +1,7 @@
 use Rattle.drv_words.specs.Printed.{Escapes, Shows, ShowsEnd, ShowsWord, ShowsWords, bare, in_quotes, into_next, is_bare, is_plain}
 use Rattle.drv_words.specs.Printed.{is_special, line, no_byte, no_line, no_pipe, no_word, one_more, other, special}
 use Rattle.drv_words.specs.Code.LineReader as r
-use Rattle.drv_words.specs.Code.LineReader.{escape, inside, lines_read, longer, read, step, with_word}
+use Rattle.drv_words.specs.Code.LineReader.{inside, lines_read, longer, read, step, with_word}
 use Rattle.drv_words.specs.declared.plan.PlanLine.{PlanLine}
 use Rattle.drv_words.specs.declared.reading_back.Standing.{Standing}
 use Rattle.drv_words.specs.declared.reading_back.Standing.TheVariants.{AtWord, Bare, Between, Escaped, Quoted, Wrong}

@@ -6,7 +6,7 @@ use Rattle.drv_specs.specs.Builtin.{builtin_specs}
 use Rattle.drv_system.specs.Facts.{Facts}
 use Rattle.drv_system.specs.Known.{Is}
 use Rattle.drv_system.specs.Script.{Script}
-use Rattle.drv_system.specs.declared.event.Event.TheVariants.{Kind, Put, Read, Run, Say, Variable}
+use Rattle.drv_system.specs.declared.event.Event.TheVariants.{Kind, Read, Variable}
 use Rattle.drv_system.specs.declared.event.Event.{Event}
 use Rattle.drv_system.specs.declared.event.PathKind.TheVariants as kind
 use Rattle.drv_system.specs.declared.event.ReadAnswer.TheVariants as read

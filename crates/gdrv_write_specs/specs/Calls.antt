@@ -7,7 +7,6 @@ use Rattle.gdrv_write_specs.specs.declared.calling.Fate.TheVariants.{Added, Prin
 use Rattle.gdrv_write_specs.specs.declared.calling.Fate.{Fate}
 use Rattle.gdrv_write_specs.specs.declared.calling.Manner.TheVariants.{Compared, Forced}
 use Rattle.gdrv_write_specs.specs.declared.calling.Manner.{Manner}
-use Rattle.gdrv_write_specs.specs.declared.calling.Order.{Order}
 use Rattle.std.specs.Cmp.Lexicographic.{pointwise}
 use Rattle.std.specs.List.{ends_with, list_all, starts_with}
 use Rattle.std.specs.Prelude.{◌&&◌, ◌++◌, Bool, Err, List, [], ◌∷◌, None, Ok, Option, Result, Some, codes, if◌then◌else◌, length, nat_eq}

@@ -13,7 +13,7 @@ use Rattle.drv_syntax.specs.Labels.{Label, alternative_label, both, no_label, no
 use Rattle.drv_syntax.specs.Spelling.{span}
 use Rattle.drv_syntax.specs.Stars.{tests_have_star}
 use Rattle.drv_syntax.specs.Tree as tree
-use Rattle.drv_syntax.specs.Tree.{Brace, Choices, Item, Items, Leaf, Span, BuiltinText, choice, more, no_choice, none}
+use Rattle.drv_syntax.specs.Tree.{Brace, Choices, Item, Items, Span, choice, more, no_choice, none}
 use Rattle.drv_syntax.specs.Code.Tests.{added, patterns_written}
 use Rattle.drv_syntax.specs.declared.descent.lists.Inside as inside_code
 use Rattle.drv_syntax.specs.declared.descent.lists.Inside.TheVariants as insides

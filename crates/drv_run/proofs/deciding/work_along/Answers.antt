@@ -3,7 +3,6 @@ use Rattle.drv_run.proofs.Files.{refusal_given}
 use Rattle.drv_run.proofs.Steps.{work_dumped, work_planned, work_refused}
 use Rattle.drv_run.proofs.deciding.work_along.Goals as goal
 use Rattle.drv_run.specs.Drives.{work_of}
-use Rattle.std.proofs.Common.{refl}
 
 -- work_along (src/deciding.rt). What a line with these specs asks for, along the prefixes of its `-B`: their dump, or its plan with what is
 -- done with it (GCC manual, "Overall Options", `-dumpspecs` and `-###`).

@@ -1,7 +1,7 @@
 use Rattle.drv_why.specs.Parts.{without}
 use Rattle.gdrv_specs.proofs.Reasons.{answered}
 use Rattle.gdrv_specs.proofs.explaining.answer.Goals as goal
-use Rattle.std.proofs.Common.{ap, ◌∙◌}
+use Rattle.std.proofs.Common.{◌∙◌}
 
 -- answer (src/explaining.rt). What is said of a part.
 

@@ -1,4 +1,4 @@
-use Rattle.drv_system.proofs.AskedCalls.{asked_further, extends_before}
+use Rattle.drv_system.proofs.AskedCalls.{extends_before}
 use Rattle.gdrv_specs.proofs.word_origins.said_of_call.Goals as goal
 
 -- said_of_call (src/word_origins.rt). The text about a call's line, or the call's ending in its place.
