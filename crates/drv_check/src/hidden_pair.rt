@@ -1,7 +1,6 @@
 //! Which pairs of spec files later ones hide.
 
 ghost use Rattle.drv_check.specs.HiddenPairs.{covers_key, ends_key, hides_key, is_hidden, key_in};
-ghost use Rattle.drv_specs.specs.Sets.{begins_with_at};
 ghost use Rattle.std.specs.List.{list_any};
 ghost use Rattle.std.specs.Option.{option_map};
 ghost use Rattle.std.specs.Prelude.{◌≡◌};
@@ -9,6 +8,7 @@ ghost use Rattle.std.specs.Prelude.{◌≡◌};
 use crate::bytes::blanks_before;
 use crate::pieces::Piece;
 use crate::pointing::colon_in;
+use drv_specs::begins_with_at;
 
 /// The key of a pair that a piece puts.
 pub(crate) fn key_in(text: &[u8]) -> Option<&[u8]>
@@ -20,13 +20,6 @@ pub(crate) fn key_in(text: &[u8]) -> Option<&[u8]>
         [] | [b'*' | b'%', ..] => None,
         _ => Some(&line[..at]),
     }
-}
-
-/// Whether a key is that of a language.
-fn begins_with_at(key: &[u8]) -> bool
-    ensures { result ≡ begins_with_at key.now }
-{
-    matches!(key, [b'@', ..])
 }
 
 /// Whether a suffix fits each name that another one fits.

@@ -6,7 +6,7 @@ ghost use Rattle.drv_plan.specs.Languages.{is_standard_input, is_suffix_of, chos
 ghost use Rattle.drv_plan.specs.Languages.{last_text, pair_meaning};
 ghost use Rattle.drv_plan.specs.Code.Looking.{fits, shown};
 ghost use Rattle.drv_plan.specs.declared.fault.PlanFault.TheVariants as fault;
-ghost use Rattle.drv_specs.specs.Sets.{begins_with_at, is_no_text};
+ghost use Rattle.drv_specs.specs.Sets.{is_no_text};
 ghost use Rattle.drv_words.specs.Gives.{Gives};
 ghost use Rattle.std.specs.List.{ends_with};
 ghost use Rattle.std.specs.Option.{option_map};
@@ -15,7 +15,7 @@ ghost use Rattle.std.specs.Prelude.{option_and_then, slice_get};
 
 use crate::PlanFault;
 use drv_args::Input;
-use drv_specs::SpecSet;
+use drv_specs::{SpecSet, begins_with_at};
 use drv_syntax::SpecTree;
 use drv_words::Word;
 use std::alloc::Global;
@@ -49,13 +49,6 @@ enum Wanted<'a> {
     Language(&'a [u8]),
     /// The suffix of this file.
     Suffix(&'a [u8]),
-}
-
-/// Whether a key belongs to a language, or to a suffix that begins with `@`.
-fn begins_with_at(key: &[u8]) -> bool
-    ensures { result ≡ begins_with_at key.now }
-{
-    matches!(key, [b'@', ..])
 }
 
 /// Whether a key is that of a language.

@@ -61,8 +61,8 @@ fn is_key_byte(byte: u8) -> bool
     33 <= byte && byte <= 126 && byte != b':'
 }
 
-/// Whether a text begins with `@`.
-fn begins_with_at(text: &[u8]) -> bool
+/// Whether a key or text begins with `@`: it is that of a language, or an alias.
+pub fn begins_with_at(text: &[u8]) -> bool
     ensures { result ≡ begins_with_at text.now }
 {
     matches!(text, [b'@', ..])

@@ -20,6 +20,7 @@ mod settling;
 mod text;
 
 pub use builtin_specs::{builtin, suffixes};
+pub use changing::begins_with_at;
 pub use fault::SpecsFault;
 pub use laws::{directives_are_read, dump_reloads, loading_keeps};
 pub use set::SpecSet;
