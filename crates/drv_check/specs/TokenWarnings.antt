@@ -5,6 +5,7 @@ use Rattle.drv_check.specs.OwnTexts.{own_start, own_text, own_tree}
 use Rattle.drv_check.specs.Points.{name_in}
 use Rattle.drv_check.specs.declared.findings.Warning.TheVariants.{QuotedWord, UnknownText}
 use Rattle.drv_check.specs.declared.findings.Warning.{Warning}
+use Rattle.drv_check.specs.declared.unused_text.Names.{Names}
 use Rattle.drv_check.specs.declared.warning.Mark.{Mark}
 use Rattle.drv_specs.specs.Blanks.{is_white}
 use Rattle.drv_specs.specs.Directives.{is_colon}
@@ -47,27 +48,27 @@ quote_warning before word = if is_quote word && ends_before before then Some Quo
 -- the warning on a token, by its kind
 
 -- the warning on a test whose pattern no switch has: only a test of a switch has such a pattern
-abbrev pub test_warning : TestKind → Bool → List ℕ → Option Warning
-test_warning asking.Switch starred word = switch_warning starred word
-test_warning asking.Suffix starred word = None
-test_warning asking.Language starred word = None
-test_warning asking.Result starred word = None
+abbrev pub test_warning : Names → TestKind → Bool → List ℕ → Option Warning
+test_warning whose asking.Switch starred word = switch_warning whose starred word
+test_warning whose asking.Suffix starred word = None
+test_warning whose asking.Language starred word = None
+test_warning whose asking.Result starred word = None
 
 -- the warning on %(NAME) of a text that the set hasn't: it gives no words
 abbrev pub name_warning : Set → List ℕ → Option Warning
 name_warning set name = if is_some (text_of set name) then None else Some UnknownText
 
--- the warning on a token of a kind, with its label and the byte before it
-abbrev pub warning_of : Set → Option ℕ → TokenKind → Label → Option Warning
-warning_of set before kinds.Plain label = quote_warning before label.word
-warning_of set before kinds.Test label = test_warning label.asks label.starred label.word
-warning_of set before kinds.Pattern label = switch_warning label.starred label.word
-warning_of set before kinds.NamedText label = name_warning set label.word
-warning_of set before kind label = None
+-- the warning on a token of a kind, with its label and the byte before it, by for whom the text is
+abbrev pub warning_of : Names → Set → Option ℕ → TokenKind → Label → Option Warning
+warning_of whose set before kinds.Plain label = quote_warning before label.word
+warning_of whose set before kinds.Test label = test_warning whose label.asks label.starred label.word
+warning_of whose set before kinds.Pattern label = switch_warning whose label.starred label.word
+warning_of whose set before kinds.NamedText label = name_warning set label.word
+warning_of whose set before kind label = None
 
 -- of a token of a text, with its label
-abbrev pub token_warning : Set → List ℕ → Token → Label → Option Warning
-token_warning set text token label = warning_of set (byte_before text token.start) token.kind label
+abbrev pub token_warning : Names → Set → List ℕ → Token → Label → Option Warning
+token_warning whose set text token label = warning_of whose set (byte_before text token.start) token.kind label
 
 -- a warning at a byte, as a list of one; or none
 abbrev pub mark_at : ℕ → Option Warning → List Mark
@@ -75,18 +76,19 @@ mark_at at None = []
 mark_at at (Some warning) = record { at = at; warning = warning } ∷ []
 
 -- of tokens, the first of which has this place in the list of all
-abbrev pub tokens_marks : Set → List ℕ → Items → ℕ → ℕ → List Token → List Mark
-tokens_marks set text items start n [] = []
-tokens_marks set text items start n (token ∷ tokens) =
-    mark_at (start + token.start) (token_warning set text token (label_at items n)) ++ tokens_marks set text items start (n + 1) tokens
+abbrev pub tokens_marks : Names → Set → List ℕ → Items → ℕ → ℕ → List Token → List Mark
+tokens_marks whose set text items start n [] = []
+tokens_marks whose set text items start n (token ∷ tokens) =
+    mark_at (start + token.start) (token_warning whose set text token (label_at items n))
+    ++ tokens_marks whose set text items start (n + 1) tokens
 
 -- of a tree whose text has this name, if it has one, and begins at this byte of the piece: of its tokens, of marks that no word has, and of
 -- its branches
-abbrev pub tree_marks : Set → Option (List ℕ) → List ℕ → Items → ℕ → List Mark
-tree_marks set name text items start =
-    tokens_marks set text items start 0 (tokens_of items) ++ lost_marks (lone_size name text) start None (tokens_of items)
+abbrev pub tree_marks : Names → Set → Option (List ℕ) → List ℕ → Items → ℕ → List Mark
+tree_marks whose set name text items start =
+    tokens_marks whose set text items start 0 (tokens_of items) ++ lost_marks (lone_size name text) start None (tokens_of items)
     ++ unreached start items
 
 -- of the text that a piece gives, each at a byte of the piece
-abbrev pub own_marks : Set → List ℕ → List Mark
-own_marks set text = tree_marks set (name_in text) (own_text text) (own_tree text) (own_start text)
+abbrev pub own_marks : Names → Set → List ℕ → List Mark
+own_marks whose set text = tree_marks whose set (name_in text) (own_text text) (own_tree text) (own_start text)

@@ -23,9 +23,9 @@ use Rattle.std.specs.Prelude.{◌+◌, List, [], ◌∷◌, ◌++◌, drop, if�
 abbrev pub pair_marks : List Piece → List ℕ → List Mark
 pair_marks later text = if is_hidden (key_in text) later then record { at = front_length is_blank text; warning = HiddenPair } ∷ [] else []
 
--- of a piece before these in its file, by whose names count, over the set that the files make and the names that their texts work
+-- of a piece before these in its file, by for whom the files are, over the set that the files make and the names that their texts work
 abbrev pub whole_marks : Names → Set → List (List ℕ) → List Piece → List ℕ → List Mark
-whole_marks whose set worked later text = pair_marks later text ++ unused_marks whose set worked text ++ own_marks set text
+whole_marks whose set worked later text = pair_marks later text ++ unused_marks whose set worked text ++ own_marks whose set text
 
 -- the findings on pieces of a file; of each the later pieces are known
 abbrev pub pieces_judged : Names → Set → List (List ℕ) → OpenFile → List Piece → List Finding

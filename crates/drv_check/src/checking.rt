@@ -138,7 +138,7 @@ fn check_base<S: System>(
 /// Files to be checked, and for whom.
 #[derive(Clone, Copy)]
 pub struct FileCheck<'a> {
-    /// Whose texts count as run, though no text names them.
+    /// For whom the files are.
     pub whose: Names,
     /// The paths of the files that are loaded first.
     pub over: &'a [Word],

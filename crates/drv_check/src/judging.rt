@@ -11,20 +11,10 @@ use crate::opening::{FilePiece, OpenFile, open_file};
 use crate::pieces::Piece;
 use crate::stepping::push_warnings;
 use crate::token_warning::push_own;
-use crate::unused_text::{Names, names_worked, push_unused};
+use crate::unused_text::{Names, Whole, names_worked, push_unused};
 use crate::warning::Mark;
-use drv_specs::SpecSet;
-use drv_words::{Listing, Word};
+use drv_words::Listing;
 use std::alloc::{AllocError, Global};
-
-/// The whole of the files: the set that they make, and the names of texts that they run, beside those
-/// that count as run.
-#[derive(Clone, Copy)]
-struct Whole<'a> {
-    whose: Names,
-    set: &'a SpecSet,
-    worked: &'a [Word],
-}
 
 /// Adds the warning of a pair that a later one hides.
 fn push_pair(marks: &mut Vec<Mark>, later: &[Piece], text: &[u8]) -> Result<(), AllocError>
@@ -52,8 +42,8 @@ fn whole_marks(
 {
     let mut marks = Vec::new(alloc);
     push_pair(&mut marks, later, text)?;
-    push_unused(&mut marks, whole.whose, whole.set, whole.worked, text)?;
-    push_own(alloc, &mut marks, whole.set, text)?;
+    push_unused(&mut marks, whole, text)?;
+    push_own(alloc, &mut marks, whole, text)?;
     Ok(marks)
 }
 

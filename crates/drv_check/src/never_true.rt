@@ -1,24 +1,28 @@
 //! Patterns that no switch has.
 
-ghost use Rattle.drv_check.specs.NeverTrue.{begins_pieces, is_piece, is_setting, joined_warning};
+ghost use Rattle.drv_check.specs.NeverTrue.{begins_jobs, begins_pieces, is_piece, is_setting, joined_warning};
 ghost use Rattle.drv_check.specs.NeverTrue.{letter_warning, option_warning, switch_warning};
 ghost use Rattle.drv_check.specs.NeverTrue.{takes_argument};
 ghost use Rattle.std.specs.Prelude.{◌≡◌};
 
 use crate::findings::Warning;
+use crate::unused_text::Names;
 
-/// Whether what follows this byte in an option is its argument.
-fn takes_argument(byte: u8) -> bool
-    ensures { result ≡ takes_argument byte }
+/// Whether what follows this byte in an option is its argument, which no test names.
+fn takes_argument(whose: Names, byte: u8) -> bool
+    ensures { result ≡ takes_argument whose byte }
 {
-    byte == b'D' || byte == b'U' || byte == b'I'
+    match whose {
+        Names::Driver => byte == b'D' || byte == b'U' || byte == b'I',
+        Names::Gcc => byte == b'I',
+    }
 }
 
 /// The warning of a pattern that begins with this letter and goes on.
-fn joined_warning(letter: u8) -> Option<Warning>
-    ensures { result ≡ joined_warning letter }
+fn joined_warning(whose: Names, letter: u8) -> Option<Warning>
+    ensures { result ≡ joined_warning whose letter }
 {
-    if takes_argument(letter) {
+    if takes_argument(whose, letter) {
         Some(Warning::NeverTrue)
     } else if letter == b'o' {
         Some(Warning::NeverOutput)
@@ -28,13 +32,13 @@ fn joined_warning(letter: u8) -> Option<Warning>
 }
 
 /// The warning of a pattern by its first letter.
-fn letter_warning(word: &[u8]) -> Option<Warning>
-    ensures { result ≡ letter_warning word.now }
+fn letter_warning(whose: Names, word: &[u8]) -> Option<Warning>
+    ensures { result ≡ letter_warning whose word.now }
 {
     match word {
         [b'l', ..] => Some(Warning::NeverLibrary),
         [b'x', ..] => Some(Warning::NeverLanguage),
-        [letter, _, ..] => joined_warning(*letter),
+        [letter, _, ..] => joined_warning(whose, *letter),
         _ => None,
     }
 }
@@ -55,6 +59,16 @@ fn is_piece(word: &[u8]) -> bool
         || word == b"Xpreprocessor".as_slice()
 }
 
+/// Whether a pattern begins as a setting of the driver that is a switch for gcc.
+fn begins_jobs(whose: Names, word: &[u8]) -> bool
+    ensures { result ≡ begins_jobs whose word.now }
+{
+    match whose {
+        Names::Driver => word.starts_with(b"-jobs"),
+        Names::Gcc => false,
+    }
+}
+
 /// Whether an option is a setting of the call alone.
 fn is_setting(word: &[u8]) -> bool
     ensures { result ≡ is_setting word.now }
@@ -63,12 +77,12 @@ fn is_setting(word: &[u8]) -> bool
 }
 
 /// The warning of a pattern by the option that it is, or that it begins as.
-fn option_warning(starred: bool, word: &[u8]) -> Option<Warning>
-    ensures { result ≡ option_warning starred word.now }
+fn option_warning(whose: Names, starred: bool, word: &[u8]) -> Option<Warning>
+    ensures { result ≡ option_warning whose starred word.now }
 {
     if begins_pieces(word) || !starred && is_piece(word) {
         Some(Warning::NeverPiece)
-    } else if word.starts_with(b"-jobs") || !starred && is_setting(word) {
+    } else if begins_jobs(whose, word) || !starred && is_setting(word) {
         Some(Warning::NeverSetting)
     } else if word.starts_with(b"-specs=") {
         Some(Warning::NeverSpecs)
@@ -78,8 +92,8 @@ fn option_warning(starred: bool, word: &[u8]) -> Option<Warning>
 }
 
 /// The warning of a pattern for switches, if no switch has it. A star may follow its word.
-pub(crate) fn switch_warning(starred: bool, word: &[u8]) -> Option<Warning>
-    ensures { result ≡ switch_warning starred word.now }
+pub(crate) fn switch_warning(whose: Names, starred: bool, word: &[u8]) -> Option<Warning>
+    ensures { result ≡ switch_warning whose starred word.now }
 {
-    letter_warning(word).or(option_warning(starred, word))
+    letter_warning(whose, word).or(option_warning(whose, starred, word))
 }

@@ -20,6 +20,7 @@ use crate::lost_marks::{lone_size, push_all_lost};
 use crate::never_true::switch_warning;
 use crate::own_text::{own_start, own_tree};
 use crate::pointing::name_in;
+use crate::unused_text::{Names, Whole};
 use crate::warning::Mark;
 use drv_specs::SpecSet;
 use drv_syntax::{SpecTree, TestKind, Token, TokenKind};
@@ -72,11 +73,11 @@ fn quote_warning(before: Option<u8>, word: &[u8]) -> Option<Warning>
 }
 
 /// The warning of a test.
-fn test_warning(asks: TestKind, starred: bool, word: &[u8]) -> Option<Warning>
-    ensures { result ≡ test_warning asks starred word.now }
+fn test_warning(whose: Names, asks: TestKind, starred: bool, word: &[u8]) -> Option<Warning>
+    ensures { result ≡ test_warning whose asks starred word.now }
 {
     match asks {
-        TestKind::Switch => switch_warning(starred, word),
+        TestKind::Switch => switch_warning(whose, starred, word),
         TestKind::Suffix | TestKind::Language | TestKind::Result => None,
     }
 }
@@ -92,10 +93,11 @@ fn name_warning(set: &SpecSet, name: &[u8]) -> Option<Warning>
 }
 
 /// The warning of the token at this place of a tree.
-fn token_warning(set: &SpecSet, tree: &SpecTree, place: usize, token: Token) -> Option<Warning>
+fn token_warning(whole: &Whole<'_>, tree: &SpecTree, place: usize, token: Token) -> Option<Warning>
     requires { place < length (tokens_of (tree_of tree.now)) }
     ensures { result
-        ≡ token_warning set.now tree.now token (label_at (tree_of tree.now) place) }
+        ≡ token_warning whole.now.whose whole.now.set.now tree.now token
+        (label_at (tree_of tree.now) place) }
 {
     match token.kind {
         TokenKind::Plain => {
@@ -103,10 +105,13 @@ fn token_warning(set: &SpecSet, tree: &SpecTree, place: usize, token: Token) -> 
             quote_warning(before, tree.word(place))
         }
         TokenKind::Test => {
-            test_warning(tree.asks(place), tree.is_starred(place), tree.word(place))
+            let word = tree.word(place);
+            test_warning(whole.whose, tree.asks(place), tree.is_starred(place), word)
         }
-        TokenKind::Pattern => switch_warning(tree.is_starred(place), tree.word(place)),
-        TokenKind::NamedText => name_warning(set, tree.word(place)),
+        TokenKind::Pattern => {
+            switch_warning(whole.whose, tree.is_starred(place), tree.word(place))
+        }
+        TokenKind::NamedText => name_warning(whole.set, tree.word(place)),
         _ => None,
     }
 }
@@ -126,20 +131,20 @@ fn push_mark(marks: &mut Vec<Mark>, at: usize, warning: Option<Warning>) -> Resu
 #[tactic(auto, using(crate::proofs::TokenMarks::marks_next))]
 fn push_tree(
     marks: &mut Vec<Mark>,
-    set: &SpecSet,
+    whole: &Whole<'_>,
     tree: &SpecTree,
     start: usize,
 ) -> Result<(), AllocError>
     requires { start < 2 ^ 63 }
     ensures { OnOk result
         (marks.new.items ≡ marks.old.items
-        ++ tokens_marks set.now tree.now (tree_of tree.now) start 0 (tokens_of (tree_of tree.now))) }
+        ++ tokens_marks whole.now.whose whole.now.set.now tree.now (tree_of tree.now) start 0 (tokens_of (tree_of tree.now))) }
 {
     let tokens = tree.tokens();
     let mut place = 0;
     while place < tokens.len() {
         let token = tokens[place];
-        let warning = token_warning(set, tree, place, token);
+        let warning = token_warning(whole, tree, place, token);
         push_mark(marks, start + token.start as usize, warning)?;
         place += 1;
     }
@@ -150,17 +155,17 @@ fn push_tree(
 fn push_whole(
     alloc: Global,
     marks: &mut Vec<Mark>,
-    set: &SpecSet,
+    whole: &Whole<'_>,
     tree: &SpecTree,
     text: &[u8],
 ) -> Result<(), AllocError>
     ensures { OnOk result
         (marks.new.items ≡ marks.old.items
-        ++ tree_marks set.now (name_in text.now) tree.now (tree_of tree.now) (own_start text.now)) }
+        ++ tree_marks whole.now.whose whole.now.set.now (name_in text.now) tree.now (tree_of tree.now) (own_start text.now)) }
 {
     let start = own_start(text);
     prove!(start < 1 << 63);
-    push_tree(marks, set, tree, start)?;
+    push_tree(marks, whole, tree, start)?;
     push_all_lost(marks, tree, lone_size(name_in(text), tree.text()), start)?;
     push_choices(alloc, marks, tree, start)
 }
@@ -170,13 +175,15 @@ fn push_whole(
 pub(crate) fn push_own(
     alloc: Global,
     marks: &mut Vec<Mark>,
-    set: &SpecSet,
+    whole: &Whole<'_>,
     text: &[u8],
 ) -> Result<(), AllocError>
-    ensures { OnOk result (marks.new.items ≡ marks.old.items ++ own_marks set.now text.now) }
+    ensures { OnOk result
+        (marks.new.items ≡ marks.old.items
+        ++ own_marks whole.now.whose whole.now.set.now text.now) }
 {
     match own_tree(alloc, text)? {
-        Some(tree) => push_whole(alloc, marks, set, &tree, text),
+        Some(tree) => push_whole(alloc, marks, whole, &tree, text),
         None => Ok(()),
     }
 }

@@ -37,13 +37,23 @@ const GCC_NAMES: &[u8] =
       post_link link_libgcc md_exec_prefix md_startfile_prefix md_startfile_prefix_1 \
       startfile_prefix_spec sysroot_spec sysroot_suffix_spec sysroot_hdrs_suffix_spec self_spec";
 
-/// Whose texts count as run, though no text names them.
+/// For whom spec files are: whose texts count as run, though no text names them, and what is a
+/// switch.
 #[derive(Clone, Copy, Debug)]
 pub enum Names {
-    /// Those of the driver: the built-in ones, and those that its programs run.
+    /// The driver: the built-in texts count, and those that its programs run.
     Driver,
-    /// Those of gcc too.
+    /// gcc too: its own texts count as well, and what it takes for a switch is one.
     Gcc,
+}
+
+/// The whole of the files: for whom they are, the set that they make, and the names of texts that
+/// they run, beside those that count as run.
+#[derive(Clone, Copy)]
+pub(crate) struct Whole<'a> {
+    pub(crate) whose: Names,
+    pub(crate) set: &'a SpecSet,
+    pub(crate) worked: &'a [Word],
 }
 
 /// Whether a text has a name between spaces.
@@ -151,13 +161,16 @@ pub(crate) fn names_worked(alloc: Global, sources: &[Source]) -> Result<Vec<Word
 }
 
 /// Whether the set has a text of this name, which is none of these names and no known one.
-fn is_unused(whose: Names, set: &SpecSet, worked: &[Word], name: Option<&[u8]>) -> bool
+fn is_unused(whole: &Whole<'_>, name: Option<&[u8]>) -> bool
     ensures { result
-        ≡ is_unused whose set.now worked.now (option_map (λ name. name.now) name.entry) }
+        ≡ is_unused whole.now.whose whole.now.set.now whole.now.worked.now
+        (option_map (λ name. name.now) name.entry) }
 {
     match name {
         Some(name) => {
-            set.text(name).is_some() && !is_known(whose, name) && !is_among(worked, name)
+            whole.set.text(name).is_some()
+                && !is_known(whole.whose, name)
+                && !is_among(whole.worked, name)
         }
         None => false,
     }
@@ -173,15 +186,14 @@ fn puts_text(text: &[u8]) -> bool
 /// Adds the warning of a piece whose text no other one works.
 pub(crate) fn push_unused(
     marks: &mut Vec<Mark>,
-    whose: Names,
-    set: &SpecSet,
-    worked: &[Word],
+    whole: &Whole<'_>,
     text: &[u8],
 ) -> Result<(), AllocError>
     ensures { OnOk result
-        (marks.new.items ≡ marks.old.items ++ unused_marks whose set.now worked.now text.now) }
+        (marks.new.items ≡ marks.old.items
+        ++ unused_marks whole.now.whose whole.now.set.now whole.now.worked.now text.now) }
 {
-    if puts_text(text) && is_unused(whose, set, worked, name_in(text)) {
+    if puts_text(text) && is_unused(whole, name_in(text)) {
         marks.push(Mark {
             at: blanks_before(text),
             warning: Warning::UnusedText,

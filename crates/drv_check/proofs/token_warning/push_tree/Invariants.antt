@@ -8,8 +8,8 @@ use Rattle.std.proofs.Common.{◌≡◌, ◌-◌, ◌++◌, drop, length}
 
 abbrev pub invariant-loop-place : goal.invariant-loop-place
 invariant-loop-place l =
-    l.marks.items ++ tokens_marks l.set l.tree (tree_of l.tree) l.start l.place (drop l.place (tokens_of (tree_of l.tree)))
-    ≡ l.fn.marks.items ++ tokens_marks l.set l.tree (tree_of l.tree) l.start 0 (tokens_of (tree_of l.tree))
+    l.marks.items ++ tokens_marks l.whole.whose l.whole.set.now l.tree (tree_of l.tree) l.start l.place (drop l.place (tokens_of (tree_of l.tree)))
+    ≡ l.fn.marks.items ++ tokens_marks l.whole.whose l.whole.set.now l.tree (tree_of l.tree) l.start 0 (tokens_of (tree_of l.tree))
 
 abbrev pub decreases-loop-place : goal.decreases-loop-place
 decreases-loop-place l = length (tokens_of (tree_of l.tree)) - l.place
