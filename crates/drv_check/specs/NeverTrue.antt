@@ -49,14 +49,19 @@ begins_jobs Gcc word = false
 
 -- whether a pattern is an option that is a setting of the call alone
 abbrev pub is_setting : List ℕ → Bool
-is_setting word = pointwise nat_eq word (codes "pass-exit-codes") || pointwise nat_eq word (codes "dumpspecs")
+is_setting word =
+    pointwise nat_eq word (codes "pass-exit-codes") || pointwise nat_eq word (codes "dumpspecs") || pointwise nat_eq word (codes "###")
+
+-- whether a pattern is -specs= without a file: the switch has the file's name behind it, which is never empty
+abbrev pub lacks_file : List ℕ → Bool
+lacks_file word = pointwise nat_eq word (codes "specs=")
 
 -- the warning on a pattern by the option that it is, or that it begins as: -Xlinkers is a switch, so a star after Xlinker hits it
 abbrev pub option_warning : Names → Bool → List ℕ → Option Warning
 option_warning whose starred word =
     if begins_pieces word || not starred && is_piece word then Some NeverPiece
     else if begins_jobs whose word || not starred && is_setting word then Some NeverSetting
-    else if starts_with nat_eq word (codes "-specs=") then Some NeverSpecs
+    else if starts_with nat_eq word (codes "-specs=") || not starred && lacks_file word then Some NeverSpecs
     else None
 
 -- the warning on a pattern that no switch has; `starred` says whether a star follows the word

@@ -1,7 +1,7 @@
 //! Patterns that no switch has.
 
 ghost use Rattle.drv_check.specs.NeverTrue.{begins_jobs, begins_pieces, is_piece, is_setting, joined_warning};
-ghost use Rattle.drv_check.specs.NeverTrue.{letter_warning, option_warning, switch_warning};
+ghost use Rattle.drv_check.specs.NeverTrue.{lacks_file, letter_warning, option_warning, switch_warning};
 ghost use Rattle.drv_check.specs.NeverTrue.{takes_argument};
 ghost use Rattle.std.specs.Prelude.{◌≡◌};
 
@@ -73,7 +73,16 @@ fn begins_jobs(whose: Names, word: &[u8]) -> bool
 fn is_setting(word: &[u8]) -> bool
     ensures { result ≡ is_setting word.now }
 {
-    word == b"pass-exit-codes".as_slice() || word == b"dumpspecs".as_slice()
+    word == b"pass-exit-codes".as_slice()
+        || word == b"dumpspecs".as_slice()
+        || word == b"###".as_slice()
+}
+
+/// Whether a pattern is the option of a spec file without the file.
+fn lacks_file(word: &[u8]) -> bool
+    ensures { result ≡ lacks_file word.now }
+{
+    word == b"specs=".as_slice()
 }
 
 /// The warning of a pattern by the option that it is, or that it begins as.
@@ -84,7 +93,7 @@ fn option_warning(whose: Names, starred: bool, word: &[u8]) -> Option<Warning>
         Some(Warning::NeverPiece)
     } else if begins_jobs(whose, word) || !starred && is_setting(word) {
         Some(Warning::NeverSetting)
-    } else if word.starts_with(b"-specs=") {
+    } else if word.starts_with(b"-specs=") || !starred && lacks_file(word) {
         Some(Warning::NeverSpecs)
     } else {
         None
