@@ -3,6 +3,7 @@ use Rattle.drv_check.specs.declared.findings.Warning.TheVariants.{NeverSpecs, Ne
 use Rattle.drv_check.specs.declared.findings.Warning.{Warning}
 use Rattle.drv_check.specs.declared.unused_text.Names.TheVariants.{Driver, Gcc}
 use Rattle.drv_check.specs.declared.unused_text.Names.{Names}
+use Rattle.drv_match.specs.Pattern.{Pattern}
 use Rattle.drv_specs.specs.Blanks.{has_byte}
 use Rattle.std.specs.Cmp.Lexicographic.{pointwise}
 use Rattle.std.specs.List.{starts_with}
@@ -57,13 +58,13 @@ abbrev pub lacks_file : List ℕ → Bool
 lacks_file word = pointwise nat_eq word (codes "specs=")
 
 -- the warning on a pattern by the option that it is, or that it begins as: -Xlinkers is a switch, so a star after Xlinker hits it
-abbrev pub option_warning : Names → Bool → List ℕ → Option Warning
-option_warning whose starred word =
-    if begins_pieces word || not starred && is_piece word then Some NeverPiece
-    else if begins_jobs whose word || not starred && is_setting word then Some NeverSetting
-    else if starts_with nat_eq word (codes "-specs=") || not starred && lacks_file word then Some NeverSpecs
+abbrev pub option_warning : Names → Pattern → Option Warning
+option_warning whose pattern =
+    if begins_pieces pattern.name || not pattern.star && is_piece pattern.name then Some NeverPiece
+    else if begins_jobs whose pattern.name || not pattern.star && is_setting pattern.name then Some NeverSetting
+    else if starts_with nat_eq pattern.name (codes "-specs=") || not pattern.star && lacks_file pattern.name then Some NeverSpecs
     else None
 
--- the warning on a pattern that no switch has; `starred` says whether a star follows the word
-abbrev pub switch_warning : Names → Bool → List ℕ → Option Warning
-switch_warning whose starred word = option_or (letter_warning whose word) (option_warning whose starred word)
+-- the warning on a pattern that no switch has
+abbrev pub switch_warning : Names → Pattern → Option Warning
+switch_warning whose pattern = option_or (letter_warning whose pattern.name) (option_warning whose pattern)

@@ -1,4 +1,5 @@
 use Rattle.drv_check.specs.Branches.{unreached}
+use Rattle.drv_check.specs.Coverage.{pattern_of}
 use Rattle.drv_check.specs.LostMarks.{lone_size, lost_marks}
 use Rattle.drv_check.specs.NeverTrue.{switch_warning}
 use Rattle.drv_check.specs.OwnTexts.{own_start, own_text, own_tree}
@@ -7,6 +8,7 @@ use Rattle.drv_check.specs.declared.findings.Warning.TheVariants.{QuotedWord, Un
 use Rattle.drv_check.specs.declared.findings.Warning.{Warning}
 use Rattle.drv_check.specs.declared.unused_text.Names.{Names}
 use Rattle.drv_check.specs.declared.warning.Mark.{Mark}
+use Rattle.drv_match.specs.Pattern.{Pattern}
 use Rattle.drv_specs.specs.Blanks.{is_white}
 use Rattle.drv_specs.specs.Directives.{is_colon}
 use Rattle.drv_specs.specs.Sets.{Set, text_of}
@@ -48,11 +50,11 @@ quote_warning before word = if is_quote word && ends_before before then Some Quo
 -- the warning on a token, by its kind
 
 -- the warning on a test whose pattern no switch has: only a test of a switch has such a pattern
-abbrev pub test_warning : Names → TestKind → Bool → List ℕ → Option Warning
-test_warning whose asking.Switch starred word = switch_warning whose starred word
-test_warning whose asking.Suffix starred word = None
-test_warning whose asking.Language starred word = None
-test_warning whose asking.Result starred word = None
+abbrev pub test_warning : Names → TestKind → Pattern → Option Warning
+test_warning whose asking.Switch pattern = switch_warning whose pattern
+test_warning whose asking.Suffix pattern = None
+test_warning whose asking.Language pattern = None
+test_warning whose asking.Result pattern = None
 
 -- the warning on %(NAME) of a text that the set hasn't: it gives no words
 abbrev pub name_warning : Set → List ℕ → Option Warning
@@ -61,8 +63,8 @@ name_warning set name = if is_some (text_of set name) then None else Some Unknow
 -- the warning on a token of a kind, with its label and the byte before it, by for whom the text is
 abbrev pub warning_of : Names → Set → Option ℕ → TokenKind → Label → Option Warning
 warning_of whose set before kinds.Plain label = quote_warning before label.word
-warning_of whose set before kinds.Test label = test_warning whose label.asks label.starred label.word
-warning_of whose set before kinds.Pattern label = switch_warning whose label.starred label.word
+warning_of whose set before kinds.Test label = test_warning whose label.asks (pattern_of label)
+warning_of whose set before kinds.Pattern label = switch_warning whose (pattern_of label)
 warning_of whose set before kinds.NamedText label = name_warning set label.word
 warning_of whose set before kind label = None
 

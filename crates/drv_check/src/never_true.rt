@@ -7,6 +7,7 @@ ghost use Rattle.std.specs.Prelude.{◌≡◌};
 
 use crate::findings::Warning;
 use crate::unused_text::Names;
+use drv_match::Pattern;
 
 /// Whether what follows this byte in an option is its argument, which no test names.
 fn takes_argument(whose: Names, byte: u8) -> bool
@@ -86,23 +87,24 @@ fn lacks_file(word: &[u8]) -> bool
 }
 
 /// The warning of a pattern by the option that it is, or that it begins as.
-fn option_warning(whose: Names, starred: bool, word: &[u8]) -> Option<Warning>
-    ensures { result ≡ option_warning whose starred word.now }
+fn option_warning(whose: Names, pattern: &Pattern<'_>) -> Option<Warning>
+    ensures { result ≡ option_warning whose pattern.now }
 {
-    if begins_pieces(word) || !starred && is_piece(word) {
+    let word = pattern.name;
+    if begins_pieces(word) || !pattern.star && is_piece(word) {
         Some(Warning::NeverPiece)
-    } else if begins_jobs(whose, word) || !starred && is_setting(word) {
+    } else if begins_jobs(whose, word) || !pattern.star && is_setting(word) {
         Some(Warning::NeverSetting)
-    } else if word.starts_with(b"-specs=") || !starred && lacks_file(word) {
+    } else if word.starts_with(b"-specs=") || !pattern.star && lacks_file(word) {
         Some(Warning::NeverSpecs)
     } else {
         None
     }
 }
 
-/// The warning of a pattern for switches, if no switch has it. A star may follow its word.
-pub(crate) fn switch_warning(whose: Names, starred: bool, word: &[u8]) -> Option<Warning>
-    ensures { result ≡ switch_warning whose starred word.now }
+/// The warning of a pattern for switches, if no switch has it.
+pub(crate) fn switch_warning(whose: Names, pattern: &Pattern<'_>) -> Option<Warning>
+    ensures { result ≡ switch_warning whose pattern.now }
 {
-    letter_warning(whose, word).or(option_warning(whose, starred, word))
+    letter_warning(whose, pattern.name).or(option_warning(whose, pattern))
 }

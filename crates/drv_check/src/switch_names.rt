@@ -16,21 +16,33 @@ use crate::compared::{asks_switch, prefix_of};
 use crate::naming::written_part;
 use crate::own_text::own_tree;
 use crate::pieces::{Piece, pieces_of};
+use drv_match::Pattern;
 use drv_place::settle;
 use drv_specs::SpecSet;
 use drv_syntax::{SpecTree, TestKind, Token, TokenKind};
 use std::alloc::{AllocError, Global};
+
+/// The pattern of the part at this place.
+pub(crate) fn pattern_at(tree: &SpecTree, place: usize) -> Pattern<'_>
+    requires { place < length (tokens_of (tree_of tree.now)) }
+    ensures { result ≡ pattern_of (label_at (tree_of tree.now) place) }
+{
+    Pattern {
+        name: tree.word(place),
+        star: tree.is_starred(place),
+    }
+}
 
 /// Whether the pattern at this place names a switch.
 fn pattern_names_switch(tree: &SpecTree, place: usize, name: &[u8]) -> bool
     requires { place < length (tokens_of (tree_of tree.now)) }
     ensures { result ≡ is_named (pattern_of (label_at (tree_of tree.now) place)) name.now }
 {
-    let word = tree.word(place);
-    if tree.is_starred(place) {
-        name.starts_with(word)
+    let pattern = pattern_at(tree, place);
+    if pattern.star {
+        name.starts_with(pattern.name)
     } else {
-        name == word
+        name == pattern.name
     }
 }
 

@@ -20,8 +20,10 @@ use crate::lost_marks::{lone_size, push_all_lost};
 use crate::never_true::switch_warning;
 use crate::own_text::{own_start, own_tree};
 use crate::pointing::name_in;
+use crate::switch_names::pattern_at;
 use crate::unused_text::{Names, Whole};
 use crate::warning::Mark;
+use drv_match::Pattern;
 use drv_specs::SpecSet;
 use drv_syntax::{SpecTree, TestKind, Token, TokenKind};
 use std::alloc::{AllocError, Global};
@@ -73,11 +75,11 @@ fn quote_warning(before: Option<u8>, word: &[u8]) -> Option<Warning>
 }
 
 /// The warning of a test.
-fn test_warning(whose: Names, asks: TestKind, starred: bool, word: &[u8]) -> Option<Warning>
-    ensures { result ≡ test_warning whose asks starred word.now }
+fn test_warning(whose: Names, asks: TestKind, pattern: &Pattern<'_>) -> Option<Warning>
+    ensures { result ≡ test_warning whose asks pattern.now }
 {
     match asks {
-        TestKind::Switch => switch_warning(whose, starred, word),
+        TestKind::Switch => switch_warning(whose, pattern),
         TestKind::Suffix | TestKind::Language | TestKind::Result => None,
     }
 }
@@ -104,13 +106,8 @@ fn token_warning(whole: &Whole<'_>, tree: &SpecTree, place: usize, token: Token)
             let before = byte_before(tree.text(), token.start as usize);
             quote_warning(before, tree.word(place))
         }
-        TokenKind::Test => {
-            let word = tree.word(place);
-            test_warning(whole.whose, tree.asks(place), tree.is_starred(place), word)
-        }
-        TokenKind::Pattern => {
-            switch_warning(whole.whose, tree.is_starred(place), tree.word(place))
-        }
+        TokenKind::Test => test_warning(whole.whose, tree.asks(place), &pattern_at(tree, place)),
+        TokenKind::Pattern => switch_warning(whole.whose, &pattern_at(tree, place)),
         TokenKind::NamedText => name_warning(whole.set, tree.word(place)),
         _ => None,
     }
