@@ -3,7 +3,7 @@ use Rattle.drv_check.specs.declared.marking.MarkedPart.{MarkedPart}
 use Rattle.std.proofs.Common.{◌≡◌, ◌+◌, ◌-◌, ◌++◌, ◌∷◌, List, [], append_assoc, arith, drop, length, subst, suc, sym, zero, ℕ}
 use Rattle.std.specs.Prelude.{take}
 
--- A dump with marks is the dump with marks between its bytes, numbered one after another. For `marks_are_in_order` (src/mark_laws.rt).
+-- A dump with marks is the dump with marks between its bytes, numbered one after another. For `marks_are_in_order` (src/laws.rt).
 -- Names: A mark is a number between two bytes of 1, before a part of a text. `n` is the number of the next mark, and `m` the one after the
 -- last. `at` is the place in the dump, and `k` a number of bytes. `text` is what is left of the dump, and `marked` the same with marks.
 -- `parts` is the parts that get one. `Marked n m text marked`: the second is the first with the marks from n up to m (specs/MarkWords).

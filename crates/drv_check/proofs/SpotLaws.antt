@@ -7,7 +7,7 @@ use Rattle.std.proofs.Common.{length, refl, subst, suc, true, zero, ℕ}
 use Rattle.std.proofs.lemmas.Bool.Decides.{nat_tests}
 use Rattle.std.specs.Prelude.{nat_lt, reverse, slice_get}
 
--- Where a byte of a text has a spot, a file has the byte there. For `spots_have_bytes` (src/spot_laws.rt).
+-- Where a byte of a text has a spot, a file has the byte there. For `spots_have_bytes` (src/laws.rt).
 -- Names: A spot is a place in a file. `sources` is the files that were read. `spots` is the spots of a text's last bytes, and `spot` one of
 -- them. `text` is the text, and `head` what precedes its colon. `n`, `i` and `k` are places. `a`, `b` and `t` are values of tests, and `b`
 -- is a byte in `is_there`. `byte_at sources spot` is the byte at a spot. `agree sources spots text`: the files have these bytes there.

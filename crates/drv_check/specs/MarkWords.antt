@@ -6,7 +6,7 @@ use Rattle.std.specs.Prelude.{◌+◌, ◌-◌, List, [], ◌∷◌, ◌++◌, d
 
 -- Marks in a text (this project's profile). A mark is a number in decimal digits between two bytes of 1. It is a word of its own, which a
 -- blank ends, or it is joined to the word that follows.
--- For clauses of src/mark_words.rt, and laws of src/mark_laws.rt.
+-- For clauses of src/mark_words.rt, and the law of marks in src/laws.rt.
 
 -- the byte at both ends of a mark
 abbrev pub mark_end : ℕ

@@ -15,7 +15,7 @@ use Rattle.std.specs.Prelude.{nat_eq, nat_lt, reverse, slice_get, true, ℕ}
 
 -- Where in files the bytes of a set's texts are (GCC manual, "Spec Files"). A text has a head, as *cc1 or .c: what precedes its colon where
 -- a file puts it. The last directive of a head puts its text, one with a + adds to it, and %rename gives it another head.
--- For clauses of src/origins.rt and src/seeking.rt, and the law of src/spot_laws.rt. gdrv_specs cites it too.
+-- For clauses of src/origins.rt and src/seeking.rt, and the law of spots in src/laws.rt. gdrv_specs cites it too.
 
 -- the files of a line, along these prefixes
 

@@ -4,7 +4,7 @@ ghost use Rattle.drv_check.specs.Differing.{has_piece, is_named, is_piece, marke
 ghost use Rattle.drv_check.specs.Differing.{marked_line, missing, pairs_difference, pairs_of};
 ghost use Rattle.drv_check.specs.Differing.{pieces_difference, texts_difference, unless_there};
 ghost use Rattle.drv_check.specs.Pieces.{pieces_of};
-ghost use Rattle.std.specs.Prelude.{◌≡◌, ◌++◌, [], IfOk, List, OnOk, ℕ};
+ghost use Rattle.std.specs.Prelude.{◌≡◌, ◌++◌, IfOk, OnOk};
 
 use crate::bytes::cut_line;
 use crate::pieces::{Piece, pieces_of};
@@ -147,11 +147,3 @@ pub fn texts_difference(alloc: Global, first: &[u8], second: &[u8]) -> Result<Wo
     let after = pieces_of(alloc, second)?;
     pieces_difference(alloc, before.as_slice(), after.as_slice())
 }
-
-/// The law that nothing is printed of two dumps only if their pairs are the same, in their order
-/// and as often. It takes and gives nothing.
-#[tactic(auto, using(crate::proofs::DumpsDiffer::same_pairs))]
-pub fn no_difference_is_same_pairs()
-    ensures { (first second : List ℕ) → texts_difference first second ≡ []
-        → pairs_of (pieces_of first) ≡ pairs_of (pieces_of second) }
-{}

@@ -1,14 +1,21 @@
-//! Laws of pieces.
+//! Laws of pieces, of checks, of what a set's texts hold, and of what differs.
 
 ghost use Rattle.drv_check.specs.Agreement.{Agrees, all_loaded, faults_of};
 ghost use Rattle.drv_check.specs.Branches.{covers, names_all};
 ghost use Rattle.drv_check.specs.Checked.{checked};
 ghost use Rattle.drv_check.specs.Coverage.{is_true, pattern_of};
+ghost use Rattle.drv_check.specs.Differing.{pairs_of, texts_difference};
 ghost use Rattle.drv_check.specs.FaultNotes.{IsFirst, first_fault, unchecked_over};
+ghost use Rattle.drv_check.specs.LoadingOrder.{loaded_pieces};
+ghost use Rattle.drv_check.specs.MarkWords.{Marked, marked_text};
 ghost use Rattle.drv_check.specs.Numbers.{AreRead};
+ghost use Rattle.drv_check.specs.Origins.{byte_at, spot_at, text_spots};
 ghost use Rattle.drv_check.specs.Pieces.{pieces_of};
 ghost use Rattle.drv_check.specs.UntilFault.{all_until};
 ghost use Rattle.drv_check.specs.declared.findings.Checking.{Checking};
+ghost use Rattle.drv_check.specs.declared.findings.Source.{Source};
+ghost use Rattle.drv_check.specs.declared.findings.Spot.{Spot};
+ghost use Rattle.drv_check.specs.declared.marking.MarkedPart.{MarkedPart};
 ghost use Rattle.drv_check.specs.declared.unused_text.Names.{Names};
 ghost use Rattle.drv_match.specs.Matching.{is_named};
 ghost use Rattle.drv_search.specs.Search.{prefixes_of};
@@ -21,7 +28,7 @@ ghost use Rattle.drv_syntax.specs.Labels.{Label};
 ghost use Rattle.drv_syntax.specs.declared.token.TestKind.TheVariants as asking;
 ghost use Rattle.drv_system.specs.Facts.{Facts};
 ghost use Rattle.drv_system.specs.Known.{Is};
-ghost use Rattle.std.specs.Prelude.{◌≡◌, ◌++◌, Bool, List, [], true, ℕ};
+ghost use Rattle.std.specs.Prelude.{◌≡◌, ◌++◌, Bool, List, [], Some, length, slice_get, true, ℕ};
 
 /// The law that the pieces of what is left of a text are its directives, one by one: each piece,
 /// read alone, is that directive, and the number of a line that is none is the piece's. It takes
@@ -62,4 +69,29 @@ pub fn covered_tests_are_true()
         → ((name : List ℕ) → is_named (pattern_of second) name ≡ true
         → is_named (pattern_of first) name ≡ true)
         → names_all first second ≡ true }
+{}
+
+/// The law that a file has each byte of a text that has a spot, at that spot. It takes and gives
+/// nothing.
+#[tactic(auto, using(crate::proofs::SpotLaws::spot_has_byte))]
+pub fn spots_have_bytes()
+    ensures { (sources : List Source) (head text : List ℕ) (n : ℕ) (spot : Spot)
+        → spot_at (text_spots sources (loaded_pieces sources) head text) (length text) n ≡ Some spot
+        → byte_at sources spot ≡ slice_get text n }
+{}
+
+/// The law that a dump with marks is that dump with marks between its bytes, as many as there are
+/// parts and numbered one after another. It takes and gives nothing.
+#[tactic(auto, using(crate::proofs::MarkLaws::marks_in_order))]
+pub fn marks_are_in_order()
+    ensures { (dump : List ℕ) (parts : List MarkedPart)
+        → Marked 0 (length parts) dump (marked_text dump parts) }
+{}
+
+/// The law that nothing is printed of two dumps only if their pairs are the same, in their order
+/// and as often. It takes and gives nothing.
+#[tactic(auto, using(crate::proofs::DumpsDiffer::same_pairs))]
+pub fn no_difference_is_same_pairs()
+    ensures { (first second : List ℕ) → texts_difference first second ≡ []
+        → pairs_of (pieces_of first) ≡ pairs_of (pieces_of second) }
 {}

@@ -1,61 +1,74 @@
 //! Every fault of spec files and what is surely not meant, each with its place in its file.
 #![tactic(auto)]
 
-mod branches;
+// Spec files: their directives, what they include, and where in them each byte of a text is.
 mod bytes;
-mod checking;
-mod compared;
-mod differing;
-mod fault_notes;
 mod findings;
-mod hidden_pair;
 mod including;
-mod judging;
 mod known_trees;
-mod laws;
 mod loading_order;
-mod lost_marks;
-mod mark_laws;
-mod mark_words;
-mod marking;
-mod naming;
-mod never_true;
 mod opening;
 mod origins;
 mod own_text;
 mod pieces;
 mod pointing;
-mod reached;
-mod run_texts;
 mod seeking;
-mod spot_laws;
 mod spots;
+
+pub use findings::{Checking, Finding, Note, Source, Spot, Warning};
+pub use pieces::{Piece, pieces_of};
+pub use seeking::sources_of;
+pub use spots::place_in;
+
+// What the driver refuses in them, and what is surely not meant.
+mod branches;
+mod checking;
+mod fault_notes;
+mod hidden_pair;
+mod judging;
+mod lost_marks;
+mod never_true;
 mod stepping;
 mod stopping;
-mod switch_names;
 mod token_warning;
-mod told;
-mod told_json;
 mod unused_text;
 mod warning;
 
 pub use checking::{FileCheck, check_files};
-pub use differing::{no_difference_is_same_pairs, texts_difference};
 pub use fault_notes::{SpecFiles, fault_note};
-pub use findings::{Checking, Finding, Note, Source, Spot, Warning};
-pub use laws::{
-    covered_tests_are_true, first_fault_is_refusal, noted_fault_is_refusal, pieces_are_directives,
-};
-pub use mark_laws::marks_are_in_order;
+pub use unused_text::Names;
+
+// What is printed of that.
+mod told;
+mod told_json;
+
+pub use told::{Place, Told, report_text};
+pub use told_json::report_json;
+
+// The texts of a set: which of them a plan can use, what in them names switches, and marks before their parts.
+mod compared;
+mod mark_words;
+mod marking;
+mod naming;
+mod reached;
+mod run_texts;
+mod switch_names;
+
 pub use mark_words::marked_text;
 pub use marking::{Joint, MarkedPart, marked_parts};
 pub use naming::{Deed, Naming, namings_of};
-pub use pieces::{Piece, pieces_of};
 pub use reached::{Roots, reached_dump};
-pub use seeking::sources_of;
-pub use spot_laws::spots_have_bytes;
-pub use spots::place_in;
 pub use switch_names::names_switch;
-pub use told::{Place, Told, report_text};
-pub use told_json::report_json;
-pub use unused_text::Names;
+
+// Which texts of two sets differ.
+mod differing;
+
+pub use differing::texts_difference;
+
+// What holds of all this.
+mod laws;
+
+pub use laws::{
+    covered_tests_are_true, first_fault_is_refusal, marks_are_in_order,
+    no_difference_is_same_pairs, noted_fault_is_refusal, pieces_are_directives, spots_have_bytes,
+};
