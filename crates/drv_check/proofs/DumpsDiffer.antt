@@ -1,7 +1,8 @@
 use Rattle.drv_check.specs.Differing.{marked, marked_edit, marked_line, missing, pairs_difference, pairs_of, texts_difference, unless_there}
 use Rattle.drv_check.specs.Pieces.{pieces_of}
 use Rattle.drv_check.specs.declared.pieces.Piece.{Piece}
-use Rattle.drv_forms.proofs.Sameness.{first_none, no_edits_same, second_none}
+use Rattle.drv_forms.proofs.Lists.{append_empty_left, append_empty_right}
+use Rattle.drv_forms.proofs.Sameness.{no_edits_same}
 use Rattle.drv_forms.specs.Edits.{edits}
 use Rattle.drv_forms.specs.declared.editing.Edit.TheVariants.{Comes, Goes}
 use Rattle.drv_forms.specs.declared.editing.Edit.{Edit}
@@ -49,14 +50,15 @@ no_marked b mark (c ∷ text) none =
 no_edits : (found : List Edit) → flat_map marked_edit found ≡ [] → found ≡ []
 no_edits [] none = refl
 no_edits (Goes text ∷ found) none =
-    absurd (no_marked 45 (32 ∷ []) text (first_none (marked (codes "- ") text) (flat_map marked_edit found) none))
+    absurd (no_marked 45 (32 ∷ []) text (append_empty_left (marked (codes "- ") text) (flat_map marked_edit found) none))
 no_edits (Comes text ∷ found) none =
-    absurd (no_marked 43 (32 ∷ []) text (first_none (marked (codes "+ ") text) (flat_map marked_edit found) none))
+    absurd (no_marked 43 (32 ∷ []) text (append_empty_left (marked (codes "+ ") text) (flat_map marked_edit found) none))
 
 -- dumps without a difference have the same pairs
 pub same_pairs : (first second : List ℕ) → texts_difference first second ≡ [] → pairs_of (pieces_of first) ≡ pairs_of (pieces_of second)
 same_pairs first second none =
     no_edits_same (pairs_of (pieces_of first)) (pairs_of (pieces_of second))
     (no_edits (edits (pairs_of (pieces_of first)) (pairs_of (pieces_of second)))
-    (second_none (missing (codes "- ") (pieces_of second) (pieces_of first) ++ missing (codes "+ ") (pieces_of first) (pieces_of second))
+    (append_empty_right
+    (missing (codes "- ") (pieces_of second) (pieces_of first) ++ missing (codes "+ ") (pieces_of first) (pieces_of second))
     (pairs_difference (pieces_of first) (pieces_of second)) none))

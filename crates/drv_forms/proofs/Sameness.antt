@@ -1,4 +1,5 @@
 use Rattle.drv_forms.proofs.Edited.{makes}
+use Rattle.drv_forms.proofs.Lists.{append_empty_left, append_empty_right}
 use Rattle.drv_forms.specs.Difference.{changes, changes_text, difference, edits_text, entries_text, lines_changes, pair_changes, replacement}
 use Rattle.drv_forms.specs.Edits.{Makes, comes, edits, ends, goes, stays}
 use Rattle.drv_forms.specs.Entries.{entries}
@@ -16,8 +17,7 @@ use Rattle.std.specs.Cmp.Lexicographic.{pointwise, same_text}
 
 -- For `no_difference_is_same` (src/laws.rt): nothing is printed of two plans only if they are the same.
 -- Names: `line` and `other` are lines of the two plans at one place, `lines` and `others` those behind them. `none` is that nothing is
--- printed. `front` and `rest` are the halves of a text, and `found` is edits. `made` is that they make the one list the other. `t`: a test's
--- value, so that `by` can go by both cases.
+-- printed. `found` is edits, and `made` is that they make the one list the other. `t`: a test's value, so that `by` can go by both cases.
 
 -- the first of lists that are the same
 heads : (line other : PlanLine) → line ∷ [] ≡ other ∷ [] → line ≡ other
@@ -50,16 +50,6 @@ unchanged (line ∷ lines) (other ∷ others) none =
         ∙ ap (λ ls. other ∷ ls) (later (rw is at none))
     by false is later none = absurd (printed line other (lines_changes lines others) (rw is at none))
 
--- of a text without bytes both halves have none
-pub first_none : (front rest : List ℕ) → front ++ rest ≡ [] → front ≡ []
-first_none [] rest none = refl
-first_none (b ∷ front) rest none = absurd cc
-
--- and so has the second
-pub second_none : (front rest : List ℕ) → front ++ rest ≡ [] → rest ≡ []
-second_none [] rest none = none
-second_none (b ∷ front) rest none = absurd cc
-
 -- edits that print nothing are none
 unprinted : (found : List Edit) → edits_text found ≡ [] → found ≡ []
 unprinted [] none = refl
@@ -80,10 +70,11 @@ no_edits_same words others none = unedited (makes words others) none
 -- plans without a difference have the same lines
 pub same_lines : (plan other : Plan) → difference plan other ≡ [] → lines_of plan ≡ lines_of other
 same_lines plan other none =
-    unchanged (lines_of plan) (lines_of other) (first_none (changes_text (changes plan other)) (entries_text plan other) none)
+    unchanged (lines_of plan) (lines_of other) (append_empty_left (changes_text (changes plan other)) (entries_text plan other) none)
 
 -- and the same beside these
 pub same_entries : (plan other : Plan) → difference plan other ≡ [] → entries plan ≡ entries other
 same_entries plan other none =
     no_edits_same (entries plan) (entries other)
-    (unprinted (edits (entries plan) (entries other)) (second_none (changes_text (changes plan other)) (entries_text plan other) none))
+    (unprinted (edits (entries plan) (entries other))
+    (append_empty_right (changes_text (changes plan other)) (entries_text plan other) none))
