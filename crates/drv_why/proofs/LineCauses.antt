@@ -7,9 +7,11 @@ use Rattle.drv_syntax.specs.Outcome.{parsed}
 use Rattle.drv_syntax.specs.Parsed.{tree_in, tree_of}
 use Rattle.drv_syntax.specs.Tree.{none}
 use Rattle.drv_syntax.specs.declared.fault.SyntaxFault.{SyntaxFault}
+use Rattle.drv_why.proofs.FirstCancellers.{cut_at, met_at}
 use Rattle.drv_why.specs.Causes.{all_caused, behind_groups, case_at, caused, causes_of, input_at, input_word, makers, word_of_input}
 use Rattle.drv_why.specs.Causes.{outer_of, outers_from, outers_of, source_of}
 use Rattle.drv_why.specs.Code.Behind.{word_behind}
+use Rattle.drv_why.specs.Code.Cancelling.{canceller_at, is_taken_by}
 use Rattle.drv_why.specs.Taken.{is_taken, is_this, with_name, with_names, with_option, with_switches}
 use Rattle.drv_why.specs.declared.outers.Outer.{Outer}
 use Rattle.drv_why.specs.declared.traces.Trace.{Trace}
@@ -46,20 +48,28 @@ name_next n others name before after whole below here grows is =
     ∙ ap (with_names before) (sym (drop_more others n name below)) ∙ is
 
 -- For `taken_options`: if the options so far with those of the switches left are all, then they still are after a switch that is taken.
-pub switch_told : (pattern : Pattern) (switch : Switch) (later left : List Switch) (before after whole : List (List ℕ))
-    → left ≡ switch ∷ later → is_taken pattern switch later ≡ true → after ≡ with_option before switch.name
-    → with_switches pattern before left ≡ whole → with_switches pattern after later ≡ whole
-switch_told pattern switch later left before after whole cut told grows is =
+pub switch_told : (pattern : Pattern) (switches : List Switch) (n : ℕ) (switch : Switch) (before after whole : List (List ℕ))
+    → n < length switches → switch ≡ get_or switches n switch → is_taken_by pattern switch (canceller_at switches n) ≡ true
+    → after ≡ with_option before switch.name
+    → with_switches pattern before (drop n switches) ≡ whole → with_switches pattern after (drop (n + 1) switches) ≡ whole
+switch_told pattern switches n switch before after whole below here told grows is =
+    let later : List Switch = drop (n + 1) switches in
+    let taken : is_taken pattern switch later ≡ true =
+    ap (is_taken_by pattern switch) (sym (met_at switches n switch below here)) ∙ told in
     ap (λ ns. with_switches pattern ns later) grows
-    ∙ sym (ap (with_switches pattern before) cut
-    ∙ ap (λ test. with_switches pattern (if test then with_option before switch.name else before) later) told) ∙ is
+    ∙ sym (ap (with_switches pattern before) (cut_at switches n switch below here)
+    ∙ ap (λ test. with_switches pattern (if test then with_option before switch.name else before) later) taken) ∙ is
 
 -- For `taken_options`: the same after a switch that isn't taken, which adds none.
-pub switch_untold : (pattern : Pattern) (switch : Switch) (later left : List Switch) (before whole : List (List ℕ)) → left ≡ switch ∷ later
-    → is_taken pattern switch later ≡ false → with_switches pattern before left ≡ whole → with_switches pattern before later ≡ whole
-switch_untold pattern switch later left before whole cut untold is =
-    sym (ap (with_switches pattern before) cut
-    ∙ ap (λ test. with_switches pattern (if test then with_option before switch.name else before) later) untold) ∙ is
+pub switch_untold : (pattern : Pattern) (switches : List Switch) (n : ℕ) (switch : Switch) (before whole : List (List ℕ))
+    → n < length switches → switch ≡ get_or switches n switch → is_taken_by pattern switch (canceller_at switches n) ≡ false
+    → with_switches pattern before (drop n switches) ≡ whole → with_switches pattern before (drop (n + 1) switches) ≡ whole
+switch_untold pattern switches n switch before whole below here untold is =
+    let later : List Switch = drop (n + 1) switches in
+    let passed : is_taken pattern switch later ≡ false =
+    ap (is_taken_by pattern switch) (sym (met_at switches n switch below here)) ∙ untold in
+    sym (ap (with_switches pattern before) (cut_at switches n switch below here)
+    ∙ ap (λ test. with_switches pattern (if test then with_option before switch.name else before) later) passed) ∙ is
 
 -- the source of a command
 

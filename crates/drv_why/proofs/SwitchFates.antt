@@ -3,12 +3,16 @@ use Rattle.drv_check.specs.declared.findings.Source.{Source}
 use Rattle.drv_check.specs.declared.naming.Naming.{Naming}
 use Rattle.drv_match.specs.Matching.{cancels, has_negative, is_level, is_live, is_named, is_negative_of, name_at, negative}
 use Rattle.drv_match.specs.Pattern.{Pattern}
+use Rattle.drv_why.proofs.FirstCancellers.{cut_at, met_at}
 use Rattle.drv_why.specs.Code.Beginning.{begin_alike}
-use Rattle.drv_why.specs.Fates.{argument_text, cancelled_text, canceller, concerns, fate_text, fates_text, lines_text, naming_text, namings_text}
+use Rattle.drv_why.specs.Code.Cancelling.{canceller_at}
+use Rattle.drv_why.specs.Fates.{argument_text, cancelled_text, canceller, concerns, fate_text, fates_text, lines_text, naming_text}
+use Rattle.drv_why.specs.Fates.{namings_text}
 use Rattle.drv_why.specs.Fates.{or_unnamed, pattern_of, switch_text, text_if}
 use Rattle.drv_words.specs.Bytes.{hyphen, newline}
 use Rattle.drv_words.specs.Printed.{quoted}
-use Rattle.std.proofs.Common.{◌≡◌, ◌∙◌, ◌<◌, ◌≤◌, ◌+◌, ◌&&◌, ◌||◌, ◌++◌, ◌∷◌, Bool, List, None, Option, Some, [], ap, append-nil, append_assoc}
+use Rattle.std.proofs.Common.{◌≡◌, ◌∙◌, ◌<◌, ◌≤◌, ◌+◌, ◌&&◌, ◌||◌, ◌++◌, ◌∷◌, Bool, List, None, Option, Some, [], ap, append-nil}
+use Rattle.std.proofs.Common.{append_assoc}
 use Rattle.std.proofs.Common.{drop, false, length, refl, sym, true, ℕ}
 use Rattle.std.proofs.lemmas.Bool.{eqb-true}
 use Rattle.std.proofs.lemmas.List.{drop_all, drop_more}
@@ -23,89 +27,6 @@ use Rattle.std.specs.Prelude.{codes, get_or, if◌then◌else◌, is_none, map, 
 -- step and after it, and `whole` is all of it, or what is looked for. `xs`, `ys` and `zs` are texts. `canceller` is the first later switch
 -- that cancels one of this name (specs/Fates). `cancels` says that one name cancels another, and `is_named` that a pattern names a switch
 -- (drv_match). `begin_alike` compares two first bytes (specs/Code/Beginning).
-
--- the negative form of a name, whose beginning is compared first
-
--- two texts in a row are another one exactly if that begins with the first and goes on with the second
-in_two : (xs ys zs : List ℕ)
-    → pointwise nat_eq (xs ++ ys) zs ≡ (pointwise nat_eq xs (take (length xs) zs) && pointwise nat_eq ys (drop (length xs) zs))
-in_two [] ys zs = refl
-in_two (x ∷ xs) ys [] = refl
-in_two (x ∷ xs) ys (z ∷ zs) = by (nat_eq x z) refl (in_two xs ys zs)
-  where
-    -- Plan: `by` goes by both answers of `nat_eq x z`.
-    by : (test : Bool) → nat_eq x z ≡ test
-        → pointwise nat_eq (xs ++ ys) zs ≡ (pointwise nat_eq xs (take (length xs) zs) && pointwise nat_eq ys (drop (length xs) zs))
-        → pointwise nat_eq ((x ∷ xs) ++ ys) (z ∷ zs)
-        ≡ (pointwise nat_eq (x ∷ xs) (take (length (x ∷ xs)) (z ∷ zs)) && pointwise nat_eq ys (drop (length (x ∷ xs)) (z ∷ zs)))
-    by true is others = rw is others
-    by false is others = rw is refl
-
--- a name with another beginning isn't it
-pub no_front : (rest name : List ℕ) → pointwise nat_eq (codes "no-") (take 3 name) ≡ false
-    → false ≡ pointwise nat_eq (codes "no-" ++ rest) name
-no_front rest name is = sym (in_two (codes "no-") rest name ∙ ap (λ test. test && pointwise nat_eq rest (drop 3 name)) is)
-
--- one with that beginning is it exactly if it goes on alike
-pub with_front : (rest name : List ℕ) (same : Bool) → pointwise nat_eq (codes "no-") (take 3 name) ≡ true
-    → same ≡ pointwise nat_eq rest (drop 3 name) → same ≡ pointwise nat_eq (codes "no-" ++ rest) name
-with_front rest name same is goes =
-    goes ∙ sym (in_two (codes "no-") rest name ∙ ap (λ test. test && pointwise nat_eq rest (drop 3 name)) is)
-
--- For `canceller`: if the next later switch cancels this one, then it is the first that does.
-pub cancelled : (n : ℕ) (later : List Switch) (switch : Switch) (name : List ℕ) (whole : Option (List ℕ)) → n < length later
-    → switch ≡ get_or later n switch → cancels switch.name name ≡ true → canceller (drop n later) name ≡ whole → Some switch.name ≡ whole
-cancelled n later switch name whole below here is so_far =
-    sym (ap (λ ls. canceller ls name) (drop_more later n switch below)
-    ∙ ap (λ s. canceller (s ∷ drop (n + 1) later) name) (sym here) ∙ rw is refl) ∙ so_far
-
--- For `canceller`: if the next later switch doesn't cancel this one, then the first that does is behind it.
-pub kept : (n : ℕ) (later : List Switch) (switch : Switch) (name : List ℕ) (whole : Option (List ℕ)) → n < length later
-    → switch ≡ get_or later n switch → cancels switch.name name ≡ false → canceller (drop n later) name ≡ whole
-    → canceller (drop (n + 1) later) name ≡ whole
-kept n later switch name whole below here is so_far =
-    sym (ap (λ ls. canceller ls name) (drop_more later n switch below)
-    ∙ ap (λ s. canceller (s ∷ drop (n + 1) later) name) (sym here) ∙ rw is refl) ∙ so_far
-
--- For `canceller`: if no later switch is left, then none cancels this one.
-pub none_left : (n : ℕ) (later : List Switch) (name : List ℕ) (whole : Option (List ℕ)) → length later ≤ n
-    → canceller (drop n later) name ≡ whole → None ≡ whole
-none_left n later name whole past so_far = sym (ap (λ ls. canceller ls name) (drop_all n later past)) ∙ so_far
-
--- no test but a true one counts
-unless_true : (test : Bool) → (test && false) ≡ false
-unless_true true = refl
-unless_true false = refl
-
--- a name without a negative form is none
-not_negative : (other name : List ℕ) → has_negative name ≡ false → is_negative_of name other ≡ false
-not_negative [] name none = refl
-not_negative (l ∷ rest) [] none = unless_true (has_negative (l ∷ rest))
-not_negative (l ∷ rest) (m ∷ others) none = by (nat_eq l m) refl
-  where
-    -- Plan: `by` goes by both answers of `nat_eq l m`.
-    by : (test : Bool) → nat_eq l m ≡ test → is_negative_of (m ∷ others) (l ∷ rest) ≡ false
-    by true same =
-        let has_none : has_negative (l ∷ rest) ≡ false = ap (λ b. has_negative (b ∷ others)) (eqb-true l m same) ∙ none in
-        ap (λ test. test && pointwise nat_eq (negative (l ∷ rest)) (m ∷ others)) has_none
-    by false unlike =
-        ap (λ test. has_negative (l ∷ rest) && (test && pointwise nat_eq (codes "no-" ++ rest) others)) unlike
-        ∙ unless_true (has_negative (l ∷ rest))
-
--- nothing cancels a name that is no level and has no negative form
-not_cancelled : (other name : List ℕ) → is_level name ≡ false → has_negative name ≡ false → cancels other name ≡ false
-not_cancelled other name level none =
-    ap (λ test. is_level other && test || is_negative_of other name || is_negative_of name other) level
-    ∙ ap (λ test. test || is_negative_of other name || is_negative_of name other) (unless_true (is_level other))
-    ∙ ap (λ test. test && pointwise nat_eq (negative name) other || is_negative_of name other) none
-    ∙ not_negative other name none
-
--- For `canceller`: such a name has no canceller.
-pub uncancellable : (later : List Switch) (name : List ℕ) → is_level name ≡ false → has_negative name ≡ false → None ≡ canceller later name
-uncancellable [] name level none = refl
-uncancellable (switch ∷ later) name level none =
-    uncancellable later name level none
-    ∙ sym (ap (λ test. if test then Some switch.name else canceller later name) (not_cancelled switch.name name level none))
 
 -- bytes that differ do so in either order
 unlike_bytes : (x y : ℕ) → nat_eq x y ≡ false → nat_eq y x ≡ false
@@ -178,22 +99,24 @@ fate_written switch option name lines before middle after is same first then_lin
     ∙ ap (λ o. before ++ (o ++ argument_text switch.arg ++ newline ∷ [])) (is ∙ ap (λ n. quoted (hyphen ∷ n)) same))
 
 -- For `fates_text`: if the text so far and the switches left are the whole, then they still are after one switch more.
-pub switch_next : (sources : List Source) (namings : List Naming) (switch : Switch) (later left : List Switch) (by : Option (List ℕ))
-    (live : Bool) (lines before after whole : List ℕ)
-    → left ≡ switch ∷ later → by ≡ canceller later switch.name → live ≡ is_none by
+pub switch_next : (sources : List Source) (namings : List Naming) (switches : List Switch) (n : ℕ) (switch : Switch)
+    (by : Option (List ℕ)) (live : Bool) (lines before after whole : List ℕ)
+    → n < length switches → switch ≡ get_or switches n switch → by ≡ canceller_at switches n → live ≡ is_none by
     → lines ≡ namings_text sources switch.name live namings
     → after ≡ before ++ switch_text switch ++ or_unnamed (cancelled_text by ++ lines)
-    → before ++ fates_text sources namings left ≡ whole → after ++ fates_text sources namings later ≡ whole
-switch_next sources namings switch later left by live lines before after whole cut met judged told grows is =
+    → before ++ fates_text sources namings (drop n switches) ≡ whole → after ++ fates_text sources namings (drop (n + 1) switches) ≡ whole
+switch_next sources namings switches n switch by live lines before after whole below here met judged told grows is =
+    let later : List Switch = drop (n + 1) switches in
     let one : after ≡ before ++ fate_text sources namings switch later =
     grows
     ∙ ap (λ ls. before ++ switch_text switch ++ or_unnamed (cancelled_text by ++ ls))
     (told ∙ ap (λ test. namings_text sources switch.name test namings) judged)
-    ∙ ap (λ b. before ++ switch_text switch ++ or_unnamed (lines_text sources namings switch.name b)) met
+    ∙ ap (λ b. before ++ switch_text switch ++ or_unnamed (lines_text sources namings switch.name b))
+    (met ∙ met_at switches n switch below here)
     ∙ append_assoc before (switch_text switch) (or_unnamed (lines_text sources namings switch.name (canceller later switch.name))) in
     ap (λ t. t ++ fates_text sources namings later) one
     ∙ append_assoc before (fate_text sources namings switch later) (fates_text sources namings later)
-    ∙ ap (λ ss. before ++ fates_text sources namings ss) (sym cut) ∙ is
+    ∙ ap (λ ss. before ++ fates_text sources namings ss) (sym (cut_at switches n switch below here)) ∙ is
 
 -- A switch is live exactly if no later one cancels it.
 

@@ -9,8 +9,9 @@ ghost use Rattle.drv_why.specs.Code.Takers.{asked_options};
 ghost use Rattle.std.specs.Option.{option_map, option_to_list};
 ghost use Rattle.std.specs.Prelude.{◌≡◌, ◌∷◌, ◌<◌, [], IfOk, length};
 
+use crate::cancelling::Cancellers;
 use crate::taking::{is_this, taken_options};
-use drv_args::{Input, Line, Switch};
+use drv_args::{Input, Line};
 use drv_check::MarkedPart;
 use drv_match::Pattern;
 use drv_syntax::{Leaf, SpecTree, TestKind};
@@ -23,6 +24,8 @@ use std::marker::Model;
 pub(crate) struct Case<'a> {
     /// The line.
     pub(crate) line: &'a Line,
+    /// Its switches, each with the one that cancels it.
+    pub(crate) switches: &'a Cancellers<'a>,
     /// The jobs of the plan's sources.
     pub(crate) jobs: &'a [Job],
     /// The source that the command is for; the link is for none.
@@ -40,6 +43,7 @@ pub(crate) struct Case<'a> {
 impl<'a> Model for Case<'a> {
     ghost use Rattle.drv_why.specs.Causes as specs;
     ghost use Rattle.std.specs.Option.{option_map};
+    ghost use Rattle.std.specs.Prelude.{◌≡◌};
 
     ghost Value = { specs.Case };
 
@@ -52,6 +56,8 @@ impl<'a> Model for Case<'a> {
       parts = c.parts.now;
       outers = c.outers.now;
     } };
+
+    ghost invariant = { λ c. c.switches.now ≡ c.line.now.switches };
 }
 
 /// The word of an input.
@@ -200,7 +206,7 @@ fn pattern_at(tree: &SpecTree, place: usize) -> Pattern<'_>
 /// What the test at this place takes of the switches of a line.
 pub(crate) fn asked_options(
     alloc: Global,
-    switches: &[Switch],
+    switches: &Cancellers<'_>,
     tree: &SpecTree,
     place: usize,
 ) -> Result<Listing<Word>, AllocError>

@@ -9,14 +9,17 @@ ghost use Rattle.drv_words.specs.Printed.{quoted};
 ghost use Rattle.std.specs.Option.{option_map};
 ghost use Rattle.std.specs.Prelude.{◌≡◌, ◌∷◌, ◌++◌, [], IfOk, IsTrue, OnOk, decimal, is_none, Some};
 
+use crate::cancelling::Cancellers;
 use crate::fates_json::fates_json;
-use crate::matching::{begin_alike, canceller, is_broad, is_named};
+use crate::matching::{begin_alike, is_broad, is_named};
+use crate::quoting::push_quoted;
 use crate::report::Report;
+use crate::taking::option_of;
 use drv_args::Switch;
 use drv_check::{Deed, Naming, Source, Spot};
 use drv_match::Pattern;
 use drv_place::{line_before, line_number};
-use drv_words::{Word, quote};
+use drv_words::Word;
 use itoa::Buffer;
 use std::alloc::{AllocError, Global};
 
@@ -158,10 +161,10 @@ fn push_namings(
 fn option_text(alloc: Global, name: &[u8]) -> Result<Word, AllocError>
     ensures { IfOk result (λ text. text ≡ quoted (hyphen ∷ name.now)) }
 {
-    let mut option = Word::empty(alloc);
-    option.push(b'-')?;
-    option.extend_from_slice(name)?;
-    quote(alloc, &option)
+    let option = option_of(alloc, name)?;
+    let mut text = Word::empty(alloc);
+    push_quoted(&mut text, option.as_bytes())?;
+    Ok(text)
 }
 
 /// The line of an option that cancels a switch.
@@ -299,30 +302,25 @@ fn push_all_lines(
 }
 
 /// Adds the argument of a switch.
-fn push_argument(alloc: Global, text: &mut Word, arg: &Option<Word>) -> Result<(), AllocError>
+fn push_argument(text: &mut Word, arg: &Option<Word>) -> Result<(), AllocError>
     ensures { OnOk result (text.new ≡ text.old ++ argument_text arg.now) }
 {
     match arg {
         Some(word) => {
             text.push(b' ')?;
-            text.extend_from_slice(quote(alloc, word)?.as_bytes())
+            push_quoted(text, word.as_bytes())
         }
         None => Ok(()),
     }
 }
 
 /// Adds a switch on a line, whose option is this.
-fn push_switch(
-    alloc: Global,
-    text: &mut Word,
-    option: &Word,
-    arg: &Option<Word>,
-) -> Result<(), AllocError>
+fn push_switch(text: &mut Word, option: &Word, arg: &Option<Word>) -> Result<(), AllocError>
     ensures { OnOk result
         (text.new ≡ text.old ++ (option.now ++ argument_text arg.now ++ newline ∷ [])) }
 {
     text.extend_from_slice(option.as_bytes())?;
-    push_argument(alloc, text, arg)?;
+    push_argument(text, arg)?;
     text.push(b'\n')
 }
 
@@ -341,24 +339,25 @@ fn push_fate(
         (text.new ≡ text.old ++ switch_text switch.now
         ++ or_unnamed (cancelled_text (option_map (λ word. word.now) by.entry) ++ named.now.text)) }
 {
-    push_switch(alloc, text, &named.option, &switch.arg)?;
+    push_switch(text, &named.option, &switch.arg)?;
     push_all_lines(alloc, text, by, &named.text)
 }
 
 /// What becomes of the switches of a line, as text.
-#[tactic(auto, using(crate::proofs::SwitchFates::switch_next))]
-fn fates_text(alloc: Global, parts: &Parts<'_>, switches: &[Switch]) -> Result<Word, AllocError>
+fn fates_text(
+    alloc: Global,
+    parts: &Parts<'_>,
+    switches: &Cancellers<'_>,
+) -> Result<Word, AllocError>
     ensures { IfOk result
         (λ text. text ≡ fates_text parts.now.sources.now parts.now.namings.now switches.now) }
 {
     let mut text = Word::empty(alloc);
-    let [first, ..] = switches else {
-        return Ok(text);
-    };
-    let mut named = named_as(alloc, parts, first.name.as_bytes(), true)?;
-    let mut left = switches;
-    while let [switch, later @ ..] = left {
-        let by = canceller(later, switch.name.as_bytes());
+    let mut named = named_as(alloc, parts, &[], true)?;
+    let mut place = 0;
+    while place < switches.len() {
+        let switch = switches.switch(place);
+        let by = switches.at(place);
         renew_lines(
             alloc,
             &mut named,
@@ -367,7 +366,7 @@ fn fates_text(alloc: Global, parts: &Parts<'_>, switches: &[Switch]) -> Result<W
             is_live(by),
         )?;
         push_fate(alloc, &mut text, &named, switch, by)?;
-        left = later;
+        place += 1;
     }
     Ok(text)
 }
@@ -387,8 +386,9 @@ pub fn fates_report(
         (λ text. text ≡ fates_report report sources.now namings.now switches.now) }
 {
     let parts = Parts { sources, namings };
+    let switches = Cancellers::new(alloc, switches)?;
     match report {
-        Report::Lines => fates_text(alloc, &parts, switches),
-        Report::Json => fates_json(alloc, &parts, switches),
+        Report::Lines => fates_text(alloc, &parts, &switches),
+        Report::Json => fates_json(alloc, &parts, &switches),
     }
 }

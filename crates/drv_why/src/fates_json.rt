@@ -1,8 +1,7 @@
 //! What becomes of the switches of a line, as JSON.
 
 ghost use Rattle.drv_why.specs.Code.ListedParts.{naming_tokens};
-ghost use Rattle.drv_why.specs.Fates.{canceller};
-ghost use Rattle.drv_why.specs.FatesJson.{cancelled_json, deed_name, fate_by, fate_json, fate_members, fates_items, fates_json};
+ghost use Rattle.drv_why.specs.FatesJson.{cancelled_json, deed_name, fate_by, fate_members, fates_items, fates_json};
 ghost use Rattle.drv_why.specs.FatesJson.{naming_json, naming_members, namings_items, place_json, source_json, spot_json};
 ghost use Rattle.drv_why.specs.FatesJson.{switch_words};
 ghost use Rattle.json.specs.Json.{array, member, no_members};
@@ -10,8 +9,8 @@ ghost use Rattle.json.specs.Tree.{json_tokens, members_tokens};
 ghost use Rattle.std.specs.Option.{option_map};
 ghost use Rattle.std.specs.Prelude.{◌≡◌, ◌++◌, IfOk, OnOk, Some, codes, is_none};
 
+use crate::cancelling::Cancellers;
 use crate::fates::{Parts, concerns, is_live};
-use crate::matching::canceller;
 use crate::taking::option_of;
 use drv_args::Switch;
 use drv_check::{Deed, Naming, Source, Spot};
@@ -197,7 +196,7 @@ fn put_fate_members(
 }
 
 /// Writes what becomes of a switch, which another one may cancel, as an object.
-fn put_fate_by(
+fn put_fate(
     alloc: Global,
     out: &mut Pretty,
     parts: &Parts<'_>,
@@ -216,40 +215,28 @@ fn put_fate_by(
     put_fate_members(alloc, out, parts, switch.name.as_bytes(), by)
 }
 
-/// Writes what becomes of a switch before these as an object.
-fn put_fate(
-    alloc: Global,
-    out: &mut Pretty,
-    parts: &Parts<'_>,
-    switch: &Switch,
-    later: &[Switch],
-) -> Result<(), AllocError>
-    ensures { OnOk result
-        (out.new ≡ out.old
-        ++ json_tokens (fate_json parts.now.sources.now parts.now.namings.now
-        switch.now later.now)) }
-{
-    let by = canceller(later, switch.name.as_bytes());
-    put_fate_by(alloc, out, parts, switch, by)
-}
-
 /// Writes what becomes of switches as an array.
-#[tactic(auto, using(crate::proofs::ListedFates::fate_next))]
 pub(crate) fn put_fates(
     alloc: Global,
     out: &mut Pretty,
     parts: &Parts<'_>,
-    switches: &[Switch],
+    switches: &Cancellers<'_>,
 ) -> Result<(), AllocError>
     ensures { OnOk result
         (out.new ≡ out.old ++ json_tokens (array
         (fates_items parts.now.sources.now parts.now.namings.now switches.now))) }
 {
     out.token(Token::BeginArray)?;
-    let mut left = switches;
-    while let [switch, later @ ..] = left {
-        put_fate(alloc, out, parts, switch, later)?;
-        left = later;
+    let mut place = 0;
+    while place < switches.len() {
+        put_fate(
+            alloc,
+            out,
+            parts,
+            switches.switch(place),
+            switches.at(place),
+        )?;
+        place += 1;
     }
     out.token(Token::EndArray)
 }
@@ -259,7 +246,7 @@ pub(crate) fn put_fates(
 pub(crate) fn fates_json(
     alloc: Global,
     parts: &Parts<'_>,
-    switches: &[Switch],
+    switches: &Cancellers<'_>,
 ) -> Result<Word, AllocError>
     ensures { IfOk result
         (λ text. text ≡ fates_json parts.now.sources.now parts.now.namings.now switches.now) }

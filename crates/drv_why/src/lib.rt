@@ -2,6 +2,7 @@
 //! words of its plan are from.
 #![tactic(auto)]
 
+mod cancelling;
 mod causes;
 mod fates;
 mod fates_json;
@@ -13,6 +14,7 @@ mod origins_json;
 mod outers;
 mod parting;
 mod printing;
+mod quoting;
 mod reasons;
 mod reasons_json;
 mod repeating;

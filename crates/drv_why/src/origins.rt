@@ -9,12 +9,13 @@ ghost use Rattle.std.specs.Prelude.{◌≡◌, ◌++◌, IfOk, IsTrue, OnOk, cod
 
 use crate::fates::push_spot;
 use crate::origins_json::origins_json;
+use crate::quoting::push_quoted;
 use crate::report::Report;
 use crate::traces::Trace;
 use crate::tracing::caused_at;
 use drv_args::Line;
 use drv_check::{MarkedPart, Source};
-use drv_words::{Listing, Plan, PlanLine, Word, plan_lines, quote, render};
+use drv_words::{Listing, Plan, PlanLine, Word, plan_lines, render};
 use std::alloc::{AllocError, Global};
 use std::marker::Model;
 use std::slice::from_ref;
@@ -138,31 +139,31 @@ fn push_parts(text: &mut Word, marking: &Marking<'_>, numbers: &[usize]) -> Resu
 }
 
 /// Adds what a word is for, after a word before it.
-fn push_cause(alloc: Global, text: &mut Word, before: &[u8], name: &Word) -> Result<(), AllocError>
+fn push_cause(text: &mut Word, before: &[u8], name: &Word) -> Result<(), AllocError>
     ensures { OnOk result (text.new ≡ text.old ++ before.now ++ quoted name.now) }
 {
     text.extend_from_slice(before)?;
-    text.extend_from_slice(quote(alloc, name)?.as_bytes())
+    push_quoted(text, name.as_bytes())
 }
 
 /// Adds what else a word is for.
-fn push_more(alloc: Global, text: &mut Word, names: &[Word]) -> Result<(), AllocError>
+fn push_more(text: &mut Word, names: &[Word]) -> Result<(), AllocError>
     ensures { OnOk result (text.new ≡ text.old ++ flat_map more_text names.now) }
 {
     for name in names {
-        push_cause(alloc, text, b" and ", name)?;
+        push_cause(text, b" and ", name)?;
     }
     Ok(())
 }
 
 /// Adds what a word is for, if it is for anything.
-fn push_causes(alloc: Global, text: &mut Word, names: &[Word]) -> Result<(), AllocError>
+fn push_causes(text: &mut Word, names: &[Word]) -> Result<(), AllocError>
     ensures { OnOk result (text.new ≡ text.old ++ causes_text names.now) }
 {
     match names {
         [first, others @ ..] => {
-            push_cause(alloc, text, b" for ", first)?;
-            push_more(alloc, text, others)
+            push_cause(text, b" for ", first)?;
+            push_more(text, others)
         }
         [] => Ok(()),
     }
@@ -191,7 +192,7 @@ fn ending_of<'a>(
 {
     let mut text = Word::from_bytes(alloc, b" by ")?;
     push_parts(&mut text, marking, parts)?;
-    push_causes(alloc, &mut text, causes)?;
+    push_causes(&mut text, causes)?;
     text.push(b'\n')?;
     Ok(Ending {
         parts,
@@ -234,11 +235,11 @@ fn renew_ending<'a>(
 }
 
 /// Adds the line of a word, which ends so.
-fn push_trace(alloc: Global, text: &mut Word, word: &Word, ending: &[u8]) -> Result<(), AllocError>
+fn push_trace(text: &mut Word, word: &Word, ending: &[u8]) -> Result<(), AllocError>
     ensures { OnOk result (text.new ≡ text.old ++ codes "  " ++ quoted word.now ++ ending.now) }
 {
     text.extend_from_slice(b"  ")?;
-    text.extend_from_slice(quote(alloc, word)?.as_bytes())?;
+    push_quoted(text, word.as_bytes())?;
     text.extend_from_slice(ending)
 }
 
@@ -256,7 +257,7 @@ fn push_all_traces(
     let mut ending = ending_of(alloc, marking, &[], &[])?;
     for trace in traces {
         renew_ending(alloc, &mut ending, marking, trace)?;
-        push_trace(alloc, text, &trace.word, ending.text.as_bytes())?;
+        push_trace(text, &trace.word, ending.text.as_bytes())?;
     }
     Ok(())
 }

@@ -1,9 +1,11 @@
 //! The options that a pattern takes and a word repeats.
 
-ghost use Rattle.drv_why.specs.Taken.{has_argument, has_switch, is_one, is_repeated, repeated_options, with_names};
+ghost use Rattle.drv_why.specs.Code.Cancelling.{is_one_by};
+ghost use Rattle.drv_why.specs.Taken.{has_argument, has_switch, is_repeated, repeated_options, with_names};
 ghost use Rattle.std.specs.Option.{option_map};
 ghost use Rattle.std.specs.Prelude.{◌≡◌, IsTrue, MatchOption, OnOk, drop, false, true};
 
+use crate::cancelling::Cancellers;
 use crate::causes::Case;
 use crate::matching::is_named;
 use crate::taking::{add_name, is_hit, is_this};
@@ -22,18 +24,20 @@ fn has_argument(switch: &Switch, arg: Option<&[u8]>) -> bool
     }
 }
 
-/// Whether a switch before these has this name and argument, and a pattern that names it hits it.
+/// Whether a switch has this name and argument, and a pattern that names it hits it. Another one may
+/// cancel it.
 fn is_one(
     pattern: &Pattern<'_>,
     name: &[u8],
     arg: Option<&[u8]>,
     switch: &Switch,
-    later: &[Switch],
+    by: Option<&Word>,
 ) -> bool
     ensures { result
-        ≡ is_one pattern.now name.now (option_map (λ bytes. bytes.now) arg.entry) switch.now later.now }
+        ≡ is_one_by pattern.now name.now (option_map (λ bytes. bytes.now) arg.entry) switch.now
+        (option_map (λ word. word.now) by.entry) }
 {
-    switch.name.as_bytes() == name && has_argument(switch, arg) && is_hit(pattern, name, later)
+    switch.name.as_bytes() == name && has_argument(switch, arg) && is_hit(pattern, by)
 }
 
 /// Whether the switch at a place is one that is looked for, so that there is one.
@@ -42,43 +46,47 @@ fn is_one_at(
     pattern: &Pattern<'_>,
     name: &[u8],
     arg: Option<&[u8]>,
-    switches: &[Switch],
+    switches: &Cancellers<'_>,
     place: usize,
 ) -> bool
     ensures { IsTrue result
         → has_switch pattern.now name.now (option_map (λ bytes. bytes.now) arg.entry) switches.now ≡ true }
 {
-    match switches_from(switches, place) {
-        [switch, later @ ..] => is_one(pattern, name, arg, switch, later),
-        [] => false,
-    }
+    place < switches.len()
+        && is_one(
+            pattern,
+            name,
+            arg,
+            switches.switch(place),
+            switches.at(place),
+        )
 }
 
-/// The switches from a place on.
-fn switches_from(switches: &[Switch], place: usize) -> &[Switch]
-    ensures { result.now ≡ drop place switches.now }
-{
-    switches.get(place..).unwrap_or(&[])
-}
-
-/// The place of the first of these switches that is looked for, if there is one.
-#[tactic(auto, using(crate::proofs::Repetitions::found, crate::proofs::Repetitions::not_found))]
+/// The place of the first switch from a place on that is looked for, if there is one.
+#[tactic(auto, using(crate::proofs::Repetitions::found_at, crate::proofs::Repetitions::not_found))]
 fn find_switch(
     pattern: &Pattern<'_>,
     name: &[u8],
     arg: Option<&[u8]>,
-    switches: &[Switch],
+    switches: &Cancellers<'_>,
+    from: usize,
 ) -> Option<usize>
     ensures { MatchOption result
-        (has_switch pattern.now name.now (option_map (λ bytes. bytes.now) arg.entry) switches.now ≡ false)
+        (has_switch pattern.now name.now (option_map (λ bytes. bytes.now) arg.entry) (drop from switches.now) ≡ false)
         (λ place. has_switch pattern.now name.now (option_map (λ bytes. bytes.now) arg.entry) switches.now ≡ true) }
 {
-    let mut left = switches;
-    while let [switch, later @ ..] = left {
-        if is_one(pattern, name, arg, switch, later) {
-            return Some(switches.len().saturating_sub(left.len()));
+    let mut place = from;
+    while place < switches.len() {
+        if is_one(
+            pattern,
+            name,
+            arg,
+            switches.switch(place),
+            switches.at(place),
+        ) {
+            return Some(place);
         }
-        left = later;
+        place += 1;
     }
     None
 }
@@ -90,7 +98,7 @@ fn find_near(
     pattern: &Pattern<'_>,
     name: &[u8],
     arg: Option<&[u8]>,
-    switches: &[Switch],
+    switches: &Cancellers<'_>,
     near: usize,
 ) -> Option<usize>
     ensures { MatchOption result
@@ -108,7 +116,11 @@ fn find_near(
     if is_one_at(pattern, name, arg, switches, second) {
         return Some(second);
     }
-    find_switch(pattern, name, arg, switches)
+    // Other words are behind the last one too, so that all searches together go once over the line.
+    if let Some(place) = find_switch(pattern, name, arg, switches, near) {
+        return Some(place);
+    }
+    find_switch(pattern, name, arg, switches, 0)
 }
 
 /// The place of a switch that a pattern takes, and whose option this is, with this argument if one is
@@ -117,7 +129,7 @@ fn find_repeated(
     pattern: &Pattern<'_>,
     option: &[u8],
     arg: Option<&[u8]>,
-    switches: &[Switch],
+    switches: &Cancellers<'_>,
     near: usize,
 ) -> Option<usize>
     ensures { MatchOption result
@@ -145,7 +157,7 @@ pub(crate) fn add_repeated(
         ≡ with_names names.old
         (repeated_options pattern.now case.now.before case.now.word case.now.line.switches)) }
 {
-    let switches = case.line.switches.as_slice();
+    let switches = case.switches;
     if let Some(place) = find_repeated(pattern, case.word, None, switches, *near) {
         *near = place;
         return add_name(alloc, names, case.word);

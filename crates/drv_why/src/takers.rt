@@ -9,9 +9,9 @@ ghost use Rattle.drv_why.specs.Code.Takers.{tree_met, way_in, with_taker};
 ghost use Rattle.drv_why.specs.declared.takers.Taker.TheVariants.{Repeats};
 ghost use Rattle.std.specs.Prelude.{◌≡◌, ◌<◌, IfOk, OnOk, false, length, true};
 
+use crate::cancelling::Cancellers;
 use crate::causes::{asked_options, is_true};
 use crate::walking::{Walk, after_token, gives, is_behind, is_passed, reach};
-use drv_args::Switch;
 use drv_check::MarkedPart;
 use drv_syntax::{Leaf, SpecTree, SyntaxFault, TestKind, Token, TokenKind, parse};
 use drv_words::{Listing, Word};
@@ -110,7 +110,7 @@ impl Way {
     fn take_test(
         &mut self,
         alloc: Global,
-        switches: &[Switch],
+        switches: &Cancellers<'_>,
         met: &Met<'_>,
     ) -> Result<(), AllocError>
         requires { met.now.place < length (tokens_of (tree_of met.now.tree.now)) }
@@ -143,7 +143,7 @@ impl Way {
     fn take_met(
         &mut self,
         alloc: Global,
-        switches: &[Switch],
+        switches: &Cancellers<'_>,
         met: &Met<'_>,
     ) -> Result<(), AllocError>
         requires { met.now.place < length (tokens_of (tree_of met.now.tree.now)) }
@@ -169,7 +169,7 @@ impl Way {
     fn take_token(
         &mut self,
         alloc: Global,
-        switches: &[Switch],
+        switches: &Cancellers<'_>,
         met: &Met<'_>,
     ) -> Result<(), AllocError>
         requires { met.now.place < length (tokens_of (tree_of met.now.tree.now)) }
@@ -189,7 +189,7 @@ impl Way {
     fn take_tree(
         &mut self,
         alloc: Global,
-        switches: &[Switch],
+        switches: &Cancellers<'_>,
         tree: &SpecTree,
     ) -> Result<(), AllocError>
         ensures { OnOk result (self.new ≡ tree_met switches.now self.old (tree_of tree.now)) }
@@ -213,7 +213,7 @@ impl Way {
         &mut self,
         alloc: Global,
         kept: &mut SpecTree,
-        switches: &[Switch],
+        switches: &Cancellers<'_>,
         text: &[u8],
     ) -> Result<(), AllocError>
         ensures { OnOk result (self.new ≡ tree_met switches.now self.old (tree_of text.now)) }
@@ -229,7 +229,7 @@ impl Way {
 pub(crate) fn takers_in(
     alloc: Global,
     kept: &mut SpecTree,
-    switches: &[Switch],
+    switches: &Cancellers<'_>,
     part: &MarkedPart,
     outer: &MarkedPart,
 ) -> Result<Listing<Taker>, AllocError>

@@ -1,14 +1,17 @@
 //! The options of the switches of a line that a pattern takes.
 
-ghost use Rattle.drv_why.specs.Taken.{has_option, is_hit, is_option, is_taken, is_this, taken_options, with_name, with_names, with_option};
+ghost use Rattle.drv_why.specs.Code.Cancelling.{canceller_at, is_hit_by, is_taken_by};
+ghost use Rattle.drv_why.specs.Taken.{has_option, is_option, is_this, taken_options, with_name, with_names, with_option};
 ghost use Rattle.drv_why.specs.Taken.{with_switches};
 ghost use Rattle.drv_words.specs.Bytes.{hyphen};
 ghost use Rattle.std.specs.Cmp.Lexicographic.{pointwise};
 ghost use Rattle.std.specs.List.{list_any};
-ghost use Rattle.std.specs.Prelude.{◌≡◌, ◌∷◌, IfOk, OnOk, nat_eq};
+ghost use Rattle.std.specs.Option.{option_map};
+ghost use Rattle.std.specs.Prelude.{◌≡◌, ◌∷◌, ◌<◌, IfOk, OnOk, length, nat_eq};
 
+use crate::cancelling::Cancellers;
 use crate::fates::is_live;
-use crate::matching::{canceller, is_broad, is_named};
+use crate::matching::{is_broad, is_named};
 use drv_args::Switch;
 use drv_match::Pattern;
 use drv_words::{Listing, Word};
@@ -81,19 +84,19 @@ pub(crate) fn is_this(word: &[u8], other: &Option<Word>) -> bool
     }
 }
 
-/// Whether a pattern hits a switch of a name that it names, before these.
-pub(crate) fn is_hit(pattern: &Pattern<'_>, name: &[u8], later: &[Switch]) -> bool
-    ensures { result ≡ is_hit pattern.now name.now later.now }
+/// Whether a pattern hits a switch that it names and another one may cancel.
+pub(crate) fn is_hit(pattern: &Pattern<'_>, by: Option<&Word>) -> bool
+    ensures { result ≡ is_hit_by pattern.now (option_map (λ word. word.now) by.entry) }
 {
-    is_broad(pattern) || is_live(canceller(later, name))
+    is_broad(pattern) || is_live(by)
 }
 
-/// Whether a pattern takes a switch before these.
-fn is_taken(pattern: &Pattern<'_>, switch: &Switch, later: &[Switch]) -> bool
-    ensures { result ≡ is_taken pattern.now switch.now later.now }
+/// Whether a pattern takes the switch at a place.
+fn is_taken(pattern: &Pattern<'_>, switch: &Switch, switches: &Cancellers<'_>, place: usize) -> bool
+    requires { place < length switches.now }
+    ensures { result ≡ is_taken_by pattern.now switch.now (canceller_at switches.now place) }
 {
-    let name = switch.name.as_bytes();
-    is_named(pattern, name) && is_hit(pattern, name, later)
+    is_named(pattern, switch.name.as_bytes()) && is_hit(pattern, switches.at(place))
 }
 
 /// Whether a name's option is one of these.
@@ -115,21 +118,21 @@ fn add_option(alloc: Global, names: &mut Listing<Word>, name: &[u8]) -> Result<(
 }
 
 /// The options of the switches that a pattern takes.
-#[tactic(auto, using(crate::proofs::LineCauses::switch_told, crate::proofs::LineCauses::switch_untold))]
 pub(crate) fn taken_options(
     alloc: Global,
     pattern: &Pattern<'_>,
-    switches: &[Switch],
+    switches: &Cancellers<'_>,
 ) -> Result<Listing<Word>, AllocError>
     ensures { IfOk result (λ names. names ≡ taken_options pattern.now switches.now) }
 {
     let mut names = Listing::new(alloc);
-    let mut left = switches;
-    while let [switch, later @ ..] = left {
-        if is_taken(pattern, switch, later) {
+    let mut place = 0;
+    while place < switches.len() {
+        let switch = switches.switch(place);
+        if is_taken(pattern, switch, switches, place) {
             add_option(alloc, &mut names, switch.name.as_bytes())?;
         }
-        left = later;
+        place += 1;
     }
     Ok(names)
 }

@@ -46,7 +46,7 @@ fn takers_at(
     let Some(outer) = case.parts.get(*outer) else {
         return Ok(Listing::new(alloc));
     };
-    takers_in(alloc, kept, case.line.switches.as_slice(), part, outer)
+    takers_in(alloc, kept, case.switches, part, outer)
 }
 
 impl Kept {

@@ -4,6 +4,7 @@ ghost use Rattle.drv_why.specs.Causes.{all_caused, caused_by};
 ghost use Rattle.drv_why.specs.Code.Behind.{word_behind};
 ghost use Rattle.std.specs.Prelude.{◌≡◌, [], IfOk, OnOk, slice_get};
 
+use crate::cancelling::Cancellers;
 use crate::causes::{Case, input_at, source_of};
 use crate::origins::Marking;
 use crate::outers::outers_of;
@@ -35,6 +36,7 @@ fn set_causes(
 {
     let jobs = marking.plan.jobs.as_slice();
     let input = input_at(marking.line.inputs.as_slice(), source_of(jobs, place));
+    let switches = Cancellers::new(alloc, marking.line.switches.as_slice())?;
     let outers = outers_of(alloc, marking.parts)?;
     let mut kept = Kept::new(alloc);
     for n in 0..traces.len() {
@@ -42,6 +44,7 @@ fn set_causes(
         let trace = &read[n];
         let case = Case {
             line: marking.line,
+            switches: &switches,
             jobs,
             input,
             word: trace.word.as_bytes(),

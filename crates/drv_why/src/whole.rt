@@ -8,6 +8,7 @@ ghost use Rattle.json.specs.Json.{object};
 ghost use Rattle.json.specs.Tree.{json_tokens, members_tokens};
 ghost use Rattle.std.specs.Prelude.{◌≡◌, ◌++◌, IfOk, OnOk};
 
+use crate::cancelling::Cancellers;
 use crate::fates::{Parts, fates_report};
 use crate::fates_json::put_fates;
 use crate::origins::{Marking, origins_report};
@@ -71,8 +72,9 @@ fn put_switches(
         sources: marking.sources,
         namings,
     };
+    let switches = Cancellers::new(alloc, marking.line.switches.as_slice())?;
     out.token(Token::Key("switches"))?;
-    put_fates(alloc, out, &parts, marking.line.switches.as_slice())?;
+    put_fates(alloc, out, &parts, &switches)?;
     out.token(Token::EndObject)
 }
 

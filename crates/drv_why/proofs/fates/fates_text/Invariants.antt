@@ -2,15 +2,16 @@ use Rattle.drv_why.proofs.fates.fates_text.Given as goal
 use Rattle.drv_why.specs.Fates.{fates_text, namings_text}
 use Rattle.drv_words.specs.Bytes.{hyphen}
 use Rattle.drv_words.specs.Printed.{quoted}
-use Rattle.std.proofs.Common.{◌≡◌, ◌∷◌, ◌++◌, length}
+use Rattle.std.proofs.Common.{◌≡◌, ◌-◌, ◌∷◌, ◌++◌, drop, length}
 
 -- The loops of fates_text (src/fates.rt). What becomes of the switches of a line, as text.
 
-abbrev pub invariant-loop-left : goal.invariant-loop-left
-invariant-loop-left l =
-    (l.text ++ fates_text l.parts.sources.now l.parts.namings.now l.left ≡ fates_text l.parts.sources.now l.parts.namings.now l.switches)
+abbrev pub invariant-loop-place : goal.invariant-loop-place
+invariant-loop-place l =
+    (l.text ++ fates_text l.parts.sources.now l.parts.namings.now (drop l.place l.switches)
+    ≡ fates_text l.parts.sources.now l.parts.namings.now l.switches)
     × (l.named.text ≡ namings_text l.parts.sources.now l.named.name.now l.named.live l.parts.namings.now)
     × (l.named.option ≡ quoted (hyphen ∷ l.named.name.now))
 
-abbrev pub decreases-loop-left : goal.decreases-loop-left
-decreases-loop-left l = length l.left
+abbrev pub decreases-loop-place : goal.decreases-loop-place
+decreases-loop-place l = length l.switches - l.place

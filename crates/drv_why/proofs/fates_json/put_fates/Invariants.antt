@@ -2,14 +2,14 @@ use Rattle.drv_why.proofs.fates_json.put_fates.Given as goal
 use Rattle.drv_why.specs.FatesJson.{fates_items}
 use Rattle.json.specs.Token.{begin_array}
 use Rattle.json.specs.Tree.{items_tokens}
-use Rattle.std.proofs.Common.{◌≡◌, ◌∷◌, ◌++◌, length}
+use Rattle.std.proofs.Common.{◌≡◌, ◌-◌, ◌∷◌, ◌++◌, drop, length}
 
 -- The loops of put_fates (src/fates_json.rt). Writes what becomes of switches as an array.
 
-abbrev pub invariant-loop-left : goal.invariant-loop-left
-invariant-loop-left l =
-    l.out ++ items_tokens (fates_items l.parts.sources.now l.parts.namings.now l.left)
+abbrev pub invariant-loop-place : goal.invariant-loop-place
+invariant-loop-place l =
+    l.out ++ items_tokens (fates_items l.parts.sources.now l.parts.namings.now (drop l.place l.switches))
     ≡ l.fn.out ++ begin_array ∷ items_tokens (fates_items l.parts.sources.now l.parts.namings.now l.switches)
 
-abbrev pub decreases-loop-left : goal.decreases-loop-left
-decreases-loop-left l = length l.left
+abbrev pub decreases-loop-place : goal.decreases-loop-place
+decreases-loop-place l = length l.switches - l.place

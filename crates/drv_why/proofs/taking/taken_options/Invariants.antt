@@ -1,11 +1,11 @@
 use Rattle.drv_why.proofs.taking.taken_options.Given as goal
 use Rattle.drv_why.specs.Taken.{taken_options, with_switches}
-use Rattle.std.proofs.Common.{◌≡◌, length}
+use Rattle.std.proofs.Common.{◌≡◌, ◌-◌, drop, length}
 
 -- The loops of taken_options (src/taking.rt). The options of the switches that a pattern takes.
 
-abbrev pub invariant-loop-left : goal.invariant-loop-left
-invariant-loop-left l = with_switches l.pattern l.names l.left ≡ taken_options l.pattern l.switches
+abbrev pub invariant-loop-place : goal.invariant-loop-place
+invariant-loop-place l = with_switches l.pattern l.names (drop l.place l.switches) ≡ taken_options l.pattern l.switches
 
-abbrev pub decreases-loop-left : goal.decreases-loop-left
-decreases-loop-left l = length l.left
+abbrev pub decreases-loop-place : goal.decreases-loop-place
+decreases-loop-place l = length l.switches - l.place
