@@ -2,20 +2,22 @@ use Rattle.drv_check.specs.MarkWords.{mark_end}
 use Rattle.drv_forms.specs.Difference.{words_of}
 use Rattle.drv_why.specs.Code.Marks.{has_mark, unmarked}
 use Rattle.drv_why.specs.Origins.{Marking, command_json, command_text, is_cut, origins_from, origins_items, shown}
-use Rattle.drv_why.specs.Traces.{are_words, at_word, is_found, read, taken, taken_by, traces_by, traces_of, with_byte}
+use Rattle.drv_why.specs.Traces.{all_worded, are_words, at_word, is_found, read, taken, taken_by, traces_by, traces_of, with_byte, worded}
 use Rattle.drv_why.specs.declared.traces.Trace.{Trace}
 use Rattle.drv_words.specs.declared.plan.Command.{Command}
 use Rattle.drv_words.specs.declared.plan.PlanLine.{PlanLine}
 use Rattle.json.specs.Token.{Token}
 use Rattle.json.specs.Tree.{items_tokens, json_tokens}
-use Rattle.std.proofs.Common.{◌≡◌, ◌∙◌, ◌<◌, ◌+◌, ◌-◌, ◌++◌, ◌∷◌, Bool, List, None, Option, Some, [], ap, append_assoc}
-use Rattle.std.proofs.Common.{codes, drop, false, length, refl, sym, true, ℕ}
+use Rattle.std.proofs.Common.{◌≡◌, ◌∙◌, ◌<◌, ◌≤◌, ◌⊎◌, ◌+◌, ◌-◌, ◌++◌, ◌∷◌, inl, inr, Bool, List, None, Option, Some, [], ap, append_assoc}
+use Rattle.std.proofs.Common.{arith, codes, drop, false, length, refl, set, sym, take, true, ℕ}
+use Rattle.std.proofs.lemmas.Bool.{and_parts}
 use Rattle.std.proofs.lemmas.Bool.Decides.{Decides-eqb}
-use Rattle.std.proofs.lemmas.List.{append-nil, drop_more}
+use Rattle.std.proofs.lemmas.List.{append-nil, drop-set-lt, drop_all, drop_more, take_more_set}
+use Rattle.std.proofs.lemmas.Option.{slice_get_cases}
 use Rattle.std.proofs.lemmas.Slice.Eq.{slice_eq-Decides}
 use Rattle.std.specs.Cmp.Lexicographic.{pointwise}
 use Rattle.std.specs.Option.{option_to_list, unwrap_or}
-use Rattle.std.specs.Prelude.{◌==◌, ◌||◌, get_or, if◌then◌else◌, nat_eq}
+use Rattle.std.specs.Prelude.{◌==◌, ◌||◌, get_or, if◌then◌else◌, map, nat_eq, slice_get}
 
 -- For origins_report (src/origins.rt): the words of a command beside those of the plan, the bytes of a part, and the commands of a plan,
 -- one after another.
@@ -63,16 +65,86 @@ pub are_next : (t : Trace) (word : List ℕ) (ts ts' : List Trace) (words words'
 are_next t word ts ts' words words' cut cut' is =
     ap (λ xs. are_words xs words) cut ∙ ap (λ ws. are_words (t ∷ ts') ws) cut' ∙ rw is refl
 
+-- For `take_word`: a word takes the one at this place.
+pub worded_so : (words : List (List ℕ)) (n : ℕ) (t : Trace) (word : List ℕ) → Some word ≡ slice_get words n
+    → record t { word = word } ≡ worded words n t
+worded_so words n t word is = ap (λ o. record t { word = unwrap_or o t.word }) is
+
+-- For `take_word`: it has those bytes.
+pub worded_alike : (words : List (List ℕ)) (n : ℕ) (t : Trace) (word : List ℕ) → Some word ≡ slice_get words n → t.word ≡ word
+    → t ≡ worded words n t
+worded_alike words n t word is same = ap (λ w. record t { word = w }) same ∙ worded_so words n t word is
+
+-- For `take_word`: there is no word at this place.
+pub worded_not : (words : List (List ℕ)) (n : ℕ) (t : Trace) → None ≡ slice_get words n → t ≡ worded words n t
+worded_not words n t none = ap (λ o. record t { word = unwrap_or o t.word }) none
+
+-- words of which those before the place n have their bytes in the plan, with those of the others
+abbrev pub half_worded : List (List ℕ) → ℕ → List Trace → List Trace
+half_worded words n ts = take n ts ++ all_worded words n (drop n ts)
+
+-- For `set_words`: if the words so far and those left are the whole, then they still are after one word more.
+pub worded_next : (words : List (List ℕ)) (n : ℕ) (t it : Trace) (all whole : List Trace) → n < length all → t ≡ get_or all n t
+    → it ≡ worded words n t → half_worded words n all ≡ whole → half_worded words (n + 1) (set all n it) ≡ whole
+worded_next words n t it all whole below here is so_far =
+    let read : take (n + 1) (set all n it) ≡ take n all ++ it ∷ [] = take_more_set all n it below in
+    let left : drop (n + 1) (set all n it) ≡ drop (n + 1) all = drop-set-lt (n + 1) all n it (omega (arith)) in
+    ap (λ ts. ts ++ all_worded words (n + 1) (drop (n + 1) (set all n it))) read
+    ∙ ap (λ ts. (take n all ++ it ∷ []) ++ all_worded words (n + 1) ts) left
+    ∙ append_assoc (take n all) (it ∷ []) (all_worded words (n + 1) (drop (n + 1) all))
+    ∙ ap (λ x. take n all ++ x ∷ all_worded words (n + 1) (drop (n + 1) all)) is
+    ∙ ap (λ x. take n all ++ all_worded words n (x ∷ drop (n + 1) all)) here
+    ∙ ap (λ ts. take n all ++ all_worded words n ts) (sym (drop_more all n t below))
+    ∙ so_far
+
+-- lists that are the same begin alike
+heads : {x y : List ℕ} {xs ys : List (List ℕ)} → x ∷ xs ≡ y ∷ ys → x ≡ y
+heads same = cc
+
+-- and go on alike
+tails : {x y : List ℕ} {xs ys : List (List ℕ)} → x ∷ xs ≡ y ∷ ys → xs ≡ ys
+tails same = cc
+
+-- the first of the words from the place n on is the word there, and the others are those behind it
+at_place : (words : List (List ℕ)) (n : ℕ) (word : List ℕ) (left : List (List ℕ)) → drop n words ≡ word ∷ left
+    → (slice_get words n ≡ Some word) × (drop (n + 1) words ≡ left)
+at_place words n word left is = by (slice_get_cases words n).1
+  where
+    -- Plan: `by` goes by the cases of the place n.
+    by : ((x : List ℕ) × (n < length words) × (slice_get words n ≡ Some x) × (get_or words n x ≡ x))
+        ⊎ ((length words ≤ n) × (slice_get words n ≡ None))
+        → (slice_get words n ≡ Some word) × (drop (n + 1) words ≡ left)
+    by (inl (x, below, got, read)) =
+        let cut : x ∷ drop (n + 1) words ≡ word ∷ left =
+        sym (drop_more words n x below ∙ ap (λ y. y ∷ drop (n + 1) words) read) ∙ is in
+        (got ∙ ap Some (heads cut), tails cut)
+    by (inr (past, none)) =
+        let nothing : [] ≡ word ∷ left = sym (drop_all n words past) ∙ is in
+        absurd cc
+
+-- words that are those from the place n on get the bytes of these
+given_words : (words : List (List ℕ)) (n : ℕ) (ts : List Trace) (left : List (List ℕ)) → drop n words ≡ left → are_words ts left ≡ true
+    → map (λ t. t.word) (all_worded words n ts) ≡ left
+given_words words n [] [] cut is = refl
+given_words words n [] (word ∷ left) cut is = absurd cc
+given_words words n (t ∷ ts) [] cut is = absurd cc
+given_words words n (t ∷ ts) (word ∷ left) cut is =
+    let here : (slice_get words n ≡ Some word) × (drop (n + 1) words ≡ left) = at_place words n word left cut in
+    ap (λ o. unwrap_or o t.word ∷ map (λ t. t.word) (all_worded words (n + 1) ts)) here.0
+    ∙ ap (λ ws. word ∷ ws) (given_words words (n + 1) ts left here.1 (and_parts (is_found word t.word) (are_words ts left) is).1)
+
 -- where the parts are known, the words are those of the command
 pub traced_alike : (command : Command) (marked : Option PlanLine) (ts : List Trace) → traces_by command marked ≡ Some ts
-    → are_words ts (words_of command) ≡ true
+    → map (λ t. t.word) ts ≡ words_of command
 traced_alike command None ts known = absurd cc
 traced_alike command (Some line) ts known = by (are_words (traces_of line.command) (words_of command)) refl known
   where
     -- Plan: `by` goes by both answers of `are_words (traces_of line.command) (words_of command)`.
     by : (test : Bool) → are_words (traces_of line.command) (words_of command) ≡ test
-        → (if test then Some (traces_of line.command) else None) ≡ Some ts → are_words ts (words_of command) ≡ true
-    by true is same = ap (λ xs. are_words xs (words_of command)) (sym (ap (λ o. unwrap_or o []) same)) ∙ is
+        → (if test then Some (all_worded (words_of command) 0 (traces_of line.command)) else None) ≡ Some ts
+        → map (λ t. t.word) ts ≡ words_of command
+    by true is same =
+        ap (map (λ t. t.word)) (sym (ap (λ o. unwrap_or o []) same)) ∙ given_words (words_of command) 0 (traces_of line.command) (words_of command) refl is
     by false is same = absurd cc
 
 -- two lists of numbers, and two of words, that compare alike are the same

@@ -7,9 +7,9 @@ use Rattle.drv_words.specs.declared.plan.Command.{Command}
 use Rattle.drv_words.specs.declared.plan.PlanLine.{PlanLine}
 use Rattle.std.specs.Cmp.Lexicographic.{pointwise}
 use Rattle.std.specs.List.{ends_with}
-use Rattle.std.specs.Option.{option_to_list}
+use Rattle.std.specs.Option.{option_to_list, unwrap_or}
 use Rattle.std.specs.Prelude.{◌+◌, ◌*◌, ◌-◌, ◌==◌, ◌&&◌, ◌||◌, Bool, List, [], ◌∷◌, ◌++◌, None, Option, Some, false}
-use Rattle.std.specs.Prelude.{if◌then◌else◌, length, nat_eq}
+use Rattle.std.specs.Prelude.{if◌then◌else◌, length, nat_eq, slice_get}
 use Rattle.std.specs.Prelude.{nat_lt, not, take, true, ℕ}
 
 -- The parts of texts that each word of a command has its bytes from (this project's profile). A set with marks before its parts gives a
@@ -113,9 +113,18 @@ are_words [] (word ∷ words) = false
 are_words (t ∷ ts) [] = false
 are_words (t ∷ ts) (word ∷ words) = is_found word t.word && are_words ts words
 
+-- a word with its bytes in the plan, where it is the one at this place of these
+abbrev pub worded : List (List ℕ) → ℕ → Trace → Trace
+worded words n t = record t { word = unwrap_or (slice_get words n) t.word }
+
+-- words with their bytes in the plan, the first of which is at this place of these
+abbrev pub all_worded : List (List ℕ) → ℕ → List Trace → List Trace
+all_worded words n [] = []
+all_worded words n (t ∷ ts) = worded words n t ∷ all_worded words (n + 1) ts
+
 -- the words of a command of the plan with their parts, by the marked command, if that has the same words
 abbrev pub command_traces : List Trace → Command → Option (List Trace)
-command_traces ts command = if are_words ts (words_of command) then Some ts else None
+command_traces ts command = if are_words ts (words_of command) then Some (all_worded (words_of command) 0 ts) else None
 
 -- the same by the line of the marked plan in its place, if there is one
 abbrev pub traces_by : Command → Option PlanLine → Option (List Trace)

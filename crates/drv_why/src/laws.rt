@@ -5,12 +5,12 @@ ghost use Rattle.drv_forms.specs.Difference.{words_of};
 ghost use Rattle.drv_match.specs.Matching.{is_live, name_at};
 ghost use Rattle.drv_why.specs.Fates.{canceller};
 ghost use Rattle.drv_why.specs.Parts.{part_words, parts_of};
-ghost use Rattle.drv_why.specs.Traces.{are_words, traces_by};
+ghost use Rattle.drv_why.specs.Traces.{traces_by};
 ghost use Rattle.drv_why.specs.declared.traces.Trace.{Trace};
 ghost use Rattle.drv_words.specs.declared.plan.Command.{Command};
 ghost use Rattle.drv_words.specs.declared.plan.PlanLine.{PlanLine};
 ghost use Rattle.std.specs.List.{flat_map};
-ghost use Rattle.std.specs.Prelude.{◌≡◌, ◌+◌, List, Option, Some, drop, is_none, map, true, ℕ};
+ghost use Rattle.std.specs.Prelude.{◌≡◌, ◌+◌, List, Option, Some, drop, is_none, map, ℕ};
 
 /// Each word of a line belongs to one part: the words of its parts, one part after another, are the
 /// line.
@@ -28,10 +28,9 @@ pub fn live_is_uncancelled()
         ≡ is_live (map (λ s. s.name) switches) i }
 {}
 
-/// Where the parts of a command's words are known, the words without marks are those of the command
-/// of the plan.
+/// Where the parts of a command's words are known, the words are those of the command of the plan.
 #[tactic(auto, using(crate::proofs::WordTraces::traced_alike))]
 pub fn traced_words_are_the_commands()
     ensures { (command : Command) (marked : Option PlanLine) (traces : List Trace)
-        → traces_by command marked ≡ Some traces → are_words traces (words_of command) ≡ true }
+        → traces_by command marked ≡ Some traces → map (λ t. t.word) traces ≡ words_of command }
 {}

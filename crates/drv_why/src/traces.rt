@@ -4,7 +4,8 @@ ghost use Rattle.drv_forms.specs.Difference.{words_of};
 ghost use Rattle.drv_why.specs.Code.Marks.{has_mark, unmarked};
 ghost use Rattle.drv_why.specs.Traces.{are_words, at_word, before_name, in_mark, is_found, is_marks, no_traces, outside_marks, read, taken};
 ghost use Rattle.drv_why.specs.Traces.{command_traces, traces_by, traces_of, with_byte, with_digit};
-ghost use Rattle.drv_why.specs.Traces.{with_trace, with_word, words_read};
+ghost use Rattle.drv_why.specs.Traces.{all_worded, with_trace, with_word, worded, words_read};
+ghost use Rattle.std.specs.Option.{option_map};
 ghost use Rattle.std.specs.Prelude.{◌≡◌, IfOk, OnOk, slice_get};
 
 use drv_words::{Command, Listing, PlanLine, Word};
@@ -19,7 +20,7 @@ const MOST_NUMBER: usize = 1_000_000_000;
 /// A word of a marked command, as far as its bytes were read.
 #[derive(Debug, Drop)]
 pub(crate) struct Trace {
-    /// Its bytes without marks.
+    /// Its bytes without marks, and then those in the plan.
     pub(crate) word: Word,
     /// The numbers of the parts that those are of.
     pub(crate) parts: Listing<usize>,
@@ -274,15 +275,56 @@ fn are_of(traces: &[Trace], command: &Command) -> bool
     }
 }
 
-/// Words with their parts, if they are those of a command.
-fn command_traces(traces: Listing<Trace>, command: &Command) -> Option<Listing<Trace>>
-    ensures { result ≡ command_traces traces command.now }
+/// The word at a place of a command, whose program is the first.
+fn word_at(command: &Command, place: usize) -> Option<&Word>
+    ensures { option_map (λ word. word.now) result ≡ slice_get (words_of command.now) place }
 {
-    if are_of(traces.as_slice(), command) {
-        Some(traces)
-    } else {
-        None
+    match place {
+        0 => Some(&command.program),
+        _ => command.words.as_slice().get(place - 1),
     }
+}
+
+impl Trace {
+    /// Takes its bytes in the plan, as the word at this place of a command.
+    #[tactic(auto, using(crate::proofs::WordTraces::worded_so, crate::proofs::WordTraces::worded_alike, crate::proofs::WordTraces::worded_not))]
+    fn take_word(&mut self, command: &Command, place: usize) -> Result<(), AllocError>
+        ensures { OnOk result (self.new ≡ worded (words_of command.now) place self.old) }
+    {
+        let Some(word) = word_at(command, place) else {
+            return Ok(());
+        };
+        if self.word.as_bytes() != word.as_bytes() {
+            self.word = word.clone()?;
+        }
+        Ok(())
+    }
+}
+
+/// Gives each word its bytes in the plan: a file that was found has its path there.
+#[tactic(auto, using(crate::proofs::WordTraces::worded_next))]
+fn set_words(traces: &mut [Trace], command: &Command) -> Result<(), AllocError>
+    ensures { OnOk result (traces.new ≡ all_worded (words_of command.now) 0 traces.old) }
+{
+    for n in 0..traces.len() {
+        traces[n].take_word(command, n)?;
+    }
+    Ok(())
+}
+
+/// Words with their parts, if they are those of a command.
+fn command_traces(
+    traces: Listing<Trace>,
+    command: &Command,
+) -> Result<Option<Listing<Trace>>, AllocError>
+    ensures { IfOk result (λ known. known ≡ command_traces traces command.now) }
+{
+    if !are_of(traces.as_slice(), command) {
+        return Ok(None);
+    }
+    let mut all = traces.into_vec();
+    set_words(all.as_mut_slice(), command)?;
+    Ok(Some(Listing::from_vec(all)))
 }
 
 /// The words of a command of the plan with their parts, by the line at this place of the marked plan.
@@ -296,10 +338,7 @@ pub(crate) fn traces_at(
         (λ traces. traces ≡ traces_by command.now (slice_get lines.now place)) }
 {
     match lines.get(place) {
-        Some(line) => {
-            let traces = traces_of(alloc, &line.command)?;
-            Ok(command_traces(traces, command))
-        }
+        Some(line) => command_traces(traces_of(alloc, &line.command)?, command),
         None => Ok(None),
     }
 }
