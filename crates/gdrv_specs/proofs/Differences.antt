@@ -7,9 +7,11 @@ use Rattle.drv_system.specs.Asking.{AreNew, Asks, Extends}
 use Rattle.drv_system.specs.Facts.{Facts, no_facts}
 use Rattle.drv_system.specs.declared.event.Event.{Event}
 use Rattle.gdrv_specs.proofs.Told.{known}
-use Rattle.gdrv_specs.specs.Differences.{ComesTwice, TellsDifference, TellsWorks, difference_in, with_specs}
+use Rattle.gdrv_specs.specs.Differences.{ComesTwice, TellsDifference, TellsWorks, difference_in, path_of, stopped_with, with_specs}
 use Rattle.gdrv_specs.specs.Told.{PutsText}
 use Rattle.gdrv_specs.specs.declared.differing.Comparison.{Comparison}
+use Rattle.gdrv_specs.specs.declared.differing.Side.TheVariants.{First, Second}
+use Rattle.gdrv_specs.specs.declared.differing.Stop.{Stop}
 use Rattle.gdrv_specs.specs.declared.outcome.Outcome.TheVariants.{Ended, NoPlan}
 use Rattle.gdrv_specs.specs.declared.outcome.Outcome.{Outcome}
 use Rattle.std.proofs.Common.{◌≡◌, ◌∙◌, ◌++◌, Err, List, None, Ok, Some, [], ap, inl, inr, refl, subst, sym, ℕ}
@@ -18,7 +20,8 @@ use Rattle.std.proofs.lemmas.List.{append-nil}
 -- For `tell_difference` (src/differing.rt): the call prints what differs between two works.
 -- Names: `journal` is the events of the system before, `journal'` after the questions, and `journal''` at the end. `F`, `F'` and `G` are
 -- what is known of the outside. `c` is two spec files and a line. `work` and `work'` (or `other`) are what the line asks for with each.
--- `seed` is that for the names of temporaries. `ending` is how a line ends in place of a work. `outcome` is how the call ends. `Comes F
+-- `seed` is that for the names of temporaries. `ending` is how a line ends in place of a work, and `stop` the same with the file of the
+-- line. `outcome` is how the call ends. `Comes F
 -- args seed result`: the arguments ask for that work, or end so (drv_run). `with_specs` is a line with one more spec file. `ComesTwice`,
 -- `TellsWorks` and `TellsDifference` are in specs/Differences. `Asks journal journal' F F'`: questions were added, and their answers to the
 -- facts (drv_system).
@@ -56,32 +59,32 @@ comes_both F c seed work other line same first second = (
 
 -- the first line has none: its ending is the call's
 pub ends_first : (F : Facts) (c : Comparison) (seed : ℕ) (ending : Ending) (line : List (List ℕ)) → line ≡ c.line
-    → Comes F (with_specs c.first line) seed (Err ending) → ComesTwice F c seed (Err ending)
-ends_first F c seed ending line same comes = inl (subst (λ l. Comes F (with_specs c.first l) seed (Err ending)) same comes)
+    → Comes F (with_specs c.first line) seed (Err ending) → ComesTwice F c seed (Err (record { side = First; ending = ending }))
+ends_first F c seed ending line same comes = subst (λ l. Comes F (with_specs c.first l) seed (Err ending)) same comes
 
 -- the second line has none, and the first has: its ending is the call's
 pub ends_second : (F : Facts) (c : Comparison) (seed : ℕ) (work : Work) (ending : Ending) (line : List (List ℕ)) → line ≡ c.line
     → Comes F (with_specs c.first line) seed (Ok work) → Comes F (with_specs c.second line) seed (Err ending)
-    → ComesTwice F c seed (Err ending)
-ends_second F c seed work ending line same first second =
-    inr (
-      work,
-      subst (λ l. Comes F (with_specs c.first l) seed (Ok work)) same first,
-      subst (λ l. Comes F (with_specs c.second l) seed (Err ending)) same second,
-    )
+    → ComesTwice F c seed (Err (record { side = Second; ending = ending }))
+ends_second F c seed work ending line same first second = (
+  work,
+  subst (λ l. Comes F (with_specs c.first l) seed (Ok work)) same first,
+  subst (λ l. Comes F (with_specs c.second l) seed (Err ending)) same second,
+)
 
 -- A call that prints the difference: without two works, and with them.
 
 -- the call ended without two works
-pub compares_before : {journal journal' : List Event} {F F' : Facts} (c : Comparison) (seed : ℕ) (ending : Ending) → F ≡ no_facts
-    → Asks journal journal' F F' → ((G : Facts) → Extends F' G → ComesTwice G c seed (Err ending))
-    → TellsDifference journal journal' c seed (Ended ending)
-compares_before {journal} {F' = F'} c seed ending empty asks comes = record {
+pub compares_before : {journal journal' : List Event} {F F' : Facts} (c : Comparison) (seed : ℕ) (stop : Stop) (outcome : Outcome)
+    → F ≡ no_facts → Asks journal journal' F F' → ((G : Facts) → Extends F' G → ComesTwice G c seed (Err stop))
+    → outcome ≡ stopped_with (path_of c stop.side) stop.ending
+    → TellsDifference journal journal' c seed outcome
+compares_before {journal} {F' = F'} c seed stop outcome empty asks comes is = record {
   asked = asks.asked;
   told = [];
   questions = subst (λ G. AreNew G asks.asked) empty asks.questions;
   journal_grows = asks.journal_grows ∙ sym (append-nil (journal ++ asks.asked));
-  ends = inl (ending, refl, subst (λ G. ComesTwice G c seed (Err ending)) (known empty asks) (comes F' (extends_refl F')), refl);
+  ends = inl (stop, is, subst (λ G. ComesTwice G c seed (Err stop)) (known empty asks) (comes F' (extends_refl F')), refl);
 }
 
 -- the difference of the two works was printed, over the answers to the call's questions alone

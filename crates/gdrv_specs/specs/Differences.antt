@@ -2,8 +2,9 @@ use Rattle.drv_check.specs.Differing.{texts_difference}
 use Rattle.drv_forms.specs.Difference.{changes, difference}
 use Rattle.drv_forms.specs.declared.comparing.LineChange.{LineChange}
 use Rattle.drv_run.specs.Drives.{Comes, Drives}
-use Rattle.drv_run.specs.declared.ending.Ending.TheVariants.{Done, OutOfMemory}
+use Rattle.drv_run.specs.declared.ending.Ending.TheVariants.{Done, OutOfMemory, Refused}
 use Rattle.drv_run.specs.declared.ending.Ending.{Ending}
+use Rattle.drv_run.specs.declared.ending.Refusal.TheVariants.{Plan as NotPlanned, Specs}
 use Rattle.drv_run.specs.declared.work.Work.{Work}
 use Rattle.drv_system.specs.Asking.{AreNew}
 use Rattle.drv_system.specs.Facts.{Facts, learn, no_facts}
@@ -12,7 +13,10 @@ use Rattle.drv_words.specs.declared.plan.Plan.{Plan}
 use Rattle.gdrv_specs.specs.Plans.{dump_in, plan_in}
 use Rattle.gdrv_specs.specs.Told.{Puts}
 use Rattle.gdrv_specs.specs.declared.differing.Comparison.{Comparison}
-use Rattle.gdrv_specs.specs.declared.outcome.Outcome.TheVariants.{Ended, NoPlan}
+use Rattle.gdrv_specs.specs.declared.differing.Side.TheVariants.{First, Second}
+use Rattle.gdrv_specs.specs.declared.differing.Side.{Side}
+use Rattle.gdrv_specs.specs.declared.differing.Stop.{Stop}
+use Rattle.gdrv_specs.specs.declared.outcome.Outcome.TheVariants.{Ended, NoPlan, RefusedWith}
 use Rattle.gdrv_specs.specs.declared.outcome.Outcome.{Outcome}
 use Rattle.std.specs.Prelude.{◌≡◌, ◌⊎◌, Err, List, [], ◌∷◌, ◌++◌, None, Ok, Option, Result, Some, codes, ℕ}
 
@@ -24,12 +28,28 @@ use Rattle.std.specs.Prelude.{◌≡◌, ◌⊎◌, Err, List, [], ◌∷◌, �
 abbrev pub with_specs : List ℕ → List (List ℕ) → List (List ℕ)
 with_specs path line = (codes "-specs=" ++ path) ∷ line
 
+-- a line has this ending in place of a work: that with the first file, or that with the second where the first line has a work
+abbrev pub StopsAt : Facts → Comparison → ℕ → Side → Ending → Type 0
+StopsAt F c seed First ending = Comes F (with_specs c.first c.line) seed (Err ending)
+StopsAt F c seed Second ending =
+    (work : Work) × Drives F (with_specs c.first c.line) seed work × Comes F (with_specs c.second c.line) seed (Err ending)
+
 -- What the two lines ask for: two works, or an ending in their place, of the first line where that has one.
-abbrev pub ComesTwice : Facts → Comparison → ℕ → Result (Work × Work) Ending → Type 0
+abbrev pub ComesTwice : Facts → Comparison → ℕ → Result (Work × Work) Stop → Type 0
 ComesTwice F c seed (Ok works) = Drives F (with_specs c.first c.line) seed works.0 × Drives F (with_specs c.second c.line) seed works.1
-ComesTwice F c seed (Err ending) =
-    Comes F (with_specs c.first c.line) seed (Err ending)
-    ⊎ ((work : Work) × Drives F (with_specs c.first c.line) seed work × Comes F (with_specs c.second c.line) seed (Err ending))
+ComesTwice F c seed (Err stop) = StopsAt F c seed stop.side stop.ending
+
+-- the path of one of the two files
+abbrev pub path_of : Comparison → Side → List ℕ
+path_of c First = c.first
+path_of c Second = c.second
+
+-- How a call ends for a line that has this ending with the spec file of a path. A file has a part in what refuses spec texts or the plan,
+-- so it is named; it has none in what refuses the words of the line.
+abbrev pub stopped_with : List ℕ → Ending → Outcome
+stopped_with path (Refused (Specs fault)) = RefusedWith path (Specs fault)
+stopped_with path (Refused (NotPlanned fault)) = RefusedWith path (NotPlanned fault)
+stopped_with path ending = Ended ending
 
 -- what differs between two works: between their plans, or between the texts of two dumps
 
@@ -75,7 +95,7 @@ TellsWorks journal journal' work other outcome = (told : List Event) × (journal
 -- what follows the questions of a call, by how it ended
 abbrev pub EndsTwice : Facts → Comparison → ℕ → Outcome → List Event → Type 0
 EndsTwice F c seed outcome told =
-    ((ending : Ending) × (outcome ≡ Ended ending) × ComesTwice F c seed (Err ending) × (told ≡ []))
+    ((stop : Stop) × (outcome ≡ stopped_with (path_of c stop.side) stop.ending) × ComesTwice F c seed (Err stop) × (told ≡ []))
     ⊎ ((work : Work) × (other : Work) × ComesTwice F c seed (Ok (work, other)) × TellsBoth work other outcome told)
 
 -- A call that prints the difference: it asked what it did not know, and its ending is that of the answers to these questions alone.

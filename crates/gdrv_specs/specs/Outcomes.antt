@@ -3,10 +3,12 @@ use Rattle.drv_after.specs.declared.worded.GivenFault.{GivenFault}
 use Rattle.drv_run.specs.Exits.{exit_status_of}
 use Rattle.drv_run.specs.Texts.{around, refusal_text}
 use Rattle.drv_run.specs.declared.ending.Ending.TheVariants.{Done, OutOfMemory, Refused}
+use Rattle.drv_run.specs.declared.ending.Refusal.{Refusal}
 use Rattle.gdrv_specs.specs.declared.calling.CallFault.TheVariants.{Memory, MissingAnswer, MissingFile, NoCommand, NoFiles, NotOneFile}
 use Rattle.gdrv_specs.specs.declared.calling.CallFault.TheVariants.{NotTwoFiles, TooManyAnswers, UnknownCommand, UnknownOption}
 use Rattle.gdrv_specs.specs.declared.calling.CallFault.{CallFault}
-use Rattle.gdrv_specs.specs.declared.outcome.Outcome.TheVariants.{Ended, Misused, NoDump, NoFile, NoPlan, NoRun, Translated, Unanswered}
+use Rattle.gdrv_specs.specs.declared.outcome.Outcome.TheVariants.{Ended, Misused, NoDump, NoFile, NoPlan, NoRun, RefusedWith}
+use Rattle.gdrv_specs.specs.declared.outcome.Outcome.TheVariants.{Translated, Unanswered}
 use Rattle.gdrv_specs.specs.declared.outcome.Outcome.{Outcome}
 use Rattle.std.specs.List.{flat_map}
 use Rattle.std.specs.Prelude.{List, [], ◌++◌, codes, decimal, ℕ}
@@ -17,6 +19,7 @@ use Rattle.std.specs.Prelude.{List, [], ◌++◌, codes, decimal, ℕ}
 -- the exit status of a call
 abbrev pub status_of : Outcome → ℕ
 status_of (Ended ending) = exit_status_of ending
+status_of (RefusedWith path refusal) = 1
 status_of NoPlan = 1
 status_of NoRun = 1
 status_of (Unanswered word fault) = 1
@@ -28,6 +31,11 @@ status_of (Misused fault) = 1
 -- a line that names these words
 abbrev pub told_line : List ℕ → List ℕ
 told_line words = codes "gdrv-specs: " ++ words ++ codes "\n"
+
+-- a line that is refused with a spec file: the driver's words, and a note that names the file
+abbrev pub refused_with_text : List ℕ → Refusal → List ℕ
+refused_with_text path refusal =
+    told_line (refusal_text refusal) ++ told_line (around (codes "note: refused with '") path (codes "'"))
 
 -- why a word of --fail gives no answer
 abbrev pub unanswered_text : List ℕ → GivenFault → List ℕ
@@ -69,6 +77,7 @@ abbrev pub text_of : Outcome → List ℕ
 text_of (Ended (Done status)) = []
 text_of (Ended (Refused refusal)) = told_line (refusal_text refusal)
 text_of (Ended OutOfMemory) = told_line (codes "out of memory")
+text_of (RefusedWith path refusal) = refused_with_text path refusal
 text_of NoPlan = told_line (codes "a line with '-dumpspecs' has no plan")
 text_of NoRun = told_line (codes "a line with '-###' has no run")
 text_of (Unanswered word fault) = unanswered_text word fault

@@ -8,8 +8,8 @@ ghost use Rattle.drv_system.specs.Asking.{Extends};
 ghost use Rattle.drv_system.specs.Code.Asked.{Asked};
 ghost use Rattle.drv_system.specs.Facts.{Facts};
 ghost use Rattle.gdrv_specs.specs.Differences.{ComesTwice, TellsDifference, TellsWorks, difference_in};
-ghost use Rattle.gdrv_specs.specs.Differences.{dumps_difference, plans_changes, plans_difference};
-ghost use Rattle.gdrv_specs.specs.Differences.{with_specs};
+ghost use Rattle.gdrv_specs.specs.Differences.{dumps_difference, path_of, plans_changes};
+ghost use Rattle.gdrv_specs.specs.Differences.{plans_difference, stopped_with, with_specs};
 ghost use Rattle.gdrv_specs.specs.Plans.{dump_in, plan_in};
 ghost use Rattle.gdrv_specs.specs.Told.{PutsText};
 ghost use Rattle.std.specs.Option.{option_map};
@@ -18,7 +18,7 @@ ghost use Rattle.std.specs.Prelude.{◌≡◌, IfOk, OnErr, Some};
 use crate::outcome::Outcome;
 use drv_check::texts_difference;
 use drv_forms::{LineChange, changes, difference};
-use drv_run::{Ending, Work, status_of, work_of_call};
+use drv_run::{Ending, Refusal, Work, status_of, work_of_call};
 use drv_system::{FactTable, Outside, System};
 use drv_words::{Listing, Plan, Word};
 use std::alloc::{AllocError, Global};
@@ -32,6 +32,23 @@ pub struct Comparison {
     pub second: Word,
     /// The words of the line.
     pub line: Listing<Word>,
+}
+
+/// One of the two spec files.
+#[derive(Clone, Copy, Debug)]
+pub enum Side {
+    /// The first one.
+    First,
+    /// The second one.
+    Second,
+}
+
+/// How a line ends in place of a work.
+#[derive(Drop)]
+struct Stop {
+    /// The spec file that the line has.
+    side: Side,
+    ending: Ending,
 }
 
 /// A line with one more spec file before its words.
@@ -71,13 +88,14 @@ fn work_with<S: System>(
     }
 }
 
-/// What a line asks for with each of the two files.
+/// What a line asks for with each of the two files, or how it ends with the first one that has an
+/// ending.
 fn works_of<S: System>(
     alloc: Global,
     comparison: &Comparison,
     seed: u32,
     outside: &mut Outside<'_, S>,
-) -> Result<(Work, Work), Ending>
+) -> Result<(Work, Work), Stop>
     ensures asks { Asked S.events outside.old outside.new }
     ensures comes { (F : Facts) → Extends outside.new.facts.now F → ComesTwice F comparison.now seed result }
 {
@@ -85,9 +103,15 @@ fn works_of<S: System>(
     match work_with(alloc, &comparison.first, line, seed, outside) {
         Ok(work) => match work_with(alloc, &comparison.second, line, seed, outside) {
             Ok(other) => Ok((work, other)),
-            Err(ending) => Err(ending),
+            Err(ending) => Err(Stop {
+                side: Side::Second,
+                ending,
+            }),
         },
-        Err(ending) => Err(ending),
+        Err(ending) => Err(Stop {
+            side: Side::First,
+            ending,
+        }),
     }
 }
 
@@ -234,21 +258,46 @@ fn compare_works<S: System>(alloc: Global, sys: &mut S, work: &Work, other: &Wor
     }
 }
 
+/// The path of one of two files.
+fn path_of(comparison: Comparison, side: Side) -> Word
+    ensures { result ≡ path_of comparison side }
+{
+    match side {
+        Side::First => comparison.first,
+        Side::Second => comparison.second,
+    }
+}
+
+/// The outcome for a line that ends so with the spec file of this path: a refusal that the file may
+/// have a part in names it.
+fn stopped_with(path: Word, ending: Ending) -> Outcome
+    ensures { result ≡ stopped_with path ending }
+{
+    match ending {
+        Ending::Refused(Refusal::Specs(fault)) => {
+            Outcome::RefusedWith(path, Refusal::Specs(fault))
+        }
+        Ending::Refused(Refusal::Plan(fault)) => Outcome::RefusedWith(path, Refusal::Plan(fault)),
+        ending => Outcome::Ended(ending),
+    }
+}
+
 /// Writes to standard output what differs between the plan of a line with one spec file and that
 /// with another, or between the two sets of texts for a line with `-dumpspecs`. It asks what these
 /// need, and does nothing else: it starts no program and makes, changes and removes no file. A line
-/// that is refused writes nothing. The seed is for the names of temporaries.
+/// that is refused writes nothing, and its outcome names the file with which the texts or the plan
+/// are refused. The seed is for the names of temporaries.
 pub fn tell_difference<S: System>(
     alloc: Global,
     sys: &mut S,
-    comparison: &Comparison,
+    comparison: Comparison,
     seed: u32,
 ) -> Outcome
-    ensures { TellsDifference (S.events sys.old) (S.events sys.new) comparison.now seed result }
+    ensures { TellsDifference (S.events sys.old) (S.events sys.new) comparison seed result }
 {
     let facts = &mut FactTable::new(alloc);
-    match works_of(alloc, comparison, seed, &mut Outside { sys, facts }) {
+    match works_of(alloc, &comparison, seed, &mut Outside { sys, facts }) {
         Ok((work, other)) => compare_works(alloc, sys, &work, &other),
-        Err(ending) => Outcome::Ended(ending),
+        Err(stop) => stopped_with(path_of(comparison, stop.side), stop.ending),
     }
 }

@@ -134,7 +134,7 @@ fn tell_run(
 fn compare(
     rt: &HostRuntime,
     sys: &mut HostSystem,
-    comparison: &Comparison,
+    comparison: Comparison,
 ) -> Result<Outcome, AllocError> {
     let seed = clock_seed(rt)?;
     Ok(tell_difference(rt.alloc(), sys, comparison, seed))
@@ -178,7 +178,7 @@ fn act(rt: &HostRuntime, sys: &mut HostSystem, call: Call) -> Outcome {
         Call::Database(line) => outcome_or_lack(tell_sources(rt, sys, line)),
         Call::After { given, line } => outcome_or_lack(tell_run(rt, sys, given.as_slice(), line)),
         Call::Translate(path) => translate_file(rt.alloc(), sys, path),
-        Call::Differ(comparison) => outcome_or_lack(compare(rt, sys, &comparison)),
+        Call::Differ(comparison) => outcome_or_lack(compare(rt, sys, comparison)),
         Call::Check(request) => tell_check(rt.alloc(), sys, &request),
         Call::Parts { report, line } => outcome_or_lack(explain(rt, sys, report, line.as_slice())),
         Call::Switches { report, line } => tell_switches(rt.alloc(), sys, report, line),
@@ -194,9 +194,18 @@ fn whole(rt: &HostRuntime, sys: &mut HostSystem, args: Listing<Word>) -> Outcome
     }
 }
 
+/// Whether an outcome is the refusal of a spec file.
+fn is_of_specs(outcome: &Outcome) -> bool {
+    match outcome {
+        Outcome::Ended(Ending::Refused(Refusal::Specs(_))) => true,
+        Outcome::RefusedWith(_, Refusal::Specs(_)) => true,
+        _ => false,
+    }
+}
+
 /// After the refusal of a spec file says where its fault is, by the events of the call.
 fn tell_place(rt: &HostRuntime, outcome: &Outcome, journal: &[Event]) {
-    if !matches!(outcome, Outcome::Ended(Ending::Refused(Refusal::Specs(_)))) {
+    if !is_of_specs(outcome) {
         return;
     }
     let Ok(args) = arguments(rt) else {

@@ -2,7 +2,7 @@
 
 ghost use Rattle.gdrv_specs.specs.Outcomes.{misuse_text, status_of, text_of, told_line};
 ghost use Rattle.gdrv_specs.specs.Outcomes.{no_dump_text, numbered, refused_line, refused_text};
-ghost use Rattle.gdrv_specs.specs.Outcomes.{unanswered_text};
+ghost use Rattle.gdrv_specs.specs.Outcomes.{refused_with_text, unanswered_text};
 ghost use Rattle.drv_run.specs.Texts.{around, refusal_text};
 ghost use Rattle.std.specs.Prelude.{◌≡◌, ◌++◌, IfOk, OnOk};
 
@@ -18,6 +18,8 @@ use std::alloc::{AllocError, Global};
 pub enum Outcome {
     /// As a call of the driver ends.
     Ended(Ending),
+    /// With the spec file of this path the line is refused, and with another one it may not be.
+    RefusedWith(Word, Refusal),
     /// The line asks for the specs, so it has no plan.
     NoPlan,
     /// The line asks for its plan alone, so nothing is carried out.
@@ -63,6 +65,16 @@ fn line_around(alloc: Global, before: &[u8], word: &Word, after: &[u8]) -> Resul
     words.extend_from_slice(word.as_bytes())?;
     words.extend_from_slice(after)?;
     line_of(alloc, words.as_bytes())
+}
+
+/// The text of a line that is refused with a spec file: a note names the file.
+fn refused_with_lines(alloc: Global, path: &Word, refusal: &Refusal) -> Result<Word, AllocError>
+    ensures { IfOk result (λ lines. lines ≡ refused_with_text path.now refusal.now) }
+{
+    let mut lines = refusal_line(alloc, refusal)?;
+    let note = line_around(alloc, b"note: refused with '", path, b"'")?;
+    lines.extend_from_slice(note.as_bytes())?;
+    Ok(lines)
 }
 
 /// The text about a word that gives no answer.
@@ -150,7 +162,7 @@ impl Outcome {
     {
         match self {
             Outcome::Ended(ending) => ending.exit_status(),
-            Outcome::NoPlan | Outcome::NoRun => 1,
+            Outcome::RefusedWith(..) | Outcome::NoPlan | Outcome::NoRun => 1,
             Outcome::Unanswered(..) | Outcome::Misused(_) => 1,
             Outcome::Translated(_, status) => *status,
             Outcome::NoFile(_) | Outcome::NoDump(..) => 1,
@@ -165,6 +177,7 @@ impl Outcome {
             Outcome::Ended(Ending::Done(_)) => Ok(Word::empty(alloc)),
             Outcome::Ended(Ending::Refused(refusal)) => refusal_line(alloc, refusal),
             Outcome::Ended(Ending::OutOfMemory) => line_of(alloc, b"out of memory"),
+            Outcome::RefusedWith(path, refusal) => refused_with_lines(alloc, path, refusal),
             Outcome::NoPlan => line_of(alloc, b"a line with '-dumpspecs' has no plan"),
             Outcome::NoRun => line_of(alloc, b"a line with '-###' has no run"),
             Outcome::Unanswered(word, fault) => unanswered_line(alloc, word, *fault),

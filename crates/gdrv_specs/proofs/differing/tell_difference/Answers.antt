@@ -1,6 +1,7 @@
 use Rattle.gdrv_specs.proofs.Differences.{compares_after, compares_before}
 use Rattle.gdrv_specs.proofs.differing.tell_difference.Goals as goal
-use Rattle.std.proofs.Common.{rules}
+use Rattle.gdrv_specs.specs.Differences.{stopped_with}
+use Rattle.std.proofs.Common.{◌∙◌, ap, rules}
 
 -- tell_difference (src/differing.rt). Writes to standard output what differs between the plan of a line with one spec file and that with
 -- another, or between the two sets of texts for a line with `-dumpspecs`.
@@ -11,10 +12,11 @@ use Rattle.std.proofs.Common.{rules}
 pub returns-in-Ok : goal.returns-in-Ok
 returns-in-Ok g c =
     let asks = c.works_of.ensures.asks.asks in
-    compares_after c.args.comparison.now c.args.seed c.in-Ok.work c.in-Ok.other c.compare_works.result c.new.ensures (search rules)
+    compares_after c.args.comparison c.args.seed c.in-Ok.work c.in-Ok.other c.compare_works.result c.new.ensures (search rules)
     c.in-Ok.ensures.comes c.compare_works.ensures
 
-pub returns : goal.returns
-returns g c =
+pub returns-in-Err : goal.returns-in-Err
+returns-in-Err g c =
     let asks = c.works_of.ensures.asks.asks in
-    compares_before c.args.comparison.now c.args.seed c.in-Err.ending c.new.ensures (search rules) c.in-Err.ensures.comes
+    compares_before c.args.comparison c.args.seed c.in-Err.stop c.stopped_with.result c.new.ensures (search rules) c.in-Err.ensures.comes
+    (c.stopped_with.ensures ∙ ap (λ path. stopped_with path c.in-Err.stop.ending) c.path_of.ensures)
