@@ -1,7 +1,7 @@
 use Rattle.drv_check.specs.Differing.{texts_difference}
 use Rattle.drv_forms.specs.Difference.{changes, difference}
 use Rattle.drv_forms.specs.declared.comparing.LineChange.{LineChange}
-use Rattle.drv_run.specs.Drives.{Comes, Drives}
+use Rattle.drv_run.specs.Drives.{Comes, Drives, after_c99, is_c99}
 use Rattle.drv_run.specs.declared.ending.Ending.TheVariants.{Done, OutOfMemory, Refused}
 use Rattle.drv_run.specs.declared.ending.Ending.{Ending}
 use Rattle.drv_run.specs.declared.ending.Refusal.TheVariants.{Plan as NotPlanned, Specs}
@@ -18,15 +18,23 @@ use Rattle.gdrv_specs.specs.declared.differing.Side.{Side}
 use Rattle.gdrv_specs.specs.declared.differing.Stop.{Stop}
 use Rattle.gdrv_specs.specs.declared.outcome.Outcome.TheVariants.{Ended, NoPlan, RefusedWith}
 use Rattle.gdrv_specs.specs.declared.outcome.Outcome.{Outcome}
-use Rattle.std.specs.Prelude.{◌≡◌, ◌⊎◌, Err, List, [], ◌∷◌, ◌++◌, None, Ok, Option, Result, Some, codes, ℕ}
+use Rattle.std.specs.Prelude.{◌≡◌, ◌⊎◌, Err, List, [], ◌∷◌, ◌++◌, None, Ok, Option, Result, Some, codes, if◌then◌else◌, ℕ}
 
 -- What printing the difference of two plans of a line is, one with each of two spec files (GCC manual, "Overall Options", -specs=; that the
 -- file precedes those of the line is this project's profile).
 -- For clauses of src/differing.rt.
 
--- a line with one more spec file, which precedes its own
+-- what selects the front of a line: no word, or --c99, which counts as the first argument alone
+abbrev pub selecting : List (List ℕ) → List (List ℕ)
+selecting line = if is_c99 line then codes "--c99" ∷ [] else []
+
+-- the option that names a spec file
+abbrev pub specs_option : List ℕ → List ℕ
+specs_option path = codes "-specs=" ++ path
+
+-- a line with one more spec file, which precedes its own; one of c99, which has no such option, is refused for it
 abbrev pub with_specs : List ℕ → List (List ℕ) → List (List ℕ)
-with_specs path line = (codes "-specs=" ++ path) ∷ line
+with_specs path line = selecting line ++ specs_option path ∷ after_c99 line
 
 -- a line has this ending in place of a work: that with the first file, or that with the second where the first line has a work
 abbrev pub StopsAt : Facts → Comparison → ℕ → Side → Ending → Type 0

@@ -2,14 +2,15 @@
 
 // In clauses: `Extends F G` says that G has every answer of F. `Asked` says that a call only asked,
 // and that the table has the answers.
-ghost use Rattle.drv_run.specs.Drives.{Comes};
+ghost use Rattle.drv_run.specs.Drives.{Comes, after_c99, is_c99};
 ghost use Rattle.drv_run.specs.declared.work.Work.{Work};
 ghost use Rattle.drv_system.specs.Asking.{Extends};
 ghost use Rattle.drv_system.specs.Code.Asked.{Asked};
 ghost use Rattle.drv_system.specs.Facts.{Facts};
 ghost use Rattle.gdrv_specs.specs.Differences.{ComesTwice, TellsDifference, TellsWorks, difference_in};
 ghost use Rattle.gdrv_specs.specs.Differences.{dumps_difference, path_of, plans_changes};
-ghost use Rattle.gdrv_specs.specs.Differences.{plans_difference, stopped_with, with_specs};
+ghost use Rattle.gdrv_specs.specs.Differences.{plans_difference, selecting, specs_option};
+ghost use Rattle.gdrv_specs.specs.Differences.{stopped_with, with_specs};
 ghost use Rattle.gdrv_specs.specs.Plans.{dump_in, plan_in};
 ghost use Rattle.gdrv_specs.specs.Told.{PutsText};
 ghost use Rattle.std.specs.Option.{option_map};
@@ -51,7 +52,52 @@ struct Stop {
     ending: Ending,
 }
 
-/// A line with one more spec file before its words.
+/// Whether a line is one of `c99`.
+fn is_c99(line: &[Word]) -> bool
+    ensures { result ≡ is_c99 line.now }
+{
+    match line {
+        [word, ..] => word.as_bytes() == b"--c99".as_slice(),
+        _ => false,
+    }
+}
+
+/// The words of a line after the one that makes it a line of `c99`, if it has that.
+fn after_c99(line: &[Word]) -> &[Word]
+    ensures { result.now ≡ after_c99 line.now }
+{
+    match line {
+        [word, rest @ ..] => {
+            if word.as_bytes() == b"--c99".as_slice() {
+                return rest;
+            }
+            line
+        }
+        _ => line,
+    }
+}
+
+/// What selects the front of a line: no word, or `--c99`.
+fn selecting(alloc: Global, line: &[Word]) -> Result<Listing<Word>, AllocError>
+    ensures { IfOk result (λ words. words ≡ selecting line.now) }
+{
+    let mut words = Listing::new(alloc);
+    if is_c99(line) {
+        words.push(Word::from_bytes(alloc, b"--c99")?)?;
+    }
+    Ok(words)
+}
+
+/// The option that names a spec file.
+fn specs_option(alloc: Global, path: &Word) -> Result<Word, AllocError>
+    ensures { IfOk result (λ option. option ≡ specs_option path.now) }
+{
+    let mut option = Word::from_bytes(alloc, b"-specs=")?;
+    option.extend_from_slice(path.as_bytes())?;
+    Ok(option)
+}
+
+/// A line with one more spec file, before its words but for `--c99`.
 pub(crate) fn with_specs(
     alloc: Global,
     path: &Word,
@@ -59,11 +105,10 @@ pub(crate) fn with_specs(
 ) -> Result<Listing<Word>, AllocError>
     ensures { IfOk result (λ words. words ≡ with_specs path.now line.now) }
 {
-    let mut option = Word::from_bytes(alloc, b"-specs=")?;
-    option.extend_from_slice(path.as_bytes())?;
-    let mut words = Listing::new(alloc);
-    words.push(option)?;
-    for word in line {
+    let mut words = selecting(alloc, line)?;
+    words.push(specs_option(alloc, path)?)?;
+    let rest = after_c99(line);
+    for word in rest {
         words.push(word.clone()?)?;
     }
     Ok(words)

@@ -5,4 +5,4 @@ use Rattle.std.proofs.Common.{◌≡◌, ◌++◌, drop}
 -- The loops of with_specs (src/differing.rt). A line with one more spec file before its words.
 
 abbrev pub invariant-loop-word : goal.invariant-loop-word
-invariant-loop-word l = l.words ++ drop l.word-index l.line ≡ with_specs l.path l.line
+invariant-loop-word l = l.words ++ drop l.word-index l.rest ≡ with_specs l.path l.line
