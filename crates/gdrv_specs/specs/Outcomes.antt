@@ -64,7 +64,7 @@ abbrev pub misuse_text : CallFault → List ℕ
 misuse_text Memory = told_line (codes "out of memory")
 misuse_text MissingAnswer = told_line (codes "missing argument to '--fail'")
 misuse_text NotOneFile = told_line (codes "'translate' takes one file")
-misuse_text NotTwoFiles = told_line (codes "'diff' takes two files, '--' and a line")
+misuse_text NotTwoFiles = told_line (codes "'diff' takes two files, and a line after '--'")
 misuse_text NoFiles = told_line (codes "'check' takes one file or more")
 misuse_text (UnknownOption word) = told_line (around (codes "'check' has no option '") word (codes "'"))
 misuse_text MissingFile = told_line (codes "missing argument to '--over'")

@@ -79,7 +79,7 @@ pub enum CallFault {
     TooManyAnswers,
     /// `translate` takes one word, the path of a dump.
     NotOneFile,
-    /// `diff` takes the paths of two spec files, `--`, and a line.
+    /// `diff` takes the paths of two spec files, and then nothing, or `--` and a line.
     NotTwoFiles,
     /// `check` takes the path of one file or more.
     NoFiles,
@@ -470,8 +470,8 @@ fn why_asked(words: Vec<Word>) -> Call
 ///
 /// # Errors
 /// Lack of memory. It has no arguments, or the first one is no command. The words of `--fail` are too
-/// few or too many. `translate` has no path or several. The words of `diff` aren't two, `--` and a
-/// line. `check` has no path, none after `--over`, or a word that begins with `-` and is no option.
+/// few or too many. `translate` has no path or several. The words of `diff` aren't two, or two, `--`
+/// and a line. `check` has no path, none after `--over`, or a word that begins with `-` and is no option.
 pub fn call_of(alloc: Global, args: Listing<Word>) -> Result<Call, CallFault>
     ensures { Gives Memory (λ call. call) result (call_of args) }
 {

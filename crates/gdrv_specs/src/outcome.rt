@@ -142,7 +142,7 @@ fn misuse_line(alloc: Global, fault: &CallFault) -> Result<Word, AllocError>
         CallFault::MissingAnswer => line_of(alloc, b"missing argument to '--fail'"),
         CallFault::TooManyAnswers => line_of(alloc, b"more than 1000 answers"),
         CallFault::NotOneFile => line_of(alloc, b"'translate' takes one file"),
-        CallFault::NotTwoFiles => line_of(alloc, b"'diff' takes two files, '--' and a line"),
+        CallFault::NotTwoFiles => line_of(alloc, b"'diff' takes two files, and a line after '--'"),
         CallFault::MissingFile => line_of(alloc, b"missing argument to '--over'"),
         CallFault::NoFiles => line_of(alloc, b"'check' takes one file or more"),
         CallFault::UnknownOption(word) => line_around(
