@@ -25,7 +25,7 @@ pub known : {journal journal' : List Event} {F F' : Facts} → F ≡ no_facts �
 known empty asks = asks.facts_grow ∙ ap (λ G. learn G asks.asked) empty
 
 -- a line that has no work ends the call so, whatever would have been printed
-stops : (F : Facts) (line : List (List ℕ)) (seed : ℕ) (ending : Ending) → Comes F line seed (Err ending)
+pub stops : (F : Facts) (line : List (List ℕ)) (seed : ℕ) (ending : Ending) → Comes F line seed (Err ending)
     → Stops F line seed (Ended ending) []
 stops F line seed (Done status) comes = absurd comes
 stops F line seed (Refused refusal) comes = (comes, refl)

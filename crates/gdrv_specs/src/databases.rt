@@ -8,9 +8,9 @@ ghost use Rattle.std.specs.Prelude.{◌≡◌, IfOk, map};
 
 use crate::forms::Form;
 use crate::outcome::Outcome;
-use crate::planning::tell_plan;
+use crate::planning::tell_work;
 use drv_args::Input;
-use drv_run::{Ending, line_of_call};
+use drv_run::{Ending, line_of_call, work_of_call};
 use drv_system::{FactTable, System};
 use drv_words::{Listing, Word, copy_words};
 use std::alloc::{AllocError, Global};
@@ -56,8 +56,9 @@ fn names_read<S: System>(
 
 /// Writes the plan of a line of the driver to standard output as a compilation database, for
 /// sources in this directory (Clang, "JSON Compilation Database Format Specification"). It asks
-/// what the plan needs, and does nothing else: it starts no program and makes, changes and removes
-/// no file. A line that is refused, and one with `-dumpspecs`, which has no plan, write nothing.
+/// once what the plan needs, and does nothing else: it starts no program and makes, changes and
+/// removes no file. A line that is refused, and one with `-dumpspecs`, which has no plan, write
+/// nothing. The seed is for the names of temporaries.
 pub fn tell_database<S: System>(
     alloc: Global,
     sys: &mut S,
@@ -68,8 +69,13 @@ pub fn tell_database<S: System>(
     ensures { TellsDatabase (S.events sys.old) (S.events sys.new) directory line seed result }
 {
     let facts = &mut FactTable::new(alloc);
-    match names_read(alloc, &line, sys, facts) {
-        Ok(names) => tell_plan(alloc, sys, &Form::Database { directory, names }, line, seed),
+    let names = match names_read(alloc, &line, sys, facts) {
+        Ok(names) => names,
+        Err(ending) => return Outcome::Ended(ending),
+    };
+    let form = Form::Database { directory, names };
+    match work_of_call(alloc, line, seed, sys, facts) {
+        Ok(work) => tell_work(alloc, sys, &form, &work),
         Err(ending) => Outcome::Ended(ending),
     }
 }

@@ -42,7 +42,7 @@ fn tell_planned<S: System>(alloc: Global, sys: &mut S, form: &Form, plan: &Plan)
 
 /// Tells the plan of a work, which a dump of the specs has not.
 #[tactic(auto, using(crate::proofs::Plans::tells_dump))]
-fn tell_work<S: System>(alloc: Global, sys: &mut S, form: &Form, work: &Work) -> Outcome
+pub(crate) fn tell_work<S: System>(alloc: Global, sys: &mut S, form: &Form, work: &Work) -> Outcome
     ensures { TellsWork (TellsOf form.now) (S.events sys.old) (S.events sys.new) work.now result }
 {
     match work {
