@@ -2,7 +2,7 @@ use Rattle.drv_system.proofs.AskedCalls.{asked_further, extends_before}
 use Rattle.gdrv_specs.proofs.Differences.{comes_both, ends_first, ends_second}
 use Rattle.gdrv_specs.proofs.differing.works_of.Goals as goal
 
--- works_of (src/differing.rt). What a line asks for with each of the two files.
+-- works_of (src/differing.rt). What a line asks for with each of the two files, or how it ends with the first one that has an ending.
 
 -- Names: `F`: what is known of the outside. `e`: that `F` extends the facts of this call. `asked_further`: calls that only asked, one after
 -- another. `extends_before`: what extends the facts after a call extends those before it. `comes_both`: both lines have a work.
