@@ -12,9 +12,10 @@ const COMPLETION: &str =
     r#"# bash completion for gdrv, gdrv-cc (gdrv-gcc and TARGET-gdrv-cc too) and gdrv-specs.
 # `gdrv-cc --completion` prints it. ./install puts it into a file, and links each command's name to that.
 
-# The words that complete the current one, out of a list.
+# The words that complete the current one, out of a list. No blank follows one that ends where its argument begins.
 _gdrv_words() {
     mapfile -t COMPREPLY < <(compgen -W "$1" -- "$2")
+    case ${COMPREPLY[*]} in *[=,]) compopt -o nospace 2>/dev/null ;; esac
 }
 
 # Files that complete the current word, behind a prefix that stays.
@@ -59,14 +60,14 @@ _gdrv_specs() {
     elif [[ ${COMP_WORDS[1]} == check && $current == -* ]]; then
         _gdrv_words '--gcc --json --over -Werror -Wno-append-to-nothing -Wno-directive-in-body -Wno-hidden-pair
             -Wno-lost-mark -Wno-never-true -Wno-quoted-word -Wno-unknown-text -Wno-unreachable -Wno-unused-text' "$current"
-    elif [[ ${COMP_WORDS[1]} == after && $current == --f* ]]; then
-        _gdrv_words '--fail' "$current"
+    elif [[ ${COMP_WORDS[1]} == after && $current == -* ]]; then
+        _gdrv_words "--fail $_gdrv_options" "$current"
     elif [[ ${COMP_WORDS[1]} == diff && $COMP_CWORD == 4 ]]; then
         _gdrv_words '--' "$current"
-    elif [[ ${COMP_WORDS[1]} == why && $COMP_CWORD -le 3 && $current == --* ]]; then
-        _gdrv_words '--json --parts --switches --words' "$current"
-    elif [[ ${COMP_WORDS[1]} == plan && $COMP_CWORD == 2 && $current == --* ]]; then
-        _gdrv_words '--json --sh --dot --compdb' "$current"
+    elif [[ ${COMP_WORDS[1]} == why && $COMP_CWORD -le 3 && $current == -* ]]; then
+        _gdrv_words "--json --parts --switches --words $_gdrv_options" "$current"
+    elif [[ ${COMP_WORDS[1]} == plan && $COMP_CWORD == 2 && $current == -* ]]; then
+        _gdrv_words "--json --sh --dot --compdb $_gdrv_options" "$current"
     else
         _gdrv
     fi
