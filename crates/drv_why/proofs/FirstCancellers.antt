@@ -1,7 +1,7 @@
 use Rattle.drv_args.specs.declared.line.Switch.{Switch}
 use Rattle.drv_match.specs.Code.Indexed.{positive}
 use Rattle.drv_match.specs.Matching.{cancels, has_negative, is_level, is_negative_of, negative}
-use Rattle.drv_why.specs.Code.Cancelling.{AreCancellers, canceller_at, name_from}
+use Rattle.drv_why.specs.Code.Cancelling.{canceller_at, name_from}
 use Rattle.drv_why.specs.Fates.{canceller}
 use Rattle.std.proofs.Common.{◌≡◌, ◌<◌, ◌≤◌, ◌+◌, ◌∙◌, ◌==◌, ◌||◌, ◌&&◌, ◌∷◌, Bool, List, None, Option, Some, [], ap, arith, cond, drop}
 use Rattle.std.proofs.Common.{false}

@@ -8,7 +8,7 @@ use Rattle.drv_why.specs.Fates.{concerns}
 use Rattle.drv_why.specs.FatesJson.{fate_by, fate_json, fates_items, namings_items, switch_words}
 use Rattle.json.specs.Token.{Token}
 use Rattle.json.specs.Tree.{items_tokens, json_tokens}
-use Rattle.std.proofs.Common.{◌≡◌, ◌∙◌, ◌<◌, ◌+◌, ◌++◌, ◌∷◌, Bool, List, Option, Some, [], ap, append_assoc, drop, false, length, refl, sym}
+use Rattle.std.proofs.Common.{◌≡◌, ◌∙◌, ◌<◌, ◌+◌, ◌++◌, ◌∷◌, Bool, List, Option, [], ap, append_assoc, drop, false, length, refl, sym}
 use Rattle.std.proofs.Common.{true, ℕ}
 use Rattle.std.proofs.lemmas.List.{drop_more}
 use Rattle.std.specs.Prelude.{get_or}

@@ -5,7 +5,7 @@ use Rattle.drv_why.proofs.LineCauses.{same_text}
 use Rattle.drv_why.specs.Code.Cancelling.{canceller_at, is_hit_by, is_one_by}
 use Rattle.drv_why.specs.Fates.{canceller}
 use Rattle.drv_why.specs.Taken.{has_argument, has_switch, is_hit, is_one}
-use Rattle.std.proofs.Common.{◌≡◌, ◌<◌, ◌+◌, ◌∙◌, ◌∷◌, ◌&&◌, ◌||◌, Bool, List, Option, Some, [], ap, drop, false, length, nat_eq, refl, sym}
+use Rattle.std.proofs.Common.{◌≡◌, ◌<◌, ◌+◌, ◌∙◌, ◌∷◌, ◌&&◌, ◌||◌, Bool, List, Option, [], ap, drop, false, length, nat_eq, refl, sym}
 use Rattle.std.proofs.Common.{true, ℕ}
 use Rattle.std.specs.Cmp.Lexicographic.{pointwise}
 use Rattle.std.specs.Prelude.{get_or, suc, zero}

@@ -1,7 +1,7 @@
 use Rattle.drv_args.specs.declared.line.Switch.{Switch}
 use Rattle.drv_check.specs.declared.findings.Source.{Source}
 use Rattle.drv_check.specs.declared.naming.Naming.{Naming}
-use Rattle.drv_match.specs.Matching.{cancels, has_negative, is_level, is_live, is_named, is_negative_of, name_at, negative}
+use Rattle.drv_match.specs.Matching.{cancels, is_live, is_named, name_at}
 use Rattle.drv_match.specs.Pattern.{Pattern}
 use Rattle.drv_why.proofs.FirstCancellers.{cut_at, met_at}
 use Rattle.drv_why.specs.Code.Beginning.{begin_alike}
@@ -11,14 +11,14 @@ use Rattle.drv_why.specs.Fates.{namings_text}
 use Rattle.drv_why.specs.Fates.{or_unnamed, pattern_of, switch_text, text_if}
 use Rattle.drv_words.specs.Bytes.{hyphen, newline}
 use Rattle.drv_words.specs.Printed.{quoted}
-use Rattle.std.proofs.Common.{◌≡◌, ◌∙◌, ◌<◌, ◌≤◌, ◌+◌, ◌&&◌, ◌||◌, ◌++◌, ◌∷◌, Bool, List, None, Option, Some, [], ap, append-nil}
+use Rattle.std.proofs.Common.{◌≡◌, ◌∙◌, ◌<◌, ◌≤◌, ◌+◌, ◌&&◌, ◌||◌, ◌++◌, ◌∷◌, Bool, List, Option, Some, [], ap, append-nil}
 use Rattle.std.proofs.Common.{append_assoc}
 use Rattle.std.proofs.Common.{drop, false, length, refl, sym, true, ℕ}
 use Rattle.std.proofs.lemmas.Bool.{eqb-true}
-use Rattle.std.proofs.lemmas.List.{drop_all, drop_more}
+use Rattle.std.proofs.lemmas.List.{drop_more}
 use Rattle.std.specs.Cmp.Lexicographic.{pointwise}
 use Rattle.std.specs.List.{list_any, starts_with}
-use Rattle.std.specs.Prelude.{codes, get_or, if◌then◌else◌, is_none, map, nat_eq, not, suc, take, zero}
+use Rattle.std.specs.Prelude.{get_or, if◌then◌else◌, is_none, map, nat_eq, not, suc, take, zero}
 
 -- For fates_text (src/fates.rt): the switches of a line and the parts of texts, one after another.
 -- Names: `name` is the name of a switch. `switch` is one switch, and `later` those after it. `n` and `i` are places in a list. `live` says

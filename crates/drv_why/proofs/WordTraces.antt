@@ -147,14 +147,11 @@ traced_alike command (Some line) ts known = by (are_words (traces_of line.comman
         ap (map (λ t. t.word)) (sym (ap (λ o. unwrap_or o []) same)) ∙ given_words (words_of command) 0 (traces_of line.command) (words_of command) refl is
     by false is same = absurd cc
 
--- two lists of numbers, and two of words, that compare alike are the same
-pub same_ending : (numbers numbers' : List ℕ) (words words' : List (List ℕ)) → pointwise nat_eq numbers numbers' ≡ true
-    → pointwise (pointwise nat_eq) words words' ≡ true → (numbers ≡ numbers') × (words ≡ words')
-same_ending numbers numbers' words words' same alike = (
-  (slice_eq-Decides Decides-eqb numbers numbers' (pointwise nat_eq numbers numbers') refl).0 same,
-  (slice_eq-Decides (λ a b. slice_eq-Decides Decides-eqb a b (pointwise nat_eq a b) refl) words words'
-      (pointwise (pointwise nat_eq) words words') refl).0 alike,
-)
+-- two lists of words that compare alike are the same
+pub same_words : (words words' : List (List ℕ)) → pointwise (pointwise nat_eq) words words' ≡ true → words ≡ words'
+same_words words words' alike =
+    (slice_eq-Decides (λ a b. slice_eq-Decides Decides-eqb a b (pointwise nat_eq a b) refl) words words'
+    (pointwise (pointwise nat_eq) words words') refl).0 alike
 
 -- For `push_shown`: if what is shown and the bytes left are the whole, then they still are after one byte more.
 pub shown_next : (n room : ℕ) (part : List ℕ) (byte : ℕ) (before after whole : List ℕ) → n < length part → byte ≡ get_or part n byte

@@ -3,9 +3,10 @@
 ghost use Rattle.drv_why.specs.Origins.{causes_text, command_text, ending_text, found_text, further_text, is_cut, more_text, most_shown};
 ghost use Rattle.drv_why.specs.Origins.{origins_from, origins_report, origins_text};
 ghost use Rattle.drv_why.specs.Origins.{part_text, parts_text, shown, trace_text, traces_text};
+ghost use Rattle.drv_words.specs.Bytes.{newline};
 ghost use Rattle.drv_words.specs.Printed.{line_text, quoted};
 ghost use Rattle.std.specs.List.{flat_map};
-ghost use Rattle.std.specs.Prelude.{◌≡◌, ◌++◌, IfOk, IsTrue, OnOk, codes, slice_get};
+ghost use Rattle.std.specs.Prelude.{◌≡◌, ◌∷◌, ◌++◌, [], IfOk, IsTrue, OnOk, codes, slice_get};
 
 use crate::fates::push_spot;
 use crate::origins_json::origins_json;
@@ -22,6 +23,9 @@ use std::slice::from_ref;
 
 /// The most bytes of a part that are shown.
 const MOST_SHOWN: usize = 40;
+
+/// The bytes that what a word is for mostly takes, with what precedes its parts.
+const CAUSE_ROOM: usize = 40;
 
 /// A line and its plan, and what the marks of the marked plan lead to.
 #[derive(Drop)]
@@ -169,67 +173,113 @@ fn push_causes(text: &mut Word, names: &[Word]) -> Result<(), AllocError>
     }
 }
 
+/// The parts of a word as text.
+#[derive(Drop)]
+struct PartsText<'a> {
+    /// Their numbers.
+    numbers: &'a [usize],
+    /// Them as text.
+    text: Word,
+}
+
+/// Parts as text.
+fn parts_of_text<'a>(
+    alloc: Global,
+    marking: &Marking<'_>,
+    numbers: &'a [usize],
+) -> Result<PartsText<'a>, AllocError>
+    ensures { IfOk result (λ parts. (parts.numbers.now ≡ numbers.now)
+        × (parts.text ≡ parts_text marking.now.sources marking.now.parts numbers.now)) }
+{
+    let mut text = Word::empty(alloc);
+    push_parts(&mut text, marking, numbers)?;
+    Ok(PartsText { numbers, text })
+}
+
+/// Whether these are the parts of a word.
+#[tactic(auto, using(crate::proofs::LineCauses::same_text))]
+fn are_parts(parts: &PartsText<'_>, trace: &Trace) -> bool
+    ensures { IsTrue result → parts.now.numbers.now ≡ trace.now.parts }
+{
+    parts.numbers == trace.parts.as_slice()
+}
+
+/// The parts of a word as text. Those of the last one are kept if they are the same.
+fn renew_parts<'a>(
+    alloc: Global,
+    parts: &mut PartsText<'a>,
+    marking: &Marking<'_>,
+    trace: &'a Trace,
+) -> Result<(), AllocError>
+    requires { parts.old.text
+        ≡ parts_text marking.now.sources marking.now.parts parts.old.numbers.now }
+    ensures numbers { OnOk result (parts.new.numbers.now ≡ trace.now.parts) }
+    ensures text { OnOk result (parts.new.text
+        ≡ parts_text marking.now.sources marking.now.parts trace.now.parts) }
+{
+    if !are_parts(parts, trace) {
+        *parts = parts_of_text(alloc, marking, trace.parts.as_slice())?;
+    }
+    Ok(())
+}
+
 /// What follows a word in its line: its parts, and what it is for.
 #[derive(Drop)]
 struct Ending<'a> {
-    /// The numbers of the parts.
-    parts: &'a [usize],
+    /// The parts.
+    parts: PartsText<'a>,
     /// What it is for.
     causes: &'a [Word],
     /// These as text.
     text: Word,
 }
 
-/// What follows a word with these parts that is for these.
-fn ending_of<'a>(
-    alloc: Global,
-    marking: &Marking<'_>,
-    parts: &'a [usize],
-    causes: &'a [Word],
-) -> Result<Ending<'a>, AllocError>
-    ensures { IfOk result (λ ending. (ending.parts.now ≡ parts.now) × (ending.causes.now ≡ causes.now)
-        × (ending.text ≡ ending_text marking.now.sources marking.now.parts parts.now causes.now)) }
+/// What follows a word with parts of this text that is for these.
+fn ending_with(alloc: Global, parts: &[u8], causes: &[Word]) -> Result<Word, AllocError>
+    ensures { IfOk result
+        (λ text. text ≡ codes " by " ++ parts.now ++ causes_text causes.now ++ newline ∷ []) }
 {
-    let mut text = Word::from_bytes(alloc, b" by ")?;
-    push_parts(&mut text, marking, parts)?;
+    // One allocation serves most endings; a word that grows by pieces makes several.
+    let room = parts.len().saturating_add(CAUSE_ROOM);
+    let mut text = Word::from_vec(Vec::with_capacity(alloc, room)?);
+    text.extend_from_slice(b" by ")?;
+    text.extend_from_slice(parts)?;
     push_causes(&mut text, causes)?;
     text.push(b'\n')?;
-    Ok(Ending {
-        parts,
-        causes,
-        text,
-    })
+    Ok(text)
 }
 
 /// Whether this follows a word.
-#[tactic(auto, using(crate::proofs::WordTraces::same_ending))]
+#[tactic(auto, using(crate::proofs::WordTraces::same_words))]
 fn is_ending(ending: &Ending<'_>, trace: &Trace) -> bool
-    ensures { IsTrue result → (ending.now.parts.now ≡ trace.now.parts) × (ending.now.causes.now ≡ trace.now.causes) }
+    ensures { IsTrue result → (ending.now.parts.numbers.now ≡ trace.now.parts) × (ending.now.causes.now ≡ trace.now.causes) }
 {
-    ending.parts == trace.parts.as_slice() && ending.causes == trace.causes.as_slice()
+    are_parts(&ending.parts, trace) && ending.causes == trace.causes.as_slice()
 }
 
-/// What follows a word. What followed the last one is kept if it is the same.
+/// What follows a word. What followed the last one is kept if it is the same, and else the text of
+/// its parts if these are.
 fn renew_ending<'a>(
     alloc: Global,
     ending: &mut Ending<'a>,
     marking: &Marking<'_>,
     trace: &'a Trace,
 ) -> Result<(), AllocError>
-    requires { ending.old.text
-        ≡ ending_text marking.now.sources marking.now.parts ending.old.parts.now ending.old.causes.now }
+    requires parts { ending.old.parts.text
+        ≡ parts_text marking.now.sources marking.now.parts ending.old.parts.numbers.now }
+    requires text { ending.old.text
+        ≡ ending_text marking.now.sources marking.now.parts ending.old.parts.numbers.now ending.old.causes.now }
+    ensures parts { OnOk result (ending.new.parts.text
+        ≡ parts_text marking.now.sources marking.now.parts ending.new.parts.numbers.now) }
     ensures kept { OnOk result (ending.new.text
-        ≡ ending_text marking.now.sources marking.now.parts ending.new.parts.now ending.new.causes.now) }
+        ≡ ending_text marking.now.sources marking.now.parts ending.new.parts.numbers.now ending.new.causes.now) }
     ensures of { OnOk result (ending.new.text
         ≡ ending_text marking.now.sources marking.now.parts trace.now.parts trace.now.causes) }
 {
     if !is_ending(ending, trace) {
-        *ending = ending_of(
-            alloc,
-            marking,
-            trace.parts.as_slice(),
-            trace.causes.as_slice(),
-        )?;
+        renew_parts(alloc, &mut ending.parts, marking, trace)?;
+        ending.causes = trace.causes.as_slice();
+        ending.text = ending_with(alloc, ending.parts.text.as_bytes(), ending.causes)?;
     }
     Ok(())
 }
@@ -254,7 +304,13 @@ fn push_all_traces(
         (text.new ≡ text.old
         ++ flat_map (trace_text marking.now.sources marking.now.parts) traces.now) }
 {
-    let mut ending = ending_of(alloc, marking, &[], &[])?;
+    let parts = parts_of_text(alloc, marking, &[])?;
+    let first = ending_with(alloc, parts.text.as_bytes(), &[])?;
+    let mut ending = Ending {
+        parts,
+        causes: &[],
+        text: first,
+    };
     for trace in traces {
         renew_ending(alloc, &mut ending, marking, trace)?;
         push_trace(text, &trace.word, ending.text.as_bytes())?;
