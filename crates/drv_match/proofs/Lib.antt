@@ -1,6 +1,6 @@
 mod Blocks
 mod ByName
-mod Cancelling
+pub mod Cancelling
 mod Lasts
 mod Merging
 mod Parts

@@ -9,5 +9,6 @@ mod sorting;
 mod switches;
 
 pub use hidden::Hidden;
+pub use liveness::{has_negative, is_level};
 pub use pattern::Pattern;
 pub use switches::Switches;

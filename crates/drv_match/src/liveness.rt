@@ -109,15 +109,17 @@ fn last_named(names: &Names<'_>, order: &[usize], name: &[u8]) -> usize
     if names.get(place) == name { place } else { 0 }
 }
 
-/// Whether this is an optimization level, such as `O2`.
-fn is_level(name: &[u8]) -> bool
+/// Whether the switch of this name is an optimization level, such as `O2`: only the last one of a
+/// line counts (GCC manual, "Optimize Options").
+pub fn is_level(name: &[u8]) -> bool
     ensures { result ≡ is_level name.now }
 {
     matches!(name, [b'O', ..])
 }
 
-/// Whether the name has a negative form.
-fn has_negative(name: &[u8]) -> bool
+/// Whether the switch of this name has a negative form, as `-Wall` has `-Wno-all` (GCC manual,
+/// "Invoking GCC").
+pub fn has_negative(name: &[u8]) -> bool
     ensures { result ≡ has_negative name.now }
 {
     matches!(name, [b'f' | b'm' | b'W', ..])

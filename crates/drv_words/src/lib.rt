@@ -22,7 +22,7 @@ pub use listing::Listing;
 pub use ordering::order;
 pub use plan::{Command, Group, Job, Plan, PlanLine, Temp};
 pub use printing::{plan_lines, render, render_plan};
-pub use quoting::quote;
+pub use quoting::{push_quoted, quote};
 pub use reading_back::{one_list_of_lines, read_back};
 pub use response::{one_list_of_words, push_marked, respond_text, split, split_onto, split_within};
 pub use steps::{Note, Place, RunEvent, Step};

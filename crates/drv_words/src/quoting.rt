@@ -57,8 +57,8 @@ fn push_escaped(text: &mut Vec<u8>, word: &[u8]) -> Result<(), AllocError>
     Ok(())
 }
 
-/// Adds the printed form of a word.
-pub(crate) fn push_quoted(text: &mut Vec<u8>, word: &Word) -> Result<(), AllocError>
+/// Adds the printed form of a word, as [`quote`] returns it.
+pub fn push_quoted(text: &mut Vec<u8>, word: &Word) -> Result<(), AllocError>
     ensures { OnOk result (text.new.items ≡ text.old.items ++ quoted word.now) }
 {
     let bytes = word.as_bytes();
