@@ -15,7 +15,7 @@ use Rattle.std.specs.Str.{byte}
 -- second.
 
 -- a name that begins with O begins with that letter
-level_alone : (name : List ℕ) → is_level name ≡ true → has_negative name ≡ false
+pub level_alone : (name : List ℕ) → is_level name ≡ true → has_negative name ≡ false
 level_alone [] e = refl
 level_alone (letter ∷ rest) e = let is : letter ≡ byte "O" = eqb-true letter (byte "O") e in rw is refl
 
