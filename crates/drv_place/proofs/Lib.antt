@@ -1,2 +1,3 @@
 mod Marking
 mod Newlines
+mod Plain

@@ -1,9 +1,12 @@
 //! What is left of a spec file's text, and where its bytes are in the file.
 
+ghost use Rattle.drv_place.specs.Code.Plain.{are_apart};
 ghost use Rattle.drv_place.specs.Settling.{marked_from, marked_onto, nothing, places_of};
-ghost use Rattle.drv_specs.specs.Lines.{settle};
-ghost use Rattle.std.specs.Prelude.{◌≡◌, IfOk, OnOk, Some, map, slice_get};
+ghost use Rattle.drv_specs.specs.Lines.{is_kept, settle};
+ghost use Rattle.std.specs.List.{list_all, range_with_len};
+ghost use Rattle.std.specs.Prelude.{◌≡◌, IfOk, IsTrue, OnOk, Some, false, length, map, slice_get, true};
 
+use bstr::ByteSlice;
 use drv_words::{Listing, Word};
 use std::alloc::{AllocError, Global};
 
@@ -41,11 +44,53 @@ fn settle_onto(
     Ok(())
 }
 
-/// The bytes that are left of a text, and the place of each.
+/// Whether no line of a text goes on after a backslash.
+#[tactic(auto, using(crate::proofs::Plain::byte_next, crate::proofs::Plain::joined_there))]
+fn are_apart(text: &[u8]) -> bool
+    ensures { result ≡ are_apart false text.now }
+{
+    let mut continues = false;
+    for &byte in text {
+        if continues && byte == b'\n' {
+            return false;
+        }
+        continues = byte == b'\\';
+    }
+    true
+}
+
+/// Whether a text has no carriage return, and no line that goes on: then each byte is left.
+#[tactic(auto, using(crate::proofs::Plain::none_returns))]
+fn is_plain(text: &[u8]) -> bool
+    ensures returns { IsTrue result → list_all is_kept text.now ≡ true }
+    ensures apart { IsTrue result → are_apart false text.now ≡ true }
+{
+    if text.find_byte(b'\r').is_some() {
+        return false;
+    }
+    are_apart(text)
+}
+
+/// All bytes of a text, and the place of each.
+fn copy_all(alloc: Global, text: &[u8]) -> Result<(Vec<u8>, Vec<usize>), AllocError>
+    ensures bytes { IfOk result (λ left. left.0.items ≡ text.now) }
+    ensures places { IfOk result (λ left. left.1.items ≡ range_with_len 0 (length text.now)) }
+{
+    let mut bytes = Vec::with_capacity(alloc, text.len())?;
+    bytes.extend_from_slice(text)?;
+    let places: Vec<usize> = (0..text.len()).collect(alloc)?;
+    Ok((bytes, places))
+}
+
+/// The bytes that are left of a text, and the place of each. Most texts are plain, and are copied.
+#[tactic(auto, using(crate::proofs::Plain::plain_bytes, crate::proofs::Plain::plain_places))]
 fn settle_all(alloc: Global, text: &[u8]) -> Result<(Vec<u8>, Vec<usize>), AllocError>
     ensures bytes { IfOk result (λ left. left.0.items ≡ (marked_from nothing 0 text.now).bytes) }
     ensures places { IfOk result (λ left. left.1.items ≡ (marked_from nothing 0 text.now).places) }
 {
+    if is_plain(text) {
+        return copy_all(alloc, text);
+    }
     let mut bytes = Vec::with_capacity(alloc, text.len())?;
     let mut places = Vec::with_capacity(alloc, text.len())?;
     let mut place = 0;
