@@ -1,7 +1,8 @@
 use Rattle.drv_check.proofs.IncludesRead.{answers_alike, refusing}
 use Rattle.drv_check.proofs.LinesNumbered.{Same, name_same, pair_body_same, text_same}
 use Rattle.drv_check.proofs.PiecesChecked.{begins}
-use Rattle.drv_check.proofs.PiecesRead.{pieces_read}
+use Rattle.drv_check.proofs.PiecesRead.{checked_read}
+use Rattle.drv_check.proofs.UntilBad.{carried_alike}
 use Rattle.drv_check.specs.Agreement.{Agrees, all_loaded, fault_in, fault_of, faults_of}
 use Rattle.drv_check.specs.Checked.{based, checked, checked_over, faults_alone, is_fault, tells_fault}
 use Rattle.drv_check.specs.Checks.{Enters, all_called, by_text, called, changed, entered, enters_at, file_checked, finding_of, noted}
@@ -127,8 +128,8 @@ joins before c c' (Is (Err fault)) next first second =
 module _ (c : Checking) (file : OpenFile) (piece : Piece) where
   -- What a piece is warned of adds no fault.
   warned_faults : faults_of (warned c file piece).findings ≡ faults_of c.findings
-  warned_faults = faults_with c.findings (map (finding_of file piece) (marks_of c.set piece.text))
-      (no_faults file piece (marks_of c.set piece.text))
+  warned_faults = faults_with c.findings (map (finding_of file piece) (marks_of c.whose c.set piece.text))
+      (no_faults file piece (marks_of c.whose c.set piece.text))
 
   -- What the check makes of a piece that includes no file, where this is what the driver makes of it.
   abbrev Alone : Enters → Result Set SpecsFault → Checking → Type 0
@@ -302,10 +303,13 @@ module _ (F : Facts) (prefixes : Prefixes) where
   by_result levels left checks c c' from path (Err fault) is =
       subst (λ x. Follows (faults_of c.findings) x (Is (Err fault))) (same_in is) ([], noted_faults (record c { files = left }) from fault)
   by_result levels left checks c c' from path (Ok text) is =
-      checks (record c { files = left; sources = c.sources ++ record { name = path; text = text; from = from } ∷ [] }) c'
-      (open_file (length c.sources) text) (open_file (length c.sources) text).pieces (directives_of text) (pieces_read text)
+      let read = checked_read text in
+      subst (λ known. Follows (faults_of c.findings) c' known)
+      (carried_alike (including F prefixes levels) read.0 (directives_of text) (record { set = c.set; files = left }) read.2)
+      (checks (record c { files = left; sources = c.sources ++ record { name = path; text = text; from = from } ∷ [] }) c'
+      (open_file (length c.sources) text) (open_file (length c.sources) text).pieces read.0 read.1
       (begins F prefixes levels (record c { files = left; sources = c.sources ++ record { name = path; text = text; from = from } ∷ [] })
-      (open_file (length c.sources) text) ∙ is)
+      (open_file (length c.sources) text) ∙ is))
 
   module _ (levels left : ℕ) (checks : Checks levels) (c c' : Checking) (from : Option Spot) (may : Bool) (name : List ℕ) where
     -- the path of an included file and its text, as the check finds them
@@ -487,25 +491,27 @@ agrees F prefixes c (Is (Err fault)) loads = loads
 
 module _ (F : Facts) (prefixes : Prefixes) (whose : Names) (over names : List (List ℕ)) (c : Checking) where
   -- the faults of the files `over` are the driver's: leaving out their warnings changes none
-  base_faults : (base : Checking) → based F prefixes over ≡ Is base → Loads F prefixes [] base (all_loaded F prefixes builtin_specs over)
-  base_faults base is = by (all_called F prefixes empty_check over) refl is
+  base_faults : (base : Checking) → based F prefixes whose over ≡ Is base
+      → Loads F prefixes [] base (all_loaded F prefixes builtin_specs over)
+  base_faults base is = by (all_called F prefixes (empty_check whose) over) refl is
     where
       -- Plan: `by` goes by whether the check of the files is known.
-      by : (known : Known Checking) → all_called F prefixes empty_check over ≡ known → (known >>= λ d. Is (faults_alone d)) ≡ Is base
+      by : (known : Known Checking) → all_called F prefixes (empty_check whose) over ≡ known
+          → (known >>= λ d. Is (faults_alone d)) ≡ Is base
           → Loads F prefixes [] base (all_loaded F prefixes builtin_specs over)
       by Unasked calls more = absurd cc
       by (Is d) calls more =
           subst (λ x. Loads F prefixes [] x (all_loaded F prefixes builtin_specs over)) (same_in more)
           (loads_alike F prefixes [] d (faults_alone d) (all_loaded F prefixes builtin_specs over) (faults_stay d.findings) refl
-          (all_load F prefixes empty_check d over calls))
+          (all_load F prefixes (empty_check whose) d over calls))
 
   -- the faults of all files are the driver's, and judging the whole adds none
   over_agrees : checked_over F prefixes whose over names ≡ Is c
       → Agrees (faults_of c.findings) (all_loaded F prefixes builtin_specs (over ++ names))
-  over_agrees is = by_base (based F prefixes over) refl is
+  over_agrees is = by_base (based F prefixes whose over) refl is
     where
       -- Plan: `by_base` goes by whether the check of the files `over` is known, and `by_rest` by whether that of all files is.
-      by_rest : (base : Checking) → based F prefixes over ≡ Is base → (known : Known Checking)
+      by_rest : (base : Checking) → based F prefixes whose over ≡ Is base → (known : Known Checking)
           → all_called F prefixes base names ≡ known → (known >>= λ d. Is (judged whose (length base.sources) d)) ≡ Is c
           → Agrees (faults_of c.findings) (all_loaded F prefixes builtin_specs (over ++ names))
       by_rest base first Unasked rest more = absurd cc
@@ -516,7 +522,7 @@ module _ (F : Facts) (prefixes : Prefixes) (whose : Names) (over names : List (L
           (agrees F prefixes d _ (loads_join F prefixes [] base d (all_loaded F prefixes builtin_specs over)
           (λ next. all_loaded F prefixes next names) (base_faults base first) (all_load F prefixes base d names rest))))
 
-      by_base : (known : Known Checking) → based F prefixes over ≡ known
+      by_base : (known : Known Checking) → based F prefixes whose over ≡ known
           → (known >>= λ base. all_called F prefixes base names >>= λ d. Is (judged whose (length base.sources) d)) ≡ Is c
           → Agrees (faults_of c.findings) (all_loaded F prefixes builtin_specs (over ++ names))
       by_base Unasked first more = absurd cc

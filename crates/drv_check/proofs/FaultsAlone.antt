@@ -48,16 +48,16 @@ warning_goes kept yielded finding is before =
 
 module _ (F : Facts) (prefixes : Prefixes) (over : List (List ℕ)) where
   -- The files that are loaded first are checked over nothing, and their faults alone are kept.
-  pub base_checked : {E : Type 0} (start loaded : Checking) (result : Result Checking E) → start ≡ empty_check
+  pub base_checked : {E : Type 0} (whose : Names) (start loaded : Checking) (result : Result Checking E) → start ≡ empty_check whose
       → all_called F prefixes start over ≡ Is loaded → IfOk result (λ kept. kept ≡ faults_alone loaded)
-      → IfOk result (λ kept. based F prefixes over ≡ Is kept)
-  base_checked start loaded (Err e) starts loads keeps = keeps
-  base_checked start loaded (Ok kept) starts loads keeps =
+      → IfOk result (λ kept. based F prefixes whose over ≡ Is kept)
+  base_checked whose start loaded (Err e) starts loads keeps = keeps
+  base_checked whose start loaded (Ok kept) starts loads keeps =
       ap (λ s. all_called F prefixes s over >>= λ c. Is (faults_alone c)) (sym starts) ∙ ap (λ k. k >>= λ c. Is (faults_alone c)) loads
       ∙ ap Is (sym keeps)
 
   -- The files of the call are checked over these, and what shows in the whole of them is added.
-  pub over_checked : (whose : Names) (names : List (List ℕ)) (base c whole : Checking) (first : ℕ) → based F prefixes over ≡ Is base
+  pub over_checked : (whose : Names) (names : List (List ℕ)) (base c whole : Checking) (first : ℕ) → based F prefixes whose over ≡ Is base
       → first ≡ length base.sources
       → all_called F prefixes base names ≡ Is c → whole ≡ judged whose first c → checked_over F prefixes whose over names ≡ Is whole
   over_checked whose names base c whole first loads at goes judges =

@@ -1,6 +1,6 @@
 use Rattle.drv_check.proofs.Agreeing.{change_alone, loaded_alone, same_in}
 use Rattle.drv_check.proofs.PiecesChecked.{begins, enters, name_done, piece_gone}
-use Rattle.drv_check.proofs.PiecesRead.{pieces_read}
+use Rattle.drv_check.proofs.PiecesRead.{checked_read}
 use Rattle.drv_check.specs.Checks.{all_called, by_text, called, changed, entered, enters_at, faulty, file_checked, noted, opened, opened_of}
 use Rattle.drv_check.specs.Checks.{found_text, pieces_checked, put_aside, spot_in, step, stepped, warned}
 use Rattle.drv_check.specs.Code.Seeking.{Goes, IsFile, Seeks, beside, sought, sought_by}
@@ -8,6 +8,7 @@ use Rattle.drv_check.specs.FaultNotes.{unchecked_over}
 use Rattle.drv_check.specs.Includes.{inclusion_in}
 use Rattle.drv_check.specs.Numbers.{AreRead, IsRead}
 use Rattle.drv_check.specs.Origins.{sources_found}
+use Rattle.drv_check.specs.Pieces.{checked_pieces}
 use Rattle.drv_check.specs.Points.{front_length}
 use Rattle.drv_check.specs.declared.findings.Checking.{Checking}
 use Rattle.drv_check.specs.declared.findings.Finding.{Finding}
@@ -19,7 +20,8 @@ use Rattle.drv_check.specs.declared.pieces.Piece.{Piece}
 use Rattle.drv_search.specs.declared.prefixes.Prefixes.{Prefixes}
 use Rattle.drv_specs.specs.Blanks.{is_blank}
 use Rattle.drv_specs.specs.Builtin.{builtin_specs}
-use Rattle.drv_specs.specs.Directives.{Bad, Directive, Include, Pair, Rename, Text, directives_of}
+use Rattle.drv_specs.specs.Directives.{Bad, Directive, Include, Pair, Rename, Text}
+use Rattle.drv_specs.specs.Lines.{settle}
 use Rattle.drv_specs.specs.Loading.{loaded, most_files, most_levels}
 use Rattle.drv_specs.specs.Sets.{Set, with_name, with_pair_body, with_text}
 use Rattle.drv_specs.specs.declared.fault.SpecsFault.TheVariants.{BadLine, IncludeTooDeep, TooManyIncludes}
@@ -52,6 +54,16 @@ read_at (first ∷ pieces) (directive ∷ directives) zero piece are below here 
 read_at (first ∷ pieces) (directive ∷ directives) (suc n) piece are below here =
     let less : n < length pieces = omega (arith, below) in
     read_at pieces directives n piece are.1 less here
+
+-- Each piece of a file is read as one, in the list that the code holds.
+read_as : (pieces items : List Piece) (directives : List Directive) → items ≡ pieces → AreRead pieces directives → AreRead items directives
+read_as pieces items directives same are = subst (λ ps. AreRead ps directives) (sym same) are
+
+read_in : (file : OpenFile) (items : List Piece) (n : ℕ) (piece : Piece) → IsFile file → items ≡ file.pieces → n < length items
+    → piece ≡ get_or items n piece → (directive : Directive) × IsRead piece directive
+read_in file items n piece is_file same below here =
+    read_at items (checked_read is_file.0).0 n piece
+    (read_as (checked_pieces (settle is_file.0)) items (checked_read is_file.0).0 (same ∙ is_file.1) (checked_read is_file.0).1) below here
 
 -- What is none is not some value.
 none_and_some : {X R : Type 0} (known : Option X) (x : X) → known ≡ None → known ≡ Some x → R
@@ -208,8 +220,7 @@ module _ (F : Facts) (prefixes : Prefixes) where
       → Goes before c whole (pieces_left levels file n) → Goes before after whole (pieces_left levels file (n + 1))
   piece_sought levels before c new after file items n piece next whole is_file same below here is goes so_far set findings =
       let first = so_far set findings in
-      let read = read_at items (directives_of is_file.0) n piece
-      (subst (λ ps. AreRead ps (directives_of is_file.0)) (sym (same ∙ is_file.1)) (pieces_read is_file.0)) below here in
+      let read = read_in file items n piece is_file same below here in
       let steps = steps_beside levels c new file piece read.0 next read.1 is first.0 first.1 in
       let last = goes steps.3 steps.0 steps.1 in (
         last.0,

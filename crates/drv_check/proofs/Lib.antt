@@ -16,6 +16,7 @@ mod MarkLaws
 mod MarkSteps
 mod Marks
 mod Namings
+mod OwnSpots
 mod OwnTrees
 mod PieceSteps
 mod PiecesChecked
@@ -25,9 +26,10 @@ mod Reports
 mod SpotLaws
 mod SwitchNames
 mod TextOrigins
-mod TokenMarks
 mod TextsReached
+mod TokenMarks
 mod TreeBranches
 mod Unreached
+mod UntilBad
 mod UntilFault
 mod Unused

@@ -1,5 +1,7 @@
 use Rattle.drv_check.specs.Code.OwnTrees.{tree_or_none}
-use Rattle.drv_check.specs.Namings.{headed_namings, pieces_namings, token_namings, tokens_namings, tree_namings, used_namings}
+use Rattle.drv_check.specs.Code.Deeds.{may_name}
+use Rattle.drv_check.specs.Namings.{deed_of, headed_namings, naming_if, pieces_namings, token_namings, tokens_namings, tree_namings}
+use Rattle.drv_check.specs.Namings.{used_namings}
 use Rattle.drv_check.specs.Origins.{text_spots}
 use Rattle.drv_check.specs.OwnTexts.{own_text, own_tree, tree_after}
 use Rattle.drv_check.specs.declared.findings.Source.{Source}
@@ -8,12 +10,15 @@ use Rattle.drv_check.specs.declared.loading_order.LoadedPiece.{LoadedPiece}
 use Rattle.drv_check.specs.declared.naming.Naming.{Naming}
 use Rattle.drv_check.specs.declared.pieces.Piece.{Piece}
 use Rattle.drv_specs.specs.Directives.{is_colon}
-use Rattle.drv_syntax.specs.Labels.{label_at}
+use Rattle.drv_syntax.specs.Labels.{Label, label_at}
 use Rattle.drv_syntax.specs.Parsed.{tree_of}
 use Rattle.drv_syntax.specs.Tree.{Items}
+use Rattle.drv_syntax.specs.declared.token.TestKind.{TestKind}
 use Rattle.drv_syntax.specs.declared.token.Token.{Token}
+use Rattle.drv_syntax.specs.declared.token.TokenKind.TheVariants as kinds
+use Rattle.drv_syntax.specs.declared.token.TokenKind.{TokenKind}
 use Rattle.std.proofs.Common.{◌≡◌, ◌∙◌, ◌<◌, ◌+◌, ◌++◌, ◌∷◌, Err, List, None, Ok, OnOk, Option, Result, Some, ap}
-use Rattle.std.proofs.Common.{append_assoc, drop}
+use Rattle.std.proofs.Common.{append_assoc, drop, false, refl}
 use Rattle.std.proofs.Common.{length, sym, ℕ}
 use Rattle.std.proofs.lemmas.List.{append-nil, drop_more}
 use Rattle.std.specs.List.{position}
@@ -26,6 +31,38 @@ use Rattle.std.specs.Prelude.{get_or}
 -- read, and `loaded` their directives. `left` is the pieces of the dump that are left: `piece` and those after it, `later`. `colon` is the
 -- place of the colon. `result` is what the code's call gives. `tree_of` is the tree of a text (drv_syntax), and `own_tree` that of a
 -- piece's text. `tree_namings` and `headed_namings` are the namings of a tree and of a text with a head (specs/Namings).
+
+-- a part of another kind does nothing with switches
+no_deed : (kind : TokenKind) (asks : TestKind) (word : List ℕ) → may_name kind ≡ false → deed_of kind asks word ≡ None
+no_deed kinds.Pattern asks word none = absurd cc
+no_deed kinds.Hide asks word none = absurd cc
+no_deed kinds.Test asks word none = absurd cc
+no_deed kinds.Function asks word none = absurd cc
+no_deed kinds.Plain asks word none = refl
+no_deed kinds.Escape asks word none = refl
+no_deed kinds.Blank asks word none = refl
+no_deed kinds.Newline asks word none = refl
+no_deed kinds.Pipe asks word none = refl
+no_deed (kinds.Leaf leaf) asks word none = refl
+no_deed (kinds.TempName temp) asks word none = refl
+no_deed kinds.Accumulate asks word none = refl
+no_deed kinds.UserError asks word none = refl
+no_deed kinds.Notice asks word none = refl
+no_deed kinds.NamedText asks word none = refl
+no_deed kinds.BuiltinText asks word none = refl
+no_deed kinds.Emit asks word none = refl
+no_deed kinds.Choose asks word none = refl
+no_deed kinds.Star asks word none = refl
+no_deed kinds.FailureFile asks word none = refl
+no_deed kinds.ArgumentsFile asks word none = refl
+no_deed kinds.Alternative asks word none = refl
+
+-- For `push_token`: so it has no naming.
+pub token_passed : (head text : List ℕ) (spots : List Spot) (token : Token) (label : Label) (before : List Naming)
+    → may_name token.kind ≡ false → before ≡ before ++ token_namings head text spots token label
+token_passed head text spots token label before none =
+    sym (append-nil before)
+    ∙ ap (λ d. before ++ naming_if head text spots token label d) (sym (no_deed token.kind label.asks label.word none))
 
 -- If the namings so far and those of the tokens left are all, then they still are after one token more.
 pub tokens_next : (head text : List ℕ) (spots : List Spot) (items : Items) (n : ℕ) (tokens : List Token) (token : Token)

@@ -1,7 +1,9 @@
 use Rattle.drv_check.proofs.IncludesRead.{body_as, keyword_as}
 use Rattle.drv_check.specs.Includes.{inclusion_at, inclusion_in, may_miss}
 use Rattle.drv_check.specs.Numbers.{AreRead, IncludesAs, IsRead, renumbered}
-use Rattle.drv_check.specs.Pieces.{alone, kind_of, line_kind, longer, opened, piece_of, pieces_from, pieces_of}
+use Rattle.drv_check.proofs.UntilBad.{is_none, until_bad}
+use Rattle.drv_check.specs.Pieces.{alone, alone_at, checked_pieces, first_lacks_colon, goes_on_at, is_cut, kind_of, line_kind, longer, opened}
+use Rattle.drv_check.specs.Pieces.{opened_by, piece_of, pieces_from, pieces_of}
 use Rattle.drv_check.specs.declared.including.Inclusion.{Inclusion}
 use Rattle.drv_check.specs.declared.pieces.LineKind.TheVariants as kind
 use Rattle.drv_check.specs.declared.pieces.LineKind.{LineKind}
@@ -23,6 +25,7 @@ use Rattle.std.proofs.lemmas.List.{append-nil}
 use Rattle.std.proofs.lemmas.List.Folds.{list_all-append}
 use Rattle.std.specs.Cmp.Lexicographic.{pointwise}
 use Rattle.std.specs.List.{ends_with, join_with_byte, list_all, position}
+use Rattle.std.specs.Prelude.{is_some}
 
 -- For pieces_are_directives (src/laws.rt): each piece of a settled text, read alone, is one of its directives.
 -- Names: `n` and `m` are numbers of a line. `at` is its place in the text, or that of its colon. `line` is a line, and `lines` those after
@@ -31,7 +34,9 @@ use Rattle.std.specs.List.{ends_with, join_with_byte, list_all, position}
 -- byte, and `t`, `e`, `r` and `i` are values of tests, so that `by` can go by both. `is_line_byte` says that a line may have the byte.
 -- `is_settled back text` says that no backslash hides a newline. `renumbered n directive` is a directive that is none with another number
 -- (specs/Numbers). `by_colon` and `by_keyword` are the directives of a line (drv_specs), and `start_of` says which of them it begins.
--- `IsRead piece directive`: the piece is that directive, and `AreRead` the same of lists.
+-- `recovers` says whether reading recovers from a line that is no directive. `is_cut` says that a line ends the piece above it then.
+-- `until_bad` is directives up to the first that is none. `IsRead piece directive`: the piece is that directive, and `AreRead` the same of
+-- lists.
 
 -- the number of a line changes a directive that is none, and no other
 
@@ -259,41 +264,82 @@ entry_read piece first body lines g =
           (body_as piece.text first g.begins.0 g.begins.1 g.full (ap kind_of (g.opens 1 [])));
     }
 
+-- pieces where reading recovers from a line that is no directive
+
+-- how far pieces are the driver's directives: as far as the first line that is none, where reading recovers from it
+abbrev seen : Bool → List Directive → List Directive
+seen false directives = directives
+seen true directives = until_bad directives
+
+-- each piece, read alone, is a directive, and as far as they are seen these are the driver's
+abbrev Reads : Bool → List Piece → List Directive → Type 0
+Reads recovers pieces directives =
+    (read : List Directive) × AreRead pieces read × (seen recovers read ≡ seen recovers directives)
+
+-- one piece more that is the driver's directive
+reads_more : (recovers : Bool) (piece : Piece) (pieces : List Piece) (directive : Directive) (directives : List Directive)
+    → IsRead piece directive → Reads recovers pieces directives → Reads recovers (piece ∷ pieces) (directive ∷ directives)
+reads_more false piece pieces directive directives is rest = (directive ∷ rest.0, (is, rest.1), ap (λ ds. directive ∷ ds) rest.2)
+reads_more true piece pieces directive directives is rest =
+    (directive ∷ rest.0, (is, rest.1), ap (λ ds. directive ∷ (if is_none directive then [] else ds)) rest.2)
+
+-- behind a piece that is no directive the others may be any, where reading recovers
+reads_anew : (recovers : Bool) (piece : Piece) (pieces : List Piece) (directive : Directive) (directives others : List Directive)
+    → recovers ≡ true → is_none directive ≡ true → IsRead piece directive → Reads recovers pieces others
+    → Reads recovers (piece ∷ pieces) (directive ∷ directives)
+reads_anew false piece pieces directive directives others recovered none is rest = absurd cc
+reads_anew true piece pieces directive directives others recovered none is rest = (directive ∷ rest.0, (is, rest.1), rw none refl)
+
+-- a line without a colon is no directive
+none_of : (n : ℕ) (line : List ℕ) (lines : List (List ℕ)) (at : Option ℕ) → is_some at ≡ false → by_colon n line lines at ≡ Bad n
+none_of n line lines None is = refl
+none_of n line lines (Some at) is = absurd cc
+
+-- so a piece that is cut is none, whatever the lines of its body are
+cut_none : (piece : Piece) (line first : List ℕ) (body lines : List (List ℕ)) → lines_of piece.text ≡ first ∷ body
+    → is_cut piece line ≡ true → entry_of piece.number (without_front is_blank first) lines ≡ Bad piece.number
+cut_none piece line first body lines are cut =
+    none_of piece.number (without_front is_blank first) lines (position is_colon (without_front is_blank first))
+    (not_true _ (sym (ap first_lacks_colon are) ∙ and_second (goes_on_at line) _ cut))
+
 -- all pieces of lines, by induction
 
 -- the pieces of lines, of which none is in a body at first, are the directives of these lines
-abbrev Outside : List (List ℕ) → Type 0
-Outside lines = (n at : ℕ) → AreRead (pieces_from None n at lines) (read_lines false n lines)
+abbrev Outside : Bool → List (List ℕ) → Type 0
+Outside recovers lines = (n at : ℕ) → Reads recovers (pieces_from recovers None n at lines) (read_lines false n lines)
 
 -- the pieces of lines after a piece that goes on are its directive and those of the lines after its body
-abbrev Inside : List (List ℕ) → Type 0
-Inside lines = (piece : Piece) (first : List ℕ) (body : List (List ℕ)) (n at : ℕ) → Going piece first body lines
-    → AreRead (pieces_from (Some piece) n at lines) (entry_of piece.number (without_front is_blank first) (body ++ body_lines lines)
-    ∷ read_lines true n lines)
+abbrev Inside : Bool → List (List ℕ) → Type 0
+Inside recovers lines = (piece : Piece) (first : List ℕ) (body : List (List ℕ)) (n at : ℕ) → Going piece first body lines
+    → Reads recovers (pieces_from recovers (Some piece) n at lines)
+    (entry_of piece.number (without_front is_blank first) (body ++ body_lines lines) ∷ read_lines true n lines)
 
 -- at the end of the text the piece that goes on ends
-inside_end : Inside []
-inside_end piece first body n at g =
-    subst (λ b. AreRead (piece ∷ []) (entry_of piece.number (without_front is_blank first) b ∷ [])) (sym (append-nil body))
-    (entry_read piece first body [] g, tt)
+inside_end : (recovers : Bool) → Inside recovers []
+inside_end recovers piece first body n at g =
+    subst (λ b. Reads recovers (piece ∷ []) (entry_of piece.number (without_front is_blank first) b ∷ [])) (sym (append-nil body))
+    (entry_of piece.number (without_front is_blank first) body ∷ [], (entry_read piece first body [] g, tt), refl)
 
 -- where a line follows, no backslash hides the newline before it
 apart_of : {line : List ℕ} {lines : List (List ℕ)} {t : Bool} → ((line ∷ lines) ≡ []) ⊎ (t ≡ false) → t ≡ false
 apart_of (inl none) = absurd cc
 apart_of (inr apart) = apart
 
--- one more line in a body: it is part of the piece, or ends it if it is empty
-inside_more : (line : List ℕ) (lines : List (List ℕ)) → list_all is_line_byte line ≡ true
-    → (lines ≡ []) ⊎ (ends_with_backslash line ≡ false) → Outside lines → Inside lines → Inside (line ∷ lines)
-inside_more line lines bytes ends out within piece first body n at g = by (is_empty_line line) refl
+-- one more line in a body: it is part of the piece, or ends it if it is empty or cuts it
+inside_more : (recovers : Bool) (line : List ℕ) (lines : List (List ℕ)) → list_all is_line_byte line ≡ true
+    → (lines ≡ []) ⊎ (ends_with_backslash line ≡ false) → Outside recovers lines → Outside recovers (line ∷ lines) → Inside recovers lines
+    → Inside recovers (line ∷ lines)
+inside_more recovers line lines bytes ends out here within piece first body n at g =
+    by (is_empty_line line) refl (recovers && is_cut piece line) refl
   where
-    -- Plan: `goal e` is the claim where `e` says whether the line is empty, and `by` goes by that. `longer_goes` says that the piece with
-    -- this line goes on, with `solid` and `still` for its backslashes.
+    -- Plan: `goal e t` is the claim where `e` says whether the line is empty and `t` whether it cuts the piece, and `by` goes by both.
+    -- `longer_goes` says that the piece with this line goes on, with `solid` and `still` for its backslashes.
     f : List ℕ
     f = without_front is_blank first
 
-    goal : Bool → Type 0
-    goal e = AreRead ((if e then piece ∷ [] else []) ++ pieces_from (if e then None else Some (longer piece line)) (n + 1)
+    goal : Bool → Bool → Type 0
+    goal e t = Reads recovers ((if e then piece ∷ [] else if t then piece ∷ alone_at n at line else [])
+        ++ pieces_from recovers (if e then None else if t then opened_by n at line else Some (longer piece line)) (n + 1)
         (at + length line + 1) lines)
         (entry_of piece.number f (body ++ (if e then [] else line ∷ body_lines lines))
         ∷ directive_in (start_at e true n line lines) ++ read_lines (is_inside e true (start_at e true n line lines)) (n + 1) lines)
@@ -316,23 +362,36 @@ inside_more line lines bytes ends out within piece first body n at g = by (is_em
       begins = (g.begins.0 ++ newline ∷ line, ap (λ t. t ++ newline ∷ line) g.begins.1 ∙ append_assoc first g.begins.0 (newline ∷ line));
     }
 
-    by : (e : Bool) → is_empty_line line ≡ e → goal (is_empty_line line)
-    by true is =
-        subst goal (sym is) (
-          subst (λ b. IsRead piece (entry_of piece.number f b)) (sym (append-nil body))
-              (entry_read piece first body (line ∷ lines) g),
-          out (n + 1) (at + length line + 1),
-        )
-    by false is =
-        subst goal (sym is) (subst (λ b. AreRead (pieces_from (Some (longer piece line)) (n + 1) (at + length line + 1) lines)
+    none : is_cut piece line ≡ true → (ls : List (List ℕ)) → entry_of piece.number f ls ≡ Bad piece.number
+    none cut ls = cut_none piece line first body ls g.lines_are cut
+
+    by : (e : Bool) → is_empty_line line ≡ e → (t : Bool) → (recovers && is_cut piece line) ≡ t
+        → goal (is_empty_line line) (recovers && is_cut piece line)
+    by true is t cut =
+        subst (λ e. goal e (recovers && is_cut piece line)) (sym is)
+        (subst (λ b. Reads recovers (piece ∷ pieces_from recovers None (n + 1) (at + length line + 1) lines)
+        (entry_of piece.number f b ∷ read_lines false (n + 1) lines)) (sym (append-nil body))
+        (reads_more recovers piece _ (entry_of piece.number f body) _ (entry_read piece first body (line ∷ lines) g)
+        (out (n + 1) (at + length line + 1))))
+    by false is true cut =
+        subst (λ e. goal e (recovers && is_cut piece line)) (sym is) (subst (λ t. goal false t) (sym cut)
+        (reads_anew recovers piece _ (entry_of piece.number f (body ++ line ∷ body_lines lines)) _ (read_lines false n (line ∷ lines))
+        (and_first recovers _ cut) (ap is_none (none (and_second recovers _ cut) (body ++ line ∷ body_lines lines)))
+        (subst (λ d. IsRead piece d)
+        (none (and_second recovers _ cut) body ∙ sym (none (and_second recovers _ cut) (body ++ line ∷ body_lines lines)))
+        (entry_read piece first body (line ∷ lines) g))
+        (here n at)))
+    by false is false cut =
+        subst (λ e. goal e (recovers && is_cut piece line)) (sym is) (subst (λ t. goal false t) (sym cut)
+        (subst (λ b. Reads recovers (pieces_from recovers (Some (longer piece line)) (n + 1) (at + length line + 1) lines)
         (entry_of piece.number f b ∷ read_lines true (n + 1) lines))
         (append_assoc body (line ∷ []) (body_lines lines))
-        (within (longer piece line) first (body ++ line ∷ []) (n + 1) (at + length line + 1) (longer_goes is)))
+        (within (longer piece line) first (body ++ line ∷ []) (n + 1) (at + length line + 1) (longer_goes is))))
 
 -- one more line outside of a body: it begins nothing, a piece of one line, or one that goes on
-outside_more : (line : List ℕ) (lines : List (List ℕ)) → list_all is_line_byte line ≡ true
-    → (lines ≡ []) ⊎ (ends_with_backslash line ≡ false) → Outside lines → Inside lines → Outside (line ∷ lines)
-outside_more line lines bytes ends out within n at = by (is_empty_line line) refl
+outside_more : (recovers : Bool) (line : List ℕ) (lines : List (List ℕ)) → list_all is_line_byte line ≡ true
+    → (lines ≡ []) ⊎ (ends_with_backslash line ≡ false) → Outside recovers lines → Inside recovers lines → Outside recovers (line ∷ lines)
+outside_more recovers line lines bytes ends out within n at = by (is_empty_line line) refl
   where
     -- Plan: `whole e` is the claim where `e` says whether the line is empty, and `by` goes by that. `goal` is the claim by what a line
     -- begins that is not empty, and `by_start` goes by that. `goes` says that a piece with a body goes on.
@@ -343,11 +402,12 @@ outside_more line lines bytes ends out within n at = by (is_empty_line line) ref
     p = piece_of n at line
 
     goal : LineKind → Start → Type 0
-    goal k s = AreRead (alone k p ++ pieces_from (opened k p) (n + 1) (at + length line + 1) lines)
+    goal k s = Reads recovers (alone k p ++ pieces_from recovers (opened k p) (n + 1) (at + length line + 1) lines)
         (directive_in s ++ read_lines (opens_body s) (n + 1) lines)
 
     whole : Bool → Type 0
-    whole e = AreRead (alone (line_kind line) p ++ pieces_from (opened (line_kind line) p) (n + 1) (at + length line + 1) lines)
+    whole e = Reads recovers
+        (alone (line_kind line) p ++ pieces_from recovers (opened (line_kind line) p) (n + 1) (at + length line + 1) lines)
         (directive_in (start_at e false n line lines) ++ read_lines (is_inside e false (start_at e false n line lines)) (n + 1) lines)
 
     goes : is_empty_line line ≡ false → ((m : ℕ) (ls : List (List ℕ)) → start_of m f ls ≡ WithBody (entry_of m f ls))
@@ -368,28 +428,40 @@ outside_more line lines bytes ends out within n at = by (is_empty_line line) ref
         (subst (goal kind.Passed) (sym (is n lines)) (out (n + 1) (at + length line + 1)))
     by_start full (begins_alone is) =
         subst (λ k. goal k (start_of n f lines)) (sym (ap kind_of (is 1 [])))
-        (subst (goal kind.Alone) (sym (is n lines)) (alone_read n at line bytes full is, out (n + 1) (at + length line + 1)))
+        (subst (goal kind.Alone) (sym (is n lines))
+        (reads_more recovers p _ _ _ (alone_read n at line bytes full is) (out (n + 1) (at + length line + 1))))
     by_start full (begins_body is) =
         subst (λ k. goal k (start_of n f lines)) (sym (ap kind_of (is 1 [])))
         (subst (goal kind.Opens) (sym (is n lines))
-        (subst (λ d. AreRead (pieces_from (Some p) (n + 1) (at + length line + 1) lines) (d ∷ read_lines true (n + 1) lines))
+        (subst (λ d. Reads recovers (pieces_from recovers (Some p) (n + 1) (at + length line + 1) lines)
+        (d ∷ read_lines true (n + 1) lines))
         (entry_again n f lines (position is_colon f))
         (within p line [] (n + 1) (at + length line + 1) (goes full is))))
 
     by : (e : Bool) → is_empty_line line ≡ e → whole (is_empty_line line)
     by true is =
         subst whole (sym is)
-        (subst (λ k. AreRead (alone k p ++ pieces_from (opened k p) (n + 1) (at + length line + 1) lines) (read_lines false (n + 1) lines))
+        (subst (λ k. Reads recovers (alone k p ++ pieces_from recovers (opened k p) (n + 1) (at + length line + 1) lines)
+        (read_lines false (n + 1) lines))
         (sym (ap (λ l. kind_of (start_of 1 l [])) (no_front line is))) (out (n + 1) (at + length line + 1)))
     by false is = subst whole (sym is) (by_start is (begins f))
 
 -- both hold for all lines of a settled text, by induction
-both : (lines : List (List ℕ)) → Clean lines → Outside lines × Inside lines
-both [] clean = (λ n at. tt, inside_end)
-both (line ∷ lines) clean =
-    let rest = both lines clean.1.1 in
-    (outside_more line lines clean.0 clean.1.0 rest.0 rest.1, inside_more line lines clean.0 clean.1.0 rest.0 rest.1)
+both : (recovers : Bool) (lines : List (List ℕ)) → Clean lines → Outside recovers lines × Inside recovers lines
+both false [] clean = (λ n at. ([], tt, refl), inside_end false)
+both true [] clean = (λ n at. ([], tt, refl), inside_end true)
+both recovers (line ∷ lines) clean =
+    let rest = both recovers lines clean.1.1 in
+    let here = outside_more recovers line lines clean.0 clean.1.0 rest.0 rest.1 in
+    (here, inside_more recovers line lines clean.0 clean.1.0 rest.0 here rest.1)
 
 -- the pieces of what is left of a text are its directives
 pub pieces_read : (text : List ℕ) → AreRead (pieces_of (settle text)) (directives_of text)
-pieces_read text = (both (lines_of (settle text)) (settled_clean text)).0 1 0
+pieces_read text =
+    let read = (both false (lines_of (settle text)) (settled_clean text)).0 1 0 in
+    subst (λ ds. AreRead (pieces_of (settle text)) ds) read.2 read.1
+
+-- The pieces that are checked are directives too, and the driver's up to the first that is none.
+pub checked_read : (text : List ℕ) → (read : List Directive) × AreRead (checked_pieces (settle text)) read
+    × (until_bad read ≡ until_bad (directives_of text))
+checked_read text = (both true (lines_of (settle text)) (settled_clean text)).0 1 0

@@ -2,7 +2,8 @@ use Rattle.drv_check.proofs.Agreeing.{Follows, Loads, One, OpensFrom, agrees, ca
 use Rattle.drv_check.proofs.Agreeing.{noted_faults, one_as}
 use Rattle.drv_check.proofs.Agreeing.{same_in}
 use Rattle.drv_check.proofs.IncludesRead.{answers_alike, refusing}
-use Rattle.drv_check.proofs.PiecesRead.{pieces_read}
+use Rattle.drv_check.proofs.PiecesRead.{checked_read}
+use Rattle.drv_check.proofs.UntilBad.{carried_alike}
 use Rattle.drv_check.proofs.UntilFault.{begins_until, names_kept, names_next, pieces_kept, pieces_next}
 use Rattle.drv_check.specs.Agreement.{Agrees, all_loaded, fault_in, faults_of}
 use Rattle.drv_check.specs.Checked.{is_fault, tells_fault}
@@ -162,11 +163,14 @@ module _ (F : Facts) (prefixes : Prefixes) where
   by_result levels left checks c c' from path (Err fault) goes is =
       subst (λ x. Follows (faults_of c.findings) x (Is (Err fault))) (same_in is) ([], noted_faults (record c { files = left }) from fault)
   by_result levels left checks c c' from path (Ok text) goes is =
-      checks (record c { files = left; sources = c.sources ++ record { name = path; text = text; from = from } ∷ [] }) c'
-      (open_file (length c.sources) text) (open_file (length c.sources) text).pieces (directives_of text) (pieces_read text) goes
+      let read = checked_read text in
+      subst (λ known. Follows (faults_of c.findings) c' known)
+      (carried_alike (including F prefixes levels) read.0 (directives_of text) (record { set = c.set; files = left }) read.2)
+      (checks (record c { files = left; sources = c.sources ++ record { name = path; text = text; from = from } ∷ [] }) c'
+      (open_file (length c.sources) text) (open_file (length c.sources) text).pieces read.0 read.1 goes
       (begins_until F prefixes levels
       (record c { files = left; sources = c.sources ++ record { name = path; text = text; from = from } ∷ [] })
-      (open_file (length c.sources) text) ∙ is)
+      (open_file (length c.sources) text) ∙ is))
 
   module _ (levels left : ℕ) (checks : ChecksUntil levels) (c c' : Checking) (from : Option Spot) (may : Bool) (name : List ℕ)
       (well : is_refused c ≡ false) where

@@ -44,7 +44,7 @@ spot_next n left before at spots spots' whole cut grows is =
     ∙ ap (λ ps. spots ++ reverse (spots_at n ps)) (sym cut) ∙ is
 
 -- what the last directive does to the text of a head
-after_last : (head : List ℕ) (left earlier : List LoadedPiece) (piece : LoadedPiece) → left ≡ earlier ++ piece ∷ []
+pub after_last : (head : List ℕ) (left earlier : List LoadedPiece) (piece : LoadedPiece) → left ≡ earlier ++ piece ∷ []
     → spots_after head (reverse left) ≡ spots_after head (piece ∷ reverse earlier)
 after_last head left earlier piece cut = ap (λ ps. spots_after head (reverse ps)) cut ∙ ap (spots_after head) (reverse-append earlier (piece
     ∷ []))

@@ -1,5 +1,5 @@
 use Rattle.drv_check.specs.Reached.{most_texts, reached_from, text_names, with_name, with_names, with_pairs}
-use Rattle.drv_check.specs.UnusedTexts.{is_among}
+use Rattle.drv_check.specs.GccNames.{is_among}
 use Rattle.drv_specs.specs.Sets.{Set, text_of, worked_text}
 use Rattle.std.proofs.Common.{◌≡◌, ◌∙◌, ◌<◌, ◌≤◌, ◌+◌, ◌-◌, ◌++◌, ◌∷◌, List, Option, Some, [], ap, arith, drop, false, length, refl, suc}
 use Rattle.std.proofs.Common.{sym, true, zero, ℕ}

@@ -1,6 +1,7 @@
 use Rattle.drv_check.specs.Code.OwnTrees.{tree_or_none}
 use Rattle.drv_check.specs.OwnTexts.{own_tree}
-use Rattle.drv_check.specs.UnusedTexts.{driver_names, gcc_names, is_among, is_known, name_worked, names_between, names_from, names_in}
+use Rattle.drv_check.specs.GccNames.{gcc_has, gcc_names, is_among, names_between}
+use Rattle.drv_check.specs.UnusedTexts.{driver_names, is_known, name_worked, names_from, names_in}
 use Rattle.drv_check.specs.UnusedTexts.{piece_names}
 use Rattle.drv_check.specs.declared.pieces.Piece.{Piece}
 use Rattle.drv_check.specs.declared.unused_text.Names.TheVariants.{Gcc}
@@ -54,3 +55,8 @@ pub known_second : (whose : Names) (name : List ℕ) (first second : Bool) → w
     → second ≡ is_known whose name
 known_second whose name first second counts missing is next =
     next ∙ ap (λ t. t || is_among (names_between gcc_names) name) (sym missing ∙ is) ∙ ap (λ w. is_known w name) (sym counts)
+
+-- gcc has a text where its names count and this is one of them.
+pub gcc_counts : (whose : Names) (name : List ℕ) (second : Bool) → whose ≡ Gcc → second ≡ is_among (names_between gcc_names) name
+    → second ≡ gcc_has whose name
+gcc_counts whose name second counts is = is ∙ ap (λ w. gcc_has w name) (sym counts)

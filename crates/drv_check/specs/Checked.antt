@@ -30,13 +30,13 @@ abbrev pub faults_alone : Checking → Checking
 faults_alone c = record c { findings = filter tells_fault c.findings }
 
 -- the check of the files `over`: their faults, and the set that they make
-abbrev pub based : Facts → Prefixes → List (List ℕ) → Known Checking
-based F prefixes over = all_called F prefixes empty_check over >>= λ c. Is (faults_alone c)
+abbrev pub based : Facts → Prefixes → Names → List (List ℕ) → Known Checking
+based F prefixes whose over = all_called F prefixes (empty_check whose) over >>= λ c. Is (faults_alone c)
 
 -- the check of the files `names` over that set, with what only the whole shows
 abbrev pub checked_over : Facts → Prefixes → Names → List (List ℕ) → List (List ℕ) → Known Checking
 checked_over F prefixes whose over names =
-    based F prefixes over >>= λ base. all_called F prefixes base names >>= λ c. Is (judged whose (length base.sources) c)
+    based F prefixes whose over >>= λ base. all_called F prefixes base names >>= λ c. Is (judged whose (length base.sources) c)
 
 -- the check of files along the prefixes of a call without -B
 unfoldable pub checked : Facts → Names → List (List ℕ) → List (List ℕ) → Known Checking

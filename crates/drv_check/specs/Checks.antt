@@ -1,5 +1,5 @@
 use Rattle.drv_check.specs.Includes.{inclusion_in, read_text}
-use Rattle.drv_check.specs.Pieces.{pieces_of}
+use Rattle.drv_check.specs.Pieces.{checked_pieces}
 use Rattle.drv_check.specs.Points.{front_length, point}
 use Rattle.drv_check.specs.Warnings.{marks_of}
 use Rattle.drv_check.specs.declared.findings.Checking.{Checking}
@@ -10,6 +10,7 @@ use Rattle.drv_check.specs.declared.findings.Spot.{Spot}
 use Rattle.drv_check.specs.declared.including.Inclusion.{Inclusion}
 use Rattle.drv_check.specs.declared.opening.OpenFile.{OpenFile}
 use Rattle.drv_check.specs.declared.pieces.Piece.{Piece}
+use Rattle.drv_check.specs.declared.unused_text.Names.{Names}
 use Rattle.drv_check.specs.declared.warning.Mark.{Mark}
 use Rattle.drv_place.specs.Settling.{places_of}
 use Rattle.drv_search.specs.Search.{file_found}
@@ -54,7 +55,7 @@ finding_of file piece mark = record { spot = spot_in file piece mark.at; note = 
 
 -- a check with the warnings on a piece, which are found before the piece is loaded
 abbrev pub warned : Checking → OpenFile → Piece → Checking
-warned c file piece = record c { findings = c.findings ++ map (finding_of file piece) (marks_of c.set piece.text) }
+warned c file piece = record c { findings = c.findings ++ map (finding_of file piece) (marks_of c.whose c.set piece.text) }
 
 -- the effect of a piece that is loaded as a text by itself
 abbrev pub faulty : Checking → OpenFile → Piece → SpecsFault → Checking
@@ -69,7 +70,7 @@ changed c file piece (Is (Err fault)) = Is (faulty c file piece fault)
 
 -- a file whose text was read: it is the next of the sources
 abbrev pub open_file : ℕ → List ℕ → OpenFile
-open_file number text = record { number = number; size = length text; places = places_of text; pieces = pieces_of (settle text) }
+open_file number text = record { number = number; size = length text; places = places_of text; pieces = checked_pieces (settle text) }
 
 -- a file that was read, as the next of the sources and open; or the fault of one that can't be read
 abbrev pub by_text : Checking → Option Spot → List ℕ → Result (List ℕ) SpecsFault → Checking × Option OpenFile
@@ -146,5 +147,5 @@ all_called F prefixes c [] = Is c
 all_called F prefixes c (name ∷ names) = called F prefixes c name >>= λ c'. all_called F prefixes c' names
 
 -- a check of nothing yet: gcc's own texts, and no findings
-abbrev pub empty_check : Checking
-empty_check = record { set = builtin_specs; files = most_files; sources = []; findings = [] }
+abbrev pub empty_check : Names → Checking
+empty_check whose = record { whose = whose; set = builtin_specs; files = most_files; sources = []; findings = [] }

@@ -1,3 +1,4 @@
+use Rattle.drv_check.specs.declared.unused_text.Names.TheVariants.{Driver}
 use Rattle.drv_check.specs.Checked.{tells_fault}
 use Rattle.drv_check.specs.Spots.{place_in}
 use Rattle.drv_check.specs.Told.{place_text}
@@ -46,7 +47,7 @@ note_of c = note_for c.sources (first_fault c.findings)
 
 -- a check of nothing yet, over a set
 abbrev pub unchecked_over : Set → Checking
-unchecked_over set = record { set = set; files = most_files; sources = []; findings = [] }
+unchecked_over set = record { whose = Driver; set = set; files = most_files; sources = []; findings = [] }
 
 -- the note on these files, loaded over a set along prefixes, up to the first fault
 abbrev pub noted_along : Facts → Prefixes → Set → List (List ℕ) → Known (List ℕ)

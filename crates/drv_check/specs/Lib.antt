@@ -7,6 +7,7 @@ pub mod Compared
 pub mod Coverage
 pub mod Differing
 pub mod FaultNotes
+pub mod GccNames
 pub mod HiddenPairs
 pub mod Includes
 pub mod LoadingOrder

@@ -1,4 +1,5 @@
-use Rattle.drv_check.specs.UnusedTexts.{is_among, names_in}
+use Rattle.drv_check.specs.GccNames.{is_among}
+use Rattle.drv_check.specs.UnusedTexts.{names_in}
 use Rattle.drv_check.specs.declared.reached.Roots.TheVariants.{Sources, SourcesAndLink}
 use Rattle.drv_check.specs.declared.reached.Roots.{Roots}
 use Rattle.drv_specs.specs.Dumping.{entry_text, named_text}

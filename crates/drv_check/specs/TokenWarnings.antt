@@ -1,5 +1,6 @@
 use Rattle.drv_check.specs.Branches.{unreached}
 use Rattle.drv_check.specs.Coverage.{pattern_of}
+use Rattle.drv_check.specs.GccNames.{gcc_has}
 use Rattle.drv_check.specs.LostMarks.{lone_size, lost_marks}
 use Rattle.drv_check.specs.NeverTrue.{switch_warning}
 use Rattle.drv_check.specs.OwnTexts.{own_start, own_text, own_tree}
@@ -20,23 +21,24 @@ use Rattle.drv_syntax.specs.declared.token.TestKind.{TestKind}
 use Rattle.drv_syntax.specs.declared.token.Token.{Token}
 use Rattle.drv_syntax.specs.declared.token.TokenKind.TheVariants as kinds
 use Rattle.drv_syntax.specs.declared.token.TokenKind.{TokenKind}
-use Rattle.drv_words.specs.Bytes.{double_quote, single_quote}
+use Rattle.drv_words.specs.Bytes.{bar, double_quote, opening_parenthesis, single_quote}
 use Rattle.std.specs.Prelude.{◌+◌, ◌-◌, ◌==◌, ◌&&◌, ◌||◌, Bool, List, [], ◌∷◌, ◌++◌, None, Option, Some, false, if◌then◌else◌, is_some}
 use Rattle.std.specs.Prelude.{nat_lt, slice_get, true, ℕ}
 
 -- What is surely not meant in the tokens of a text (GCC manual, "Spec Files"; that it is a warning is this project's profile).
 -- For clauses of src/token_warning.rt.
 
--- a quote that begins a word, which is a byte of it as any other: the text begins with it, or white space or a colon precedes it
+-- a quote that begins a word, which is a byte of it as any other: the text begins with it, or white space, a colon, a bar or the parenthesis
+-- of a function's words precedes it
 
 -- the byte before a place of a text, if there is one
 abbrev pub byte_before : List ℕ → ℕ → Option ℕ
 byte_before text at = if nat_lt 0 at then slice_get text (at - 1) else None
 
--- whether a word begins after this byte: white space, a colon, or the beginning
+-- whether a word begins after this byte: white space, a colon, a bar, an opening parenthesis, or the beginning
 abbrev pub ends_before : Option ℕ → Bool
 ends_before None = true
-ends_before (Some b) = is_white b || is_colon b
+ends_before (Some b) = is_white b || is_colon b || b == bar || b == opening_parenthesis
 
 -- whether a word begins with a quote
 abbrev pub is_quote : List ℕ → Bool
@@ -56,16 +58,16 @@ test_warning whose asking.Suffix pattern = None
 test_warning whose asking.Language pattern = None
 test_warning whose asking.Result pattern = None
 
--- the warning on %(NAME) of a text that the set hasn't: it gives no words
-abbrev pub name_warning : Set → List ℕ → Option Warning
-name_warning set name = if is_some (text_of set name) then None else Some UnknownText
+-- the warning on %(NAME) of a text that the set hasn't, nor gcc, where its names count: it gives no words
+abbrev pub name_warning : Names → Set → List ℕ → Option Warning
+name_warning whose set name = if is_some (text_of set name) || gcc_has whose name then None else Some UnknownText
 
 -- the warning on a token of a kind, with its label and the byte before it, by for whom the text is
 abbrev pub warning_of : Names → Set → Option ℕ → TokenKind → Label → Option Warning
 warning_of whose set before kinds.Plain label = quote_warning before label.word
 warning_of whose set before kinds.Test label = test_warning whose label.asks (pattern_of label)
 warning_of whose set before kinds.Pattern label = switch_warning whose (pattern_of label)
-warning_of whose set before kinds.NamedText label = name_warning set label.word
+warning_of whose set before kinds.NamedText label = name_warning whose set label.word
 warning_of whose set before kind label = None
 
 -- of a token of a text, with its label

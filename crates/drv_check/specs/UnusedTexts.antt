@@ -1,5 +1,6 @@
+use Rattle.drv_check.specs.GccNames.{gcc_names, is_among, names_between}
 use Rattle.drv_check.specs.OwnTexts.{own_tree}
-use Rattle.drv_check.specs.Pieces.{pieces_of}
+use Rattle.drv_check.specs.Pieces.{checked_pieces}
 use Rattle.drv_check.specs.Points.{body_start, front_length, is_addition, name_in}
 use Rattle.drv_check.specs.Warnings.{is_self_spec}
 use Rattle.drv_check.specs.declared.findings.Source.{Source}
@@ -17,11 +18,9 @@ use Rattle.drv_syntax.specs.Tree.{Items}
 use Rattle.drv_syntax.specs.declared.token.Token.{Token}
 use Rattle.drv_syntax.specs.declared.token.TokenKind.TheVariants as kinds
 use Rattle.drv_syntax.specs.declared.token.TokenKind.{TokenKind}
-use Rattle.drv_words.specs.Bytes.{space}
-use Rattle.std.specs.Cmp.Lexicographic.{pointwise}
-use Rattle.std.specs.List.{flat_map, list_any, slice_split}
-use Rattle.std.specs.Prelude.{◌+◌, ◌==◌, ◌&&◌, ◌||◌, Bool, List, [], ◌∷◌, ◌++◌, None, Option, Some, codes, drop, false, if◌then◌else◌}
-use Rattle.std.specs.Prelude.{is_some, nat_eq, not, ℕ}
+use Rattle.std.specs.List.{flat_map}
+use Rattle.std.specs.Prelude.{◌+◌, ◌&&◌, ◌||◌, Bool, List, [], ◌∷◌, ◌++◌, None, Option, Some, codes, drop, false, if◌then◌else◌}
+use Rattle.std.specs.Prelude.{is_some, not, ℕ}
 
 -- A text that no other one works, and that neither the driver works itself nor gcc, where a check is for gcc too (GCC manual, "Spec Files",
 -- %(NAME); that it is a warning is this project's profile).
@@ -32,22 +31,6 @@ abbrev pub driver_names : List ℕ
 driver_names =
     codes "asm asm_final asm_options as_cmd cpp cpp_options cpp_unique_options cpp_cmd cc1 cc1_options cc1_cmd signed_char linker link "
     ++ codes "link_command link_gcc_c_sequence startfile lib libgcc endfile gdrv_self gdrv_pass"
-
--- the names of gcc's own texts that are none of these, between spaces (GCC, "gcc.cc", static_specs)
-abbrev pub gcc_names : List ℕ
-gcc_names =
-    codes "asm_debug asm_debug_option invoke_as cpp_debug_options trad_capable_cpp cc1plus link_ssp link_gomp cross_compile version "
-    ++ codes "multilib multilib_defaults multilib_extra multilib_matches multilib_exclusions multilib_options multilib_reuse "
-    ++ codes "linker_plugin_file lto_wrapper lto_gcc post_link link_libgcc md_exec_prefix md_startfile_prefix md_startfile_prefix_1 "
-    ++ codes "startfile_prefix_spec sysroot_spec sysroot_suffix_spec sysroot_hdrs_suffix_spec self_spec"
-
--- the names of a text with a space between two
-abbrev pub names_between : List ℕ → List (List ℕ)
-names_between = slice_split (λ b. b == space)
-
--- whether a name is one of a list
-abbrev pub is_among : List (List ℕ) → List ℕ → Bool
-is_among names name = list_any (λ other. pointwise nat_eq name other) names
 
 -- whether the driver itself works the text of this name, or gcc, where its names count too: then no other text must
 abbrev pub is_known : Names → List ℕ → Bool
@@ -77,7 +60,7 @@ piece_names piece = names_in (own_tree piece.text)
 
 -- the names of texts that the pieces of a file work
 abbrev pub source_names : Source → List (List ℕ)
-source_names source = flat_map piece_names (pieces_of (settle source.text))
+source_names source = flat_map piece_names (checked_pieces (settle source.text))
 
 -- A piece that puts a text which is in the set, by the names that texts work.
 

@@ -1,5 +1,7 @@
+use Rattle.drv_check.specs.GccNames.{gcc_has_named}
 use Rattle.drv_check.specs.Points.{body_start, front_length, is_addition, name_in, old_length}
 use Rattle.drv_check.specs.declared.findings.Warning.TheVariants.{AppendToNothing, DirectiveInBody}
+use Rattle.drv_check.specs.declared.unused_text.Names.{Names}
 use Rattle.drv_check.specs.declared.warning.Mark.{Mark}
 use Rattle.drv_specs.specs.Blanks.{is_blank}
 use Rattle.drv_specs.specs.Directives.{is_colon}
@@ -22,6 +24,10 @@ abbrev pub is_self_spec : Option (List ℕ) → Bool
 is_self_spec None = false
 is_self_spec (Some name) = pointwise nat_eq name (codes "self_spec")
 
+-- whether it is meant for a text that isn't there: gcc has the text, where the files are for gcc
+abbrev pub may_be_missing : Names → Option (List ℕ) → Bool
+may_be_missing whose name = is_self_spec name || gcc_has_named whose name
+
 -- whether a body adds to a text that isn't there
 abbrev pub adds_to_nothing : Option (Option ℕ) → List ℕ → Bool
 adds_to_nothing None body = false
@@ -29,9 +35,9 @@ adds_to_nothing (Some None) body = is_addition body
 adds_to_nothing (Some (Some size)) body = false
 
 -- the warning on a piece that adds to a text which isn't there: + is often a typing error then
-abbrev pub append_marks : Set → List ℕ → List Mark
-append_marks set text =
-    if adds_to_nothing (old_length set (name_in text)) (drop (body_start text) text) && not (is_self_spec (name_in text))
+abbrev pub append_marks : Names → Set → List ℕ → List Mark
+append_marks whose set text =
+    if adds_to_nothing (old_length set (name_in text)) (drop (body_start text) text) && not (may_be_missing whose (name_in text))
     then record { at = front_length is_blank text; warning = AppendToNothing } ∷ [] else []
 
 -- a line of a body that would begin a directive, were the line before it empty
@@ -70,6 +76,6 @@ abbrev pub body_marks : List (List ℕ) → List Mark
 body_marks [] = []
 body_marks (line ∷ lines) = lines_marks (length line + 1) lines
 
--- all warnings on a piece that need only the set before it
-abbrev pub marks_of : Set → List ℕ → List Mark
-marks_of set text = append_marks set text ++ body_marks (lines_of text)
+-- all warnings on a piece that need only the set before it, and for whom the files are
+abbrev pub marks_of : Names → Set → List ℕ → List Mark
+marks_of whose set text = append_marks whose set text ++ body_marks (lines_of text)

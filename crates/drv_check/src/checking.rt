@@ -112,6 +112,7 @@ fn faults_alone(alloc: Global, checking: Checking) -> Result<Checking, AllocErro
         }
     }
     Ok(Checking {
+        whose: checking.whose,
         set: checking.set,
         files: checking.files,
         sources: checking.sources,
@@ -123,14 +124,15 @@ fn faults_alone(alloc: Global, checking: Checking) -> Result<Checking, AllocErro
 #[tactic(auto, using(drv_system::proofs::AskedCalls::asked_further))]
 fn check_base<S: System>(
     search: &Search<'_>,
+    whose: Names,
     over: &[Word],
     outside: &mut Outside<'_, S>,
 ) -> Result<Checking, AllocError>
     ensures asks { Asked S.events outside.old outside.new }
     ensures checks { (F : Facts) → Extends outside.new.facts.now F
-        → IfOk result (λ checking. based F search.now.prefixes.now over.now ≡ Is checking) }
+        → IfOk result (λ checking. based F search.now.prefixes.now whose over.now ≡ Is checking) }
 {
-    let mut checking = empty_check(search.alloc)?;
+    let mut checking = empty_check(search.alloc, whose)?;
     check_all(search, &mut checking, over, outside)?;
     faults_alone(search.alloc, checking)
 }
@@ -158,7 +160,7 @@ fn check_over<S: System>(
         → IfOk result (λ checking. checked_over F search.now.prefixes.now
         check.now.whose check.now.over.now check.now.names.now ≡ Is checking) }
 {
-    let mut checking = check_base(search, check.over, outside)?;
+    let mut checking = check_base(search, check.whose, check.over, outside)?;
     let first = checking.sources.len();
     check_all(search, &mut checking, check.names, outside)?;
     judge(search.alloc, check.whose, &mut checking, first)?;

@@ -17,6 +17,7 @@ use crate::opening::Search;
 use crate::spots::place_in;
 use crate::stopping::check_until;
 use crate::told::push_place;
+use crate::unused_text::Names;
 use drv_search::Prefixes;
 use drv_specs::SpecSet;
 use drv_system::{FactTable, Outside, System};
@@ -28,6 +29,7 @@ pub(crate) fn unchecked_over(alloc: Global, set: SpecSet) -> Checking
     ensures { result ≡ unchecked_over set }
 {
     Checking {
+        whose: Names::Driver,
         set,
         files: MOST_FILES,
         sources: Listing::new(alloc),

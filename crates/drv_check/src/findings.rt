@@ -3,6 +3,7 @@
 ghost use Rattle.drv_check.specs.Checks.{empty_check, noted};
 ghost use Rattle.std.specs.Prelude.{◌≡◌, IfOk, OnOk};
 
+use crate::unused_text::Names;
 use drv_specs::{SpecSet, SpecsFault, builtin};
 use drv_words::{Listing, Word};
 use std::alloc::{AllocError, Global};
@@ -87,6 +88,8 @@ pub struct Finding {
 /// A check as far as it has come.
 #[derive(Drop)]
 pub struct Checking {
+    /// For whom the files are.
+    pub whose: Names,
     /// The set so far.
     pub set: SpecSet,
     /// How many files may still be read.
@@ -101,10 +104,11 @@ pub struct Checking {
 pub(crate) const MOST_FILES: usize = 2000;
 
 /// A check of nothing yet, over the built-in set.
-pub(crate) fn empty_check(alloc: Global) -> Result<Checking, AllocError>
-    ensures { IfOk result (λ checking. checking ≡ empty_check) }
+pub(crate) fn empty_check(alloc: Global, whose: Names) -> Result<Checking, AllocError>
+    ensures { IfOk result (λ checking. checking ≡ empty_check whose) }
 {
     Ok(Checking {
+        whose,
         set: builtin(alloc)?,
         files: MOST_FILES,
         sources: Listing::new(alloc),

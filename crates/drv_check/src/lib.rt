@@ -16,6 +16,7 @@ mod seeking;
 mod spots;
 
 pub use findings::{Checking, Finding, Note, Source, Spot, Warning};
+pub use loading_order::LoadedFiles;
 pub use pieces::{Piece, pieces_of};
 pub use seeking::sources_of;
 pub use spots::place_in;

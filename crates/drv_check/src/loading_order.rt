@@ -15,6 +15,7 @@ use crate::pieces::Piece;
 use crate::pointing::{body_start, colon_in, is_addition};
 use drv_words::{Listing, Word};
 use std::alloc::{AllocError, Global};
+use std::marker::Model;
 
 /// The two names of a `%rename`.
 #[derive(Debug, Drop)]
@@ -208,10 +209,7 @@ fn with_file(
 
 /// The directives of files, in the order in which they are loaded.
 #[tactic(auto, using(crate::proofs::LoadedInOrder::file_next))]
-pub(crate) fn loaded_pieces(
-    alloc: Global,
-    sources: &[Source],
-) -> Result<Vec<LoadedPiece>, AllocError>
+fn loaded_pieces(alloc: Global, sources: &[Source]) -> Result<Vec<LoadedPiece>, AllocError>
     ensures { IfOk result (λ pieces. pieces.items ≡ loaded_pieces sources.now) }
 {
     let mut pieces = Vec::new(alloc);
@@ -223,4 +221,49 @@ pub(crate) fn loaded_pieces(
         number += 1;
     }
     Ok(pieces)
+}
+
+/// The files of a line, read for their directives. Contracts see the files.
+#[derive(Debug, Drop)]
+pub struct LoadedFiles<'a> {
+    /// The files.
+    sources: &'a [Source],
+    /// Their directives, in the order in which they are loaded.
+    pieces: Vec<LoadedPiece>,
+}
+
+impl<'a> Model for LoadedFiles<'a> {
+    ghost use Rattle.drv_check.specs.LoadingOrder.{loaded_pieces};
+    ghost use Rattle.drv_check.specs.declared.findings.Source.{Source};
+    ghost use Rattle.std.specs.Prelude.{◌≡◌, List};
+
+    ghost Value = { List Source };
+
+    ghost view = { λ f. f.sources.now };
+
+    ghost invariant = { λ f. f.pieces.items ≡ loaded_pieces f.sources.now };
+}
+
+impl<'a> LoadedFiles<'a> {
+    /// Reads the directives of files, once for all that is asked of them.
+    pub fn new(alloc: Global, sources: &'a [Source]) -> Result<LoadedFiles<'a>, AllocError>
+        ensures { IfOk result (λ files. files ≡ sources.now) }
+    {
+        let pieces = loaded_pieces(alloc, sources)?;
+        Ok(LoadedFiles { sources, pieces })
+    }
+
+    /// The files.
+    pub(crate) fn sources(&self) -> &'a [Source]
+        ensures { result.now ≡ self.now }
+    {
+        self.sources
+    }
+
+    /// Their directives, in the order in which they are loaded.
+    pub(crate) fn pieces(&self) -> &[LoadedPiece]
+        ensures { result.now ≡ loaded_pieces self.now }
+    {
+        self.pieces.as_slice()
+    }
 }

@@ -17,8 +17,8 @@ ghost use Rattle.std.specs.Prelude.{◌≡◌, ◌∷◌, ◌++◌, ◌+◌, ◌
 
 use crate::findings::{Source, Spot};
 use crate::known_trees::known_tree;
-use crate::loading_order::{head_in, loaded_pieces};
-use crate::origins::{Files, spot_at, text_spots};
+use crate::loading_order::{LoadedFiles, head_in};
+use crate::origins::{Files, Spots, spot_at, text_spots};
 use crate::own_text::{own_bytes, own_start, tree_of};
 use crate::pieces::{Piece, pieces_of};
 use crate::pointing::colon_in;
@@ -369,7 +369,7 @@ struct MarkedText<'a> {
     head: &'a [u8],
     text: &'a [u8],
     at: usize,
-    spots: &'a [Spot],
+    spots: &'a Spots<'a>,
 }
 
 /// The bytes of a part.
@@ -472,7 +472,7 @@ fn push_own(
         head,
         text,
         at: text_start(piece)?,
-        spots: spots.as_slice(),
+        spots: &spots,
     };
     push_text(alloc, parts, files.set, &text)
 }
@@ -521,15 +521,14 @@ fn push_piece(
 pub fn marked_parts(
     alloc: Global,
     set: &SpecSet,
-    sources: &[Source],
+    loaded: &LoadedFiles<'_>,
     dump: &[u8],
 ) -> Result<Listing<MarkedPart>, AllocError>
-    ensures { IfOk result (λ parts. parts ≡ marked_parts sources.now dump.now) }
+    ensures { IfOk result (λ parts. parts ≡ marked_parts loaded.now dump.now) }
 {
-    let loaded = loaded_pieces(alloc, sources)?;
     let files = Files {
-        sources,
-        pieces: loaded.as_slice(),
+        sources: loaded.sources(),
+        pieces: loaded.pieces(),
         set,
     };
     let pieces = pieces_of(alloc, dump)?;

@@ -2,6 +2,7 @@
 
 ghost use Rattle.drv_check.specs.LoadingOrder.{head_in};
 ghost use Rattle.drv_check.specs.Namings.{call_deed, deed_of, headed_namings, is_headed_run, is_used};
+ghost use Rattle.drv_check.specs.Code.Deeds.{may_name};
 ghost use Rattle.drv_check.specs.Namings.{naming_if, naming_word, namings_of};
 ghost use Rattle.drv_check.specs.Namings.{piece_namings, test_deed, token_namings, tree_namings, used_namings, written_part};
 ghost use Rattle.drv_check.specs.Origins.{text_spots};
@@ -15,8 +16,8 @@ use crate::compared::{asks_switch, is_call, prefix_of};
 use crate::findings::{Source, Spot};
 use crate::hidden_pair::{is_hidden, key_in};
 use crate::known_trees::known_tree;
-use crate::loading_order::{head_in, loaded_pieces};
-use crate::origins::{Files, spot_at, text_spots};
+use crate::loading_order::{LoadedFiles, head_in};
+use crate::origins::{Files, Spots, spot_at, text_spots};
 use crate::own_text::{own_bytes, tree_of as read_tree};
 use crate::pieces::{Piece, pieces_of};
 use crate::pointing::colon_in;
@@ -113,7 +114,7 @@ fn naming_word(alloc: Global, calls: bool, written: &[u8], word: &[u8]) -> Resul
 struct Headed<'a> {
     head: &'a [u8],
     tree: &'a SpecTree,
-    spots: &'a [Spot],
+    spots: &'a Spots<'a>,
 }
 
 /// A part of a text that does something with switches.
@@ -153,7 +154,18 @@ fn push_naming(
     Ok(())
 }
 
+/// Whether a part of this kind may name switches.
+fn may_name(kind: TokenKind) -> bool
+    ensures { result ≡ may_name kind }
+{
+    matches!(
+        kind,
+        TokenKind::Pattern | TokenKind::Hide | TokenKind::Test | TokenKind::Function
+    )
+}
+
 /// Adds the part at this place of a text, if it names switches.
+#[tactic(auto, using(crate::proofs::Namings::token_passed))]
 fn push_token(
     alloc: Global,
     namings: &mut Listing<Naming>,
@@ -167,6 +179,10 @@ fn push_token(
         ++ token_namings text.now.head.now text.now.tree.now text.now.spots.now token
         (label_at (tree_of text.now.tree.now) place)) }
 {
+    // Most parts name none, and their kind says so.
+    if !may_name(token.kind) {
+        return Ok(());
+    }
     match deed_of(token.kind, text.tree.asks(place), text.tree.word(place)) {
         Some(deed) => {
             let part = Doing { place, token, deed };
@@ -202,7 +218,7 @@ fn push_tree(
 struct Spotted<'a> {
     head: &'a [u8],
     text: &'a [u8],
-    spots: &'a [Spot],
+    spots: &'a Spots<'a>,
 }
 
 /// Adds the parts of a text with this tree that name switches.
@@ -265,7 +281,7 @@ fn push_run(
     let text = Spotted {
         head,
         text,
-        spots: spots.as_slice(),
+        spots: &spots,
     };
     push_text(alloc, namings, files.set, &text)
 }
@@ -374,15 +390,14 @@ fn push_used(
 pub fn namings_of(
     alloc: Global,
     set: &SpecSet,
-    sources: &[Source],
+    loaded: &LoadedFiles<'_>,
     dump: &[u8],
 ) -> Result<Listing<Naming>, AllocError>
-    ensures { IfOk result (λ namings. namings ≡ namings_of sources.now dump.now) }
+    ensures { IfOk result (λ namings. namings ≡ namings_of loaded.now dump.now) }
 {
-    let loaded = loaded_pieces(alloc, sources)?;
     let files = Files {
-        sources,
-        pieces: loaded.as_slice(),
+        sources: loaded.sources(),
+        pieces: loaded.pieces(),
         set,
     };
     let pieces = pieces_of(alloc, dump)?;

@@ -12,7 +12,7 @@ ghost use Rattle.std.specs.Prelude.{◌≡◌, ◌<◌, IfOk, IfSome};
 
 use crate::findings::{Checking, Note, Source, Spot, add_note};
 use crate::including::Inclusion;
-use crate::pieces::{Piece, pieces_of};
+use crate::pieces::{Piece, checked_pieces};
 use drv_place::settle;
 use drv_search::{Prefixes, find_file};
 use drv_specs::SpecsFault;
@@ -61,7 +61,7 @@ pub(crate) fn open_file(alloc: Global, number: usize, text: &[u8]) -> Result<Ope
     ensures { IfOk result (λ file. file ≡ open_file number text.now) }
 {
     let settled = settle(alloc, text)?;
-    let pieces = pieces_of(alloc, settled.text.as_bytes())?;
+    let pieces = checked_pieces(alloc, settled.text.as_bytes())?;
     Ok(OpenFile {
         number,
         size: text.len(),

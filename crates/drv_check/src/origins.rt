@@ -1,10 +1,11 @@
 //! Where in files the bytes of a set's texts are.
 
+ghost use Rattle.drv_check.specs.Code.OwnSpots.{has_bytes};
 ghost use Rattle.drv_check.specs.Origins.{agree, byte_at, if_agreed, is_byte, last_spots, old_head, own_spots, puts_head};
-ghost use Rattle.drv_check.specs.Origins.{spot_at, spots_after, text_spots};
+ghost use Rattle.drv_check.specs.Origins.{spot_at, spots_after, spots_at, text_spots};
 ghost use Rattle.drv_words.specs.Bytes.{asterisk};
 ghost use Rattle.std.specs.Cmp.Lexicographic.{pointwise};
-ghost use Rattle.std.specs.Prelude.{◌≡◌, ◌∷◌, ◌++◌, IfOk, OnOk, nat_eq, reverse};
+ghost use Rattle.std.specs.Prelude.{◌≡◌, ◌∷◌, ◌++◌, IfOk, IfSome, OnOk, nat_eq, reverse, slice_get};
 
 use crate::bytes::following;
 use crate::findings::{Source, Spot};
@@ -12,6 +13,7 @@ use crate::loading_order::{LoadedPiece, Renaming};
 use drv_specs::SpecSet;
 use drv_words::Word;
 use std::alloc::{AllocError, Global};
+use std::marker::Model;
 
 /// Files and the set that they make, with others or without.
 #[derive(Drop)]
@@ -182,9 +184,126 @@ fn last_spots<'a>(spots: &'a [Spot], text: &[u8]) -> &'a [Spot]
     following(spots, spots.len().saturating_sub(text.len()))
 }
 
-/// The spots of the last bytes of a head's text, which are those of files.
+/// Where the last bytes of a text are in files: those that one directive gives, which are in one
+/// source, and others behind them. Contracts see the list of their spots.
+#[derive(Debug, Drop)]
+pub(crate) struct Spots<'a> {
+    /// The number of that source.
+    source: usize,
+    /// The places there.
+    places: &'a [usize],
+    /// The spots of the others.
+    others: Vec<Spot>,
+}
+
+impl<'a> Model for Spots<'a> {
+    ghost use Rattle.drv_check.specs.Origins.{spots_at};
+    ghost use Rattle.drv_check.specs.declared.findings.Spot.{Spot};
+    ghost use Rattle.std.specs.Prelude.{◌++◌, List};
+
+    ghost Value = { List Spot };
+
+    ghost view = { λ s. spots_at s.source s.places.now ++ s.others.items };
+}
+
+impl<'a> Spots<'a> {
+    /// These places of a source.
+    #[tactic(auto, using(crate::proofs::OwnSpots::no_others))]
+    fn of_places(alloc: Global, source: usize, places: &'a [usize]) -> Spots<'a>
+        ensures { result ≡ spots_at source places.now }
+    {
+        Spots {
+            source,
+            places,
+            others: Vec::new(alloc),
+        }
+    }
+
+    /// These spots.
+    fn of_several(spots: Vec<Spot>) -> Spots<'a>
+        ensures { result ≡ spots.items }
+    {
+        Spots {
+            source: 0,
+            places: &[],
+            others: spots,
+        }
+    }
+
+    /// The spot at this place of the list.
+    #[tactic(auto, using(crate::proofs::OwnSpots::own_got, crate::proofs::OwnSpots::other_got))]
+    fn get(&self, index: usize) -> Option<Spot>
+        ensures { result ≡ slice_get self.now index }
+    {
+        if index < self.places.len() {
+            return Some(Spot {
+                source: self.source,
+                at: self.places[index],
+            });
+        }
+        self.others.get(index - self.places.len()).copied()
+    }
+}
+
+/// The directive that gives the whole text of a head, where no later one renames a text.
+#[tactic(auto, using(crate::proofs::OwnSpots::own_found, crate::proofs::OwnSpots::other_passed))]
+fn own_piece<'a>(head: &[u8], pieces: &'a [LoadedPiece]) -> Option<&'a LoadedPiece>
+    ensures { IfSome result (λ piece. spots_after head.now (reverse pieces.now) ≡ own_spots piece.now) }
+{
+    let mut left = pieces;
+    while let Some((piece, earlier)) = left.split_last() {
+        if puts_head(head, piece) {
+            return if piece.adds { None } else { Some(piece) };
+        }
+        if piece.renaming.is_some() {
+            return None;
+        }
+        left = earlier;
+    }
+    None
+}
+
+/// Whether a source has the bytes of a text at these places.
+#[tactic(auto, using(crate::proofs::OwnSpots::bytes_next))]
+fn has_bytes(source: &[u8], places: &[usize], text: &[u8]) -> bool
+    ensures { result ≡ has_bytes source.now places.now text.now }
+{
+    let mut places_left = places;
+    let mut bytes_left = text;
+    while let [place, places_after @ ..] = places_left {
+        let [byte, bytes_after @ ..] = bytes_left else {
+            return false;
+        };
+        if !is_byte(source.get(*place).copied(), *byte) {
+            return false;
+        }
+        places_left = places_after;
+        bytes_left = bytes_after;
+    }
+    true
+}
+
+/// The places of the last bytes of a text that a directive gives, if its source has those bytes there.
+fn agreed_places<'a>(sources: &[Source], piece: &'a LoadedPiece, text: &[u8]) -> &'a [usize]
+    ensures { spots_at piece.now.spot.source result.now
+        ≡ if_agreed sources.now text.now (last_spots (own_spots piece.now) text.now) }
+{
+    let places = piece.places.as_slice();
+    let Some(source) = sources.get(piece.spot.source) else {
+        return &[];
+    };
+    let last = following(places, places.len().saturating_sub(text.len()));
+    let bytes = following(text, text.len().saturating_sub(last.len()));
+    if has_bytes(source.text.as_bytes(), last, bytes) {
+        last
+    } else {
+        &[]
+    }
+}
+
+/// The spots of the last bytes of a head's text, which several directives may give.
 #[tactic(auto, using(crate::proofs::TextOrigins::no_pieces))]
-pub(crate) fn text_spots(
+fn several_spots(
     alloc: Global,
     sources: &[Source],
     pieces: &[LoadedPiece],
@@ -202,14 +321,35 @@ pub(crate) fn text_spots(
     Vec::from_slice(alloc, spots)
 }
 
+/// The spots of the last bytes of a head's text, which are those of files. One directive gives most
+/// texts, and its places are lent.
+#[tactic(auto, using(crate::proofs::OwnSpots::text_of_own))]
+pub(crate) fn text_spots<'a>(
+    alloc: Global,
+    sources: &[Source],
+    pieces: &'a [LoadedPiece],
+    head: &[u8],
+    text: &[u8],
+) -> Result<Spots<'a>, AllocError>
+    ensures { IfOk result (λ spots. spots ≡ text_spots sources.now pieces.now head.now text.now) }
+{
+    if let Some(piece) = own_piece(head, pieces) {
+        let places = agreed_places(sources, piece, text);
+        return Ok(Spots::of_places(alloc, piece.spot.source, places));
+    }
+    let spots = several_spots(alloc, sources, pieces, head, text)?;
+    Ok(Spots::of_several(spots))
+}
+
 /// The spot of the byte at this place of a text of this size, whose last bytes have these spots.
-pub(crate) fn spot_at(spots: &[Spot], size: usize, place: usize) -> Option<Spot>
+#[tactic(auto, using(crate::proofs::OwnSpots::size_before))]
+pub(crate) fn spot_at(spots: &Spots<'_>, size: usize, place: usize) -> Option<Spot>
     ensures { result ≡ spot_at spots.now size place }
 {
-    let before = size.saturating_sub(spots.len());
+    let own = size.saturating_sub(spots.places.len());
+    let before = own.saturating_sub(spots.others.len());
     if place < before {
-        None
-    } else {
-        spots.get(place - before).copied()
+        return None;
     }
+    spots.get(place - before)
 }

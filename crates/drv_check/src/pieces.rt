@@ -1,10 +1,14 @@
 //! The pieces of a settled text that are directives.
 
-ghost use Rattle.drv_check.specs.Pieces.{begun_after, ended_by, line_kind, longer, piece_of};
-ghost use Rattle.drv_check.specs.Pieces.{pieces_of};
-ghost use Rattle.std.specs.Prelude.{◌≡◌, ◌++◌, IfOk, None, OnOk};
+ghost use Rattle.drv_check.specs.Pieces.{alone_at, begins_head, begun_after, checked_pieces, ended_by};
+ghost use Rattle.drv_check.specs.Pieces.{first_lacks_colon, goes_on_at, is_cut, is_head_byte, lacks_colon, line_kind};
+ghost use Rattle.drv_check.specs.Pieces.{longer, opened_by, piece_of, pieces_cut, pieces_of};
+ghost use Rattle.drv_specs.specs.Lines.{lines_of};
+ghost use Rattle.std.specs.Prelude.{◌≡◌, ◌++◌, IfOk, OnOk};
 
 use crate::bytes::{cut_line, is_empty_line, without_blanks};
+use crate::pointing::colon_in;
+use crate::warning::{begins_keyword, name_precedes};
 use drv_words::{Listing, Word};
 use std::alloc::{AllocError, Global};
 
@@ -76,6 +80,52 @@ struct LineStart {
     at: usize,
 }
 
+/// Whether a line has no colon, so that it begins no directive with a body.
+fn lacks_colon(line: &[u8]) -> bool
+    ensures { result ≡ lacks_colon line.now }
+{
+    colon_in(without_blanks(line)).is_none()
+}
+
+/// Whether the first line of a text has no colon.
+fn first_lacks_colon(text: &[u8]) -> bool
+    ensures { result ≡ first_lacks_colon (lines_of text.now) }
+{
+    let (line, _) = cut_line(text);
+    lacks_colon(line)
+}
+
+/// Whether a byte begins the head of a directive with a body.
+fn is_head_byte(byte: u8) -> bool
+    ensures { result ≡ is_head_byte byte }
+{
+    byte == b'*' || byte == b'.' || byte == b'@'
+}
+
+/// Whether a line without the blanks at its front begins with such a head.
+fn begins_head(line: &[u8]) -> bool
+    ensures { result ≡ begins_head line.now }
+{
+    match line {
+        [first, rest @ ..] => is_head_byte(*first) && name_precedes(colon_in(rest), rest),
+        [] => false,
+    }
+}
+
+/// Whether reading goes on at a line below one that is no directive.
+fn goes_on_at(line: &[u8]) -> bool
+    ensures { result ≡ goes_on_at line.now }
+{
+    begins_head(without_blanks(line)) || begins_keyword(line)
+}
+
+/// Whether a line ends the piece above it, as that is no directive.
+fn is_cut(piece: &Piece, line: &[u8]) -> bool
+    ensures { result ≡ is_cut piece.now line.now }
+{
+    goes_on_at(line) && first_lacks_colon(piece.text.as_bytes())
+}
+
 /// Takes a line that begins here and is in no body.
 fn take_first(
     alloc: Global,
@@ -83,10 +133,9 @@ fn take_first(
     start: LineStart,
     line: &[u8],
 ) -> Result<Option<Piece>, AllocError>
-    ensures begun { IfOk result
-        (λ next. next ≡ begun_after None start.number start.at line.now) }
+    ensures begun { IfOk result (λ next. next ≡ opened_by start.number start.at line.now) }
     ensures ended { OnOk result
-        (pieces.new.items ≡ pieces.old.items ++ ended_by None start.number start.at line.now) }
+        (pieces.new.items ≡ pieces.old.items ++ alone_at start.number start.at line.now) }
 {
     match line_kind(line) {
         LineKind::Passed => Ok(None),
@@ -102,14 +151,16 @@ fn take_first(
 fn take_line(
     alloc: Global,
     pieces: &mut Vec<Piece>,
+    recovers: bool,
     begun: Option<Piece>,
     start: LineStart,
     line: &[u8],
 ) -> Result<Option<Piece>, AllocError>
     ensures begun { IfOk result
-        (λ next. next ≡ begun_after begun start.number start.at line.now) }
+        (λ next. next ≡ begun_after recovers begun start.number start.at line.now) }
     ensures ended { OnOk result
-        (pieces.new.items ≡ pieces.old.items ++ ended_by begun start.number start.at line.now) }
+        (pieces.new.items
+        ≡ pieces.old.items ++ ended_by recovers begun start.number start.at line.now) }
 {
     let Some(piece) = begun else {
         return take_first(alloc, pieces, start, line);
@@ -118,13 +169,17 @@ fn take_line(
         pieces.push(piece)?;
         return Ok(None);
     }
+    if recovers && is_cut(&piece, line) {
+        pieces.push(piece)?;
+        return take_first(alloc, pieces, start, line);
+    }
     Ok(Some(longer(piece, line)?))
 }
 
-/// The pieces of a settled text that are directives, in their order (GCC manual, "Spec Files").
+/// The pieces of a settled text, where reading recovers from a line that is no directive or not.
 #[tactic(auto, using(crate::proofs::Cutting::pieces_more))]
-pub fn pieces_of(alloc: Global, text: &[u8]) -> Result<Listing<Piece>, AllocError>
-    ensures { IfOk result (λ pieces. pieces ≡ pieces_of text.now) }
+fn cut_pieces(alloc: Global, recovers: bool, text: &[u8]) -> Result<Listing<Piece>, AllocError>
+    ensures { IfOk result (λ pieces. pieces ≡ pieces_cut recovers text.now) }
 {
     let mut pieces = Vec::new(alloc);
     let mut begun = None;
@@ -133,7 +188,8 @@ pub fn pieces_of(alloc: Global, text: &[u8]) -> Result<Listing<Piece>, AllocErro
     let mut left = Some(text);
     while let Some(bytes) = left {
         let (line, rest) = cut_line(bytes);
-        begun = take_line(alloc, &mut pieces, begun, LineStart { number, at }, line)?;
+        let start = LineStart { number, at };
+        begun = take_line(alloc, &mut pieces, recovers, begun, start, line)?;
         number += 1;
         at += line.len() + 1;
         left = rest;
@@ -142,4 +198,19 @@ pub fn pieces_of(alloc: Global, text: &[u8]) -> Result<Listing<Piece>, AllocErro
         pieces.push(piece)?;
     }
     Ok(Listing::from_vec(pieces))
+}
+
+/// The pieces of a settled text that are directives, in their order (GCC manual, "Spec Files").
+pub fn pieces_of(alloc: Global, text: &[u8]) -> Result<Listing<Piece>, AllocError>
+    ensures { IfOk result (λ pieces. pieces ≡ pieces_of text.now) }
+{
+    cut_pieces(alloc, false, text)
+}
+
+/// The pieces of a settled text that are checked: also those below a line that is no directive, at
+/// which the driver ends.
+pub(crate) fn checked_pieces(alloc: Global, text: &[u8]) -> Result<Listing<Piece>, AllocError>
+    ensures { IfOk result (λ pieces. pieces ≡ checked_pieces text.now) }
+{
+    cut_pieces(alloc, true, text)
 }

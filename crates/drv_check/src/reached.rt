@@ -2,7 +2,7 @@
 
 ghost use Rattle.drv_check.specs.Reached.{entry_of, first_names, named_entry, pair_entry, reached_dump, reached_names, text_names};
 ghost use Rattle.drv_check.specs.Reached.{with_name, with_names, with_pairs};
-ghost use Rattle.drv_check.specs.UnusedTexts.{is_among};
+ghost use Rattle.drv_check.specs.GccNames.{is_among};
 ghost use Rattle.drv_specs.specs.Dumping.{entry_text, named_text};
 ghost use Rattle.std.specs.List.{flat_map};
 ghost use Rattle.std.specs.Option.{option_map};

@@ -101,7 +101,7 @@ fn warn(
 ) -> Result<(), AllocError>
     ensures { OnOk result (checking.new ≡ warned checking.old file.now piece.now) }
 {
-    let marks = marks_of(alloc, &checking.set, piece.text.as_bytes())?;
+    let marks = marks_of(alloc, checking.whose, &checking.set, piece.text.as_bytes())?;
     push_warnings(&mut checking.findings, file, piece, marks.as_slice())
 }
 

@@ -21,10 +21,9 @@ use crate::never_true::switch_warning;
 use crate::own_text::{own_start, own_tree};
 use crate::pointing::name_in;
 use crate::switch_names::pattern_at;
-use crate::unused_text::{Names, Whole};
+use crate::unused_text::{Names, Whole, gcc_has};
 use crate::warning::Mark;
 use drv_match::Pattern;
-use drv_specs::SpecSet;
 use drv_syntax::{SpecTree, TestKind, Token, TokenKind};
 use std::alloc::{AllocError, Global};
 
@@ -51,7 +50,7 @@ fn ends_before(before: Option<u8>) -> bool
     ensures { result ≡ ends_before before }
 {
     match before {
-        Some(byte) => is_white(byte) || is_colon(byte),
+        Some(byte) => is_white(byte) || is_colon(byte) || byte == b'|' || byte == b'(',
         None => true,
     }
 }
@@ -85,11 +84,12 @@ fn test_warning(whose: Names, asks: TestKind, pattern: &Pattern<'_>) -> Option<W
 }
 
 /// The warning of the name of a text.
-fn name_warning(set: &SpecSet, name: &[u8]) -> Option<Warning>
-    ensures { result ≡ name_warning set.now name.now }
+fn name_warning(whole: &Whole<'_>, name: &[u8]) -> Option<Warning>
+    ensures { result ≡ name_warning whole.now.whose whole.now.set.now name.now }
 {
-    match set.text(name) {
+    match whole.set.text(name) {
         Some(_) => None,
+        None if gcc_has(whole.whose, name) => None,
         None => Some(Warning::UnknownText),
     }
 }
@@ -108,7 +108,7 @@ fn token_warning(whole: &Whole<'_>, tree: &SpecTree, place: usize, token: Token)
         }
         TokenKind::Test => test_warning(whole.whose, tree.asks(place), &pattern_at(tree, place)),
         TokenKind::Pattern => switch_warning(whole.whose, &pattern_at(tree, place)),
-        TokenKind::NamedText => name_warning(whole.set, tree.word(place)),
+        TokenKind::NamedText => name_warning(whole, tree.word(place)),
         _ => None,
     }
 }

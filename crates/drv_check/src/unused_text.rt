@@ -1,6 +1,7 @@
 //! Texts that no other one works.
 
-ghost use Rattle.drv_check.specs.UnusedTexts.{is_among, is_known, is_unused, name_worked, names_between};
+ghost use Rattle.drv_check.specs.GccNames.{gcc_has, gcc_has_named, is_among, names_between};
+ghost use Rattle.drv_check.specs.UnusedTexts.{is_known, is_unused, name_worked};
 ghost use Rattle.drv_check.specs.UnusedTexts.{names_in, piece_names, puts_text, source_names};
 ghost use Rattle.drv_check.specs.UnusedTexts.{unused_marks};
 ghost use Rattle.drv_syntax.specs.Labels.{label_at};
@@ -29,13 +30,14 @@ const DRIVER_NAMES: &[u8] =
       cc1_cmd signed_char linker link link_command link_gcc_c_sequence startfile lib libgcc endfile \
       gdrv_self gdrv_pass";
 
-/// The names of gcc's own texts that are none of these (GCC, "gcc.cc", static_specs).
+/// The names of gcc's own texts that the built-in set has not (GCC, "gcc.cc", static_specs).
 const GCC_NAMES: &[u8] =
-    b"asm_debug asm_debug_option invoke_as cpp_debug_options trad_capable_cpp cc1plus link_ssp \
-      link_gomp cross_compile version multilib multilib_defaults multilib_extra multilib_matches \
-      multilib_exclusions multilib_options multilib_reuse linker_plugin_file lto_wrapper lto_gcc \
-      post_link link_libgcc md_exec_prefix md_startfile_prefix md_startfile_prefix_1 \
-      startfile_prefix_spec sysroot_spec sysroot_suffix_spec sysroot_hdrs_suffix_spec self_spec";
+    b"asm_debug asm_debug_option asm_final invoke_as cpp_debug_options trad_capable_cpp cc1plus \
+      link_ssp link_gomp cross_compile version multilib multilib_defaults multilib_extra \
+      multilib_matches multilib_exclusions multilib_options multilib_reuse linker_plugin_file \
+      lto_wrapper lto_gcc post_link link_libgcc md_exec_prefix md_startfile_prefix \
+      md_startfile_prefix_1 startfile_prefix_spec sysroot_spec sysroot_suffix_spec \
+      sysroot_hdrs_suffix_spec self_spec";
 
 /// For whom spec files are: whose texts count as run, though no text names them, and what is a
 /// switch.
@@ -43,7 +45,7 @@ const GCC_NAMES: &[u8] =
 pub enum Names {
     /// The driver: the built-in texts count, and those that its programs run.
     Driver,
-    /// gcc too: its own texts count as well, and what it takes for a switch is one.
+    /// gcc too: its own texts count as well and are there, and what it takes for a switch is one.
     Gcc,
 }
 
@@ -61,6 +63,26 @@ fn stands_in(text: &[u8], name: &[u8]) -> bool
     ensures { result ≡ is_among (names_between text.now) name.now }
 {
     text.split(|byte| *byte == b' ').any(|other| name == other)
+}
+
+/// Whether gcc has the text of this name, where its names count.
+pub(crate) fn gcc_has(whose: Names, name: &[u8]) -> bool
+    ensures { result ≡ gcc_has whose name.now }
+{
+    match whose {
+        Names::Driver => false,
+        Names::Gcc => stands_in(GCC_NAMES, name),
+    }
+}
+
+/// The same of a name, if there is one.
+pub(crate) fn gcc_has_named(whose: Names, name: Option<&[u8]>) -> bool
+    ensures { result ≡ gcc_has_named whose (option_map (λ name. name.now) name.entry) }
+{
+    match name {
+        Some(name) => gcc_has(whose, name),
+        None => false,
+    }
 }
 
 /// Whether the driver works the text of this name itself, or gcc, where its names count.

@@ -2,7 +2,7 @@
 
 ghost use Rattle.drv_check.specs.Warnings.{adds_to_nothing, append_marks, begins_directive, begins_name};
 ghost use Rattle.drv_check.specs.Warnings.{body_marks, is_keyword, is_self_spec, line_marks};
-ghost use Rattle.drv_check.specs.Warnings.{marks_of, name_precedes};
+ghost use Rattle.drv_check.specs.Warnings.{marks_of, may_be_missing, name_precedes};
 ghost use Rattle.drv_specs.specs.Lines.{lines_of, words_of};
 ghost use Rattle.drv_specs.specs.Sets.{is_name, is_name_byte, is_sized};
 ghost use Rattle.std.specs.List.{list_all};
@@ -12,6 +12,7 @@ ghost use Rattle.std.specs.Prelude.{◌≡◌, ◌<◌, ◌^◌, ◌+◌, ◌++�
 use crate::bytes::{blanks_before, cut_line, following, has_byte, next_word, without_blanks};
 use crate::findings::Warning;
 use crate::pointing::{body_start, colon_in, is_addition, name_in, old_length};
+use crate::unused_text::{Names, gcc_has_named};
 use drv_specs::SpecSet;
 use std::alloc::{AllocError, Global};
 
@@ -72,13 +73,26 @@ pub(crate) fn is_self_spec(name: Option<&[u8]>) -> bool
     }
 }
 
+/// Whether an addition is meant for a text of this name that isn't there.
+fn may_be_missing(whose: Names, name: Option<&[u8]>) -> bool
+    ensures { result ≡ may_be_missing whose (option_map (λ name. name.now) name.entry) }
+{
+    is_self_spec(name) || gcc_has_named(whose, name)
+}
+
 /// Adds the warning of an addition to a text that isn't there.
-fn push_append(marks: &mut Vec<Mark>, set: &SpecSet, text: &[u8]) -> Result<(), AllocError>
-    ensures { OnOk result (marks.new.items ≡ marks.old.items ++ append_marks set.now text.now) }
+fn push_append(
+    marks: &mut Vec<Mark>,
+    whose: Names,
+    set: &SpecSet,
+    text: &[u8],
+) -> Result<(), AllocError>
+    ensures { OnOk result
+        (marks.new.items ≡ marks.old.items ++ append_marks whose set.now text.now) }
 {
     let body = following(text, body_start(text));
     let name = name_in(text);
-    if adds_to_nothing(old_length(set, name), body) && !is_self_spec(name) {
+    if adds_to_nothing(old_length(set, name), body) && !may_be_missing(whose, name) {
         marks.push(Mark {
             at: blanks_before(text),
             warning: Warning::AppendToNothing,
@@ -88,7 +102,7 @@ fn push_append(marks: &mut Vec<Mark>, set: &SpecSet, text: &[u8]) -> Result<(), 
 }
 
 /// Whether what precedes a place is a name.
-fn name_precedes(at: Option<usize>, line: &[u8]) -> bool
+pub(crate) fn name_precedes(at: Option<usize>, line: &[u8]) -> bool
     ensures { result ≡ name_precedes at line.now }
 {
     match at {
@@ -109,7 +123,7 @@ fn begins_name(line: &[u8]) -> bool
 }
 
 /// Whether a line would begin a directive of one line.
-fn begins_keyword(line: &[u8]) -> bool
+pub(crate) fn begins_keyword(line: &[u8]) -> bool
     ensures { result ≡ is_keyword (words_of line.now) }
 {
     match next_word(line) {
@@ -162,11 +176,16 @@ fn push_body(marks: &mut Vec<Mark>, text: &[u8]) -> Result<(), AllocError>
 }
 
 /// What is surely not meant in a piece, over this set.
-pub(crate) fn marks_of(alloc: Global, set: &SpecSet, text: &[u8]) -> Result<Vec<Mark>, AllocError>
-    ensures { IfOk result (λ marks. marks.items ≡ marks_of set.now text.now) }
+pub(crate) fn marks_of(
+    alloc: Global,
+    whose: Names,
+    set: &SpecSet,
+    text: &[u8],
+) -> Result<Vec<Mark>, AllocError>
+    ensures { IfOk result (λ marks. marks.items ≡ marks_of whose set.now text.now) }
 {
     let mut marks = Vec::new(alloc);
-    push_append(&mut marks, set, text)?;
+    push_append(&mut marks, whose, set, text)?;
     push_body(&mut marks, text)?;
     Ok(marks)
 }

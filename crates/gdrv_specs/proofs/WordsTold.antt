@@ -119,15 +119,17 @@ refused_added set input fault before is = sym (append-nil before) ∙ ap (λ c. 
 
 -- it is made of the marks in the texts that the plan can use, and of the plan with these
 pub origins_are : {E : Type 0} (F : Facts) (view : View) (line : Line) (set : Set) (seed : ℕ) (plan : Plan) (sources : List Source)
-    (marks : Marks) (namings : List Naming) (text : List ℕ) (marked : Option Work) (lines : List PlanLine) (result : Result (List ℕ) E)
-    → marks ≡ marks_in sources (plan_dump set line plan) → namings ≡ switch_parts view.scope sources set → text ≡ marks.text
+    (files : List Source) (marks : Marks) (namings : List Naming) (text : List ℕ) (marked : Option Work) (lines : List PlanLine)
+    (result : Result (List ℕ) E) → files ≡ sources
+    → marks ≡ marks_in files (plan_dump set line plan) → namings ≡ switch_parts view.scope files set → text ≡ marks.text
     → marked_work F line set text seed ≡ Is marked → lines ≡ lines_in marked
     → IfOk result (λ told. told
     ≡ view_text view (record { line = line; plan = plan; sources = sources; parts = marks.parts; marked = lines }) namings)
     → IfOk result (λ told. origins_with F view line set seed plan sources (marks_in sources (plan_dump set line plan)) ≡ Is told)
-origins_are F view line set seed plan sources marks namings text marked lines (Err e) puts names same works has says = says
-origins_are F view line set seed plan sources marks namings text marked lines (Ok told) puts names same works has says =
-    ap (origins_with F view line set seed plan sources) (sym puts)
+origins_are F view line set seed plan sources files marks namings text marked lines (Err e) found puts names same works has says = says
+origins_are F view line set seed plan sources files marks namings text marked lines (Ok told) found puts names same works has says =
+    ap (λ fs. origins_with F view line set seed plan sources (marks_in fs (plan_dump set line plan))) (sym found)
+    ∙ ap (origins_with F view line set seed plan sources) (sym puts)
     ∙ ap (λ t. marked_work F line set t seed >>= λ m. Is (view_text view (marking_of line plan sources marks.parts m)
     (switch_parts view.scope sources set))) (sym same)
     ∙ ap (λ known. known >>= λ m. Is (view_text view (marking_of line plan sources marks.parts m) (switch_parts view.scope sources set)))
@@ -135,7 +137,7 @@ origins_are F view line set seed plan sources marks namings text marked lines (O
     ∙ ap (λ ls. Is (view_text view (record { line = line; plan = plan; sources = sources; parts = marks.parts; marked = ls })
     (switch_parts view.scope sources set))) (sym has)
     ∙ ap (λ ns. Is (view_text view (record { line = line; plan = plan; sources = sources; parts = marks.parts; marked = lines }) ns))
-    (sym names)
+    (sym (names ∙ ap (λ fs. switch_parts view.scope fs set) found))
     ∙ ap Is (sym says)
 
 -- with the files that were found

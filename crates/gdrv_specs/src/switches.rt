@@ -19,7 +19,7 @@ ghost use Rattle.std.specs.Prelude.{◌≡◌, IfOk};
 use crate::explaining::tell_reasons;
 use crate::outcome::Outcome;
 use drv_args::{Line, Settings};
-use drv_check::{Source, namings_of, sources_of};
+use drv_check::{LoadedFiles, Source, namings_of, sources_of};
 use drv_run::{Ending, line_of_call, load_specs};
 use drv_specs::{SpecSet, SpecsFault, builtin};
 use drv_system::{FactTable, Outside, System};
@@ -69,7 +69,8 @@ fn fates_of<S: System>(
 {
     let sources = sources_in(alloc, line, outside)?;
     let dump = set.dump()?;
-    let namings = namings_of(alloc, set, sources.as_slice(), dump.as_bytes())?;
+    let files = LoadedFiles::new(alloc, sources.as_slice())?;
+    let namings = namings_of(alloc, set, &files, dump.as_bytes())?;
     fates_report(
         alloc,
         report,

@@ -3,7 +3,7 @@
 ghost use Rattle.gdrv_specs.specs.Views.{switch_parts, view_text};
 ghost use Rattle.std.specs.Prelude.{◌≡◌, IfOk};
 
-use drv_check::{Naming, Source, namings_of};
+use drv_check::{LoadedFiles, Naming, namings_of};
 use drv_specs::SpecSet;
 use drv_why::{Marking, Report, origins_report, whole_report};
 use drv_words::{Listing, Word};
@@ -31,16 +31,16 @@ pub struct View {
 pub(crate) fn switch_parts(
     alloc: Global,
     scope: Scope,
-    sources: &[Source],
+    files: &LoadedFiles<'_>,
     set: &SpecSet,
 ) -> Result<Listing<Naming>, AllocError>
-    ensures { IfOk result (λ namings. namings ≡ switch_parts scope sources.now set.now) }
+    ensures { IfOk result (λ namings. namings ≡ switch_parts scope files.now set.now) }
 {
     match scope {
         Scope::Words => Ok(Listing::new(alloc)),
         Scope::Whole => {
             let dump = set.dump()?;
-            namings_of(alloc, set, sources, dump.as_bytes())
+            namings_of(alloc, set, files, dump.as_bytes())
         }
     }
 }

@@ -30,7 +30,7 @@ use crate::outcome::Outcome;
 use crate::switches::{read_line, set_of, sources_in};
 use crate::views::{View, switch_parts, view_text};
 use drv_args::{Input, Line};
-use drv_check::{MarkedPart, Roots, Source, marked_parts, marked_text, reached_dump};
+use drv_check::{LoadedFiles, MarkedPart, Roots, Source, marked_parts, marked_text, reached_dump};
 use drv_plan::{PlanFault, language};
 use drv_run::{Ending, Work};
 use drv_search::Prefixes;
@@ -217,14 +217,14 @@ fn marks_of(
     line: &Line,
     set: &SpecSet,
     plan: &Plan,
-    sources: &[Source],
+    files: &LoadedFiles<'_>,
 ) -> Result<Marks, AllocError>
     ensures { IfOk result
-        (λ marks. marks ≡ marks_in sources.now (plan_dump set.now line.now plan.now)) }
+        (λ marks. marks ≡ marks_in files.now (plan_dump set.now line.now plan.now)) }
 {
     let texts = source_texts(alloc, line, set)?;
     let dump = reached_dump(alloc, set, roots_of(plan), texts.as_slice())?;
-    let parts = marked_parts(alloc, set, sources, dump.as_bytes())?;
+    let parts = marked_parts(alloc, set, files, dump.as_bytes())?;
     let text = marked_text(alloc, dump.as_bytes(), parts.as_slice())?;
     Ok(Marks { parts, text })
 }
@@ -244,8 +244,9 @@ fn origins_with<S: System>(
         planned.now.plan.now planned.now.sources.now (marks_in planned.now.sources.now
         (plan_dump set.old traced.now.line.now planned.now.plan.now)) ≡ Is text) }
 {
-    let marks = marks_of(alloc, traced.line, set, planned.plan, planned.sources)?;
-    let namings = switch_parts(alloc, traced.view.scope, planned.sources, set)?;
+    let files = LoadedFiles::new(alloc, planned.sources)?;
+    let marks = marks_of(alloc, traced.line, set, planned.plan, &files)?;
+    let namings = switch_parts(alloc, traced.view.scope, &files, set)?;
     let marked = marked_work(alloc, traced, set, marks.text.as_bytes(), outside)?;
     let lines = lines_in(alloc, &marked)?;
     let marking = Marking {

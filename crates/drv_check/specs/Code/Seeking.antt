@@ -1,6 +1,6 @@
 use Rattle.drv_check.specs.Checks.{opened, spot_in}
 use Rattle.drv_check.specs.Includes.{inclusion_in}
-use Rattle.drv_check.specs.Pieces.{pieces_of}
+use Rattle.drv_check.specs.Pieces.{checked_pieces}
 use Rattle.drv_check.specs.Points.{front_length}
 use Rattle.drv_check.specs.declared.findings.Checking.{Checking}
 use Rattle.drv_check.specs.declared.findings.Finding.{Finding}
@@ -48,4 +48,4 @@ Seeks before after whole = Goes before after whole (λ c. Is c)
 
 -- an open file has the pieces of a text
 abbrev pub IsFile : OpenFile → Type 0
-IsFile file = (text : List ℕ) × (file.pieces ≡ pieces_of (settle text))
+IsFile file = (text : List ℕ) × (file.pieces ≡ checked_pieces (settle text))

@@ -8,5 +8,5 @@ use Rattle.drv_check.proofs.checking.check_base.Goals as goal
 
 pub returns-clause-checks : goal.returns-clause-checks
 returns-clause-checks g c F e =
-    base_checked F c.args.search.now.prefixes.now c.args.over.now c.in_ok-checking.checking c.check_all.new.checking c.faults_alone.result
-    c.in_ok-checking.ensures (c.in_ok-check_all.ensures.checks F e) c.faults_alone.ensures
+    base_checked F c.args.search.now.prefixes.now c.args.over.now c.args.whose c.in_ok-checking.checking c.check_all.new.checking
+    c.faults_alone.result c.in_ok-checking.ensures (c.in_ok-check_all.ensures.checks F e) c.faults_alone.ensures

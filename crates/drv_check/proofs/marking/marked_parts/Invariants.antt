@@ -8,5 +8,5 @@ use Rattle.std.specs.List.{flat_map}
 
 abbrev pub invariant-loop-piece : goal.invariant-loop-piece
 invariant-loop-piece l =
-    l.parts ++ flat_map (piece_parts l.sources (loaded_pieces l.sources)) (drop l.piece-index l.piece-items)
-    ≡ marked_parts l.sources l.dump
+    l.parts ++ flat_map (piece_parts l.loaded (loaded_pieces l.loaded)) (drop l.piece-index l.piece-items)
+    ≡ marked_parts l.loaded l.dump

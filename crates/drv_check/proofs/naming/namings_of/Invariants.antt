@@ -6,7 +6,7 @@ use Rattle.std.proofs.Common.{◌≡◌, ◌++◌, length}
 -- The loops of namings_of (src/naming.rt). The parts of the texts of a set that name switches, by its dump, in their order.
 
 abbrev pub invariant-loop-left : goal.invariant-loop-left
-invariant-loop-left l = l.namings ++ pieces_namings l.sources (loaded_pieces l.sources) l.left ≡ namings_of l.sources l.dump
+invariant-loop-left l = l.namings ++ pieces_namings l.loaded (loaded_pieces l.loaded) l.left ≡ namings_of l.loaded l.dump
 
 abbrev pub decreases-loop-left : goal.decreases-loop-left
 decreases-loop-left l = length l.left

@@ -1,14 +1,15 @@
-use Rattle.drv_check.proofs.pieces.pieces_of.Given as goal
-use Rattle.drv_check.specs.Pieces.{pieces_from, pieces_of}
+use Rattle.drv_check.proofs.pieces.cut_pieces.Given as goal
+use Rattle.drv_check.specs.Pieces.{pieces_cut, pieces_from}
 use Rattle.drv_specs.specs.Code.Slices.{bytes_from, lines_from}
 use Rattle.std.proofs.Common.{◌≡◌, ◌≤◌, ◌+◌, ◌++◌, length}
 use Rattle.std.specs.Option.{option_map}
 
--- The loops of pieces_of (src/pieces.rt). The pieces of a settled text that are directives, in their order (GCC manual, "Spec Files").
+-- The loops of cut_pieces (src/pieces.rt). The pieces of a settled text, where reading recovers from a line that is no directive or not.
 
 abbrev pub invariant-loop-left : goal.invariant-loop-left
 invariant-loop-left l = record {
-  cut : l.pieces.items ++ pieces_from l.begun l.number l.at (lines_from (option_map (λ bytes. bytes.now) l.left)) ≡ pieces_of l.text;
+  cut : l.pieces.items ++ pieces_from l.recovers l.begun l.number l.at (lines_from (option_map (λ bytes. bytes.now) l.left))
+      ≡ pieces_cut l.recovers l.text;
   number : l.number ≤ l.at + 1;
   room : l.at + length (bytes_from (option_map (λ bytes. bytes.now) l.left)) ≤ length l.text + 1;
 }

@@ -1,0 +1,11 @@
+use Rattle.drv_check.proofs.origins.own_piece.Given as goal
+use Rattle.drv_check.specs.Origins.{spots_after}
+use Rattle.std.proofs.Common.{◌≡◌, length, reverse}
+
+-- The loops of own_piece (src/origins.rt). The directive that gives the whole text of a head, where no later one renames a text.
+
+abbrev pub invariant-loop-piece : goal.invariant-loop-piece
+invariant-loop-piece l = spots_after l.head (reverse l.left) ≡ spots_after l.head (reverse l.pieces)
+
+abbrev pub decreases-loop-piece : goal.decreases-loop-piece
+decreases-loop-piece l = length l.left
