@@ -1,4 +1,5 @@
 use Rattle.drv_args.specs.declared.line.Switch.{Switch}
+use Rattle.drv_match.proofs.Cancelling.{is_this, level_alone, level_cancels, none_cancels, other_cancels}
 use Rattle.drv_match.specs.Code.Indexed.{positive}
 use Rattle.drv_match.specs.Matching.{cancels, has_negative, is_level, is_negative_of, negative}
 use Rattle.drv_why.specs.Code.Cancelling.{canceller_at, name_from}
@@ -6,16 +7,12 @@ use Rattle.drv_why.specs.Fates.{canceller}
 use Rattle.std.proofs.Common.{◌≡◌, ◌<◌, ◌≤◌, ◌+◌, ◌∙◌, ◌==◌, ◌||◌, ◌&&◌, ◌∷◌, Bool, List, None, Option, Some, [], ap, arith, cond, drop}
 use Rattle.std.proofs.Common.{false}
 use Rattle.std.proofs.Common.{get_or, if◌then◌else◌, length, nat_eq, nat_le, refl, set, suc, sym, true, zero, ℕ}
-use Rattle.std.proofs.Math.Bool.{and-false}
-use Rattle.std.proofs.lemmas.Bool.{eqb-true}
 use Rattle.std.proofs.lemmas.Bool.Decides.{nat_tests}
-use Rattle.std.proofs.lemmas.Cmp.{nat_eq_equiv, nat_list_eq_equiv}
 use Rattle.std.proofs.lemmas.List.{drop_more, get_or-set_other, get_or-set_same}
 use Rattle.std.proofs.lemmas.Option.{slice_get-get_or}
 use Rattle.std.specs.Cmp.Lexicographic.{pointwise}
 use Rattle.std.specs.Option.{option_map}
 use Rattle.std.specs.Prelude.{slice_get}
-use Rattle.std.specs.Str.{byte}
 
 -- For Cancellers (src/cancelling.rt): the line is read from its end, and a switch is noted for each name that it cancels.
 -- Names: `name` is the name of a switch, and `other` is another name. `t` is the value of a test, so that `by` can go by both cases.
@@ -24,96 +21,6 @@ use Rattle.std.specs.Str.{byte}
 -- has for a name. `places` is what the code keeps. `canceller` is the first later switch that cancels one of this name (specs/Fates), and
 -- `canceller_at` that of the switch at a place (specs/Code/Cancelling). `cancels`, `is_level`, `has_negative` and `negative` are
 -- drv_match's.
-
--- what cancels a name: as in drv_match, whose proofs no other crate can cite
-
--- a name that begins with O begins with that letter
-level_alone : (name : List ℕ) → is_level name ≡ true → has_negative name ≡ false
-level_alone [] e = refl
-level_alone (letter ∷ rest) e = let is : letter ≡ byte "O" = eqb-true letter (byte "O") e in rw is refl
-
--- the negative form of a name begins with its letter
-same_letter : (other name : List ℕ) → is_negative_of name other ≡ true → has_negative name ≡ true
-same_letter [] name e = absurd cc
-same_letter (b ∷ other) [] e = by (has_negative (b ∷ other)) e
-  where
-    by : (t : Bool) → (t && false) ≡ true → has_negative [] ≡ true
-    by true e = absurd cc
-    by false e = absurd cc
-same_letter (b ∷ other) (a ∷ name) e = by (has_negative (b ∷ other)) (b == a) refl refl e
-  where
-    by : (t u : Bool) → has_negative (b ∷ other) ≡ t → (b == a) ≡ u
-        → (t && (u && pointwise nat_eq (byte "n" ∷ byte "o" ∷ byte "-" ∷ other) name)) ≡ true → has_negative (a ∷ name) ≡ true
-    by true true h is e = let same : b ≡ a = eqb-true b a is in rw (← same) h
-    by true false h is e = absurd cc
-    by false u h is e = absurd cc
-
--- a name without a negative form has none of another name's
-no_negative : (other name : List ℕ) → has_negative name ≡ false → is_negative_of name other ≡ false
-no_negative other name none = by (is_negative_of name other) refl
-  where
-    by : (t : Bool) → is_negative_of name other ≡ t → t ≡ false
-    by false e = refl
-    by true e = absurd (let clash : true ≡ false = sym (same_letter other name e) ∙ none in cc)
-
--- whether a name is this one, if there is one
-abbrev pub is_this : Option (List ℕ) → List ℕ → Bool
-is_this None other = false
-is_this (Some name) other = pointwise nat_eq name other
-
--- a name that has a negative form is the negative form of `other` if `other` is the name without `no-`
-as_positive : (other name : List ℕ) → has_negative name ≡ true → is_negative_of name other ≡ is_this (positive name) other
-as_positive other [] h = absurd cc
-as_positive [] (a ∷ []) h = refl
-as_positive [] (a ∷ x ∷ []) h = refl
-as_positive [] (a ∷ x ∷ y ∷ []) h = refl
-as_positive [] (a ∷ x ∷ y ∷ z ∷ rest) h = by (x == byte "n" && y == byte "o" && z == byte "-")
-  where
-    by : (t : Bool) → false ≡ is_this (if t then Some (a ∷ rest) else None) []
-    by true = refl
-    by false = refl
-as_positive (b ∷ other) (a ∷ []) h = rw (and-false, and-false) refl
-as_positive (b ∷ other) (a ∷ x ∷ []) h = rw (and-false, and-false, and-false) refl
-as_positive (b ∷ other) (a ∷ x ∷ y ∷ []) h = rw (and-false, and-false, and-false, and-false) refl
-as_positive (b ∷ other) (a ∷ x ∷ y ∷ z ∷ rest) h = by (b == a) refl
-  where
-    -- Plan: by whether both names begin with the same letter: then the rest has to begin with `no-` (`tests`), else neither side holds
-    -- (`apart`).
-    tests : (u v w : Bool) → (u && (v && (w && pointwise nat_eq other rest)))
-        ≡ is_this (if u && v && w then Some (a ∷ rest) else None) (a ∷ other)
-    tests true true true = rw (nat_eq_equiv.refl a) (nat_list_eq_equiv.symm other rest)
-    tests true true false = refl
-    tests true false w = refl
-    tests false v w = refl
-
-    apart : (t : Bool) → (b == a) ≡ false → is_this (if t then Some (a ∷ rest) else None) (b ∷ other) ≡ false
-    apart true e = rw (nat_eq_equiv.symm a b, e) refl
-    apart false e = refl
-
-    by : (t : Bool) → (b == a) ≡ t → is_negative_of (a ∷ x ∷ y ∷ z ∷ rest) (b ∷ other)
-        ≡ is_this (positive (a ∷ x ∷ y ∷ z ∷ rest)) (b ∷ other)
-    by true e =
-        let same : b ≡ a = eqb-true b a e in
-        rw (same, h, nat_eq_equiv.refl a, nat_eq_equiv.symm (byte "n") x, nat_eq_equiv.symm (byte "o") y, nat_eq_equiv.symm (byte "-") z)
-        (tests (x == byte "n") (y == byte "o") (z == byte "-"))
-    by false e = rw (e, and-false) (sym (apart (x == byte "n" && y == byte "o" && z == byte "-") e))
-
--- a level is cancelled by any level, and by nothing else
-pub level_cancels : (other name : List ℕ) → is_level name ≡ true → cancels other name ≡ is_level other
-level_cancels other name e = rw (e, level_alone name e, no_negative other name (level_alone name e)) (by (is_level other))
-  where
-    by : (t : Bool) → (((t && true) || false) || false) ≡ t
-    by true = refl
-    by false = refl
-
--- a name with a negative form is cancelled by that, or by its positive form if it is a negative one
-pub other_cancels : (other name : List ℕ) → is_level name ≡ false → has_negative name ≡ true
-    → cancels other name ≡ (pointwise nat_eq (negative name) other || is_this (positive name) other)
-other_cancels other name e h = rw (e, and-false, h, as_positive other name h) refl
-
--- a name without a negative form, and no level, is cancelled by none
-pub none_cancels : (other name : List ℕ) → is_level name ≡ false → has_negative name ≡ false → cancels other name ≡ false
-none_cancels other name e h = rw (e, and-false, h, no_negative other name h) refl
 
 -- cancelling goes both ways
 

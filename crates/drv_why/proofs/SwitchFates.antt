@@ -6,16 +6,16 @@ use Rattle.drv_match.specs.Pattern.{Pattern}
 use Rattle.drv_why.proofs.FirstCancellers.{cut_at, met_at}
 use Rattle.drv_why.specs.Code.Beginning.{begin_alike}
 use Rattle.drv_why.specs.Code.Cancelling.{canceller_at}
-use Rattle.drv_why.specs.Fates.{argument_text, cancelled_text, canceller, concerns, fate_text, fates_text, lines_text, naming_text}
+use Rattle.drv_why.specs.Fates.{argument_text, cancelled_text, canceller, concerns, fate_text, fates_text, lines_text}
 use Rattle.drv_why.specs.Fates.{namings_text}
-use Rattle.drv_why.specs.Fates.{or_unnamed, pattern_of, switch_text, text_if}
+use Rattle.drv_why.specs.Fates.{or_unnamed, pattern_of, switch_text}
 use Rattle.drv_words.specs.Bytes.{hyphen, newline}
 use Rattle.drv_words.specs.Printed.{quoted}
-use Rattle.std.proofs.Common.{◌≡◌, ◌∙◌, ◌<◌, ◌≤◌, ◌+◌, ◌&&◌, ◌||◌, ◌++◌, ◌∷◌, Bool, List, Option, Some, [], ap, append-nil}
+use Rattle.std.proofs.Common.{◌≡◌, ◌∙◌, ◌<◌, ◌≤◌, ◌+◌, ◌&&◌, ◌||◌, ◌++◌, ◌∷◌, Bool, List, Option, Some, [], ap, arith}
 use Rattle.std.proofs.Common.{append_assoc}
 use Rattle.std.proofs.Common.{drop, false, length, refl, sym, true, ℕ}
 use Rattle.std.proofs.lemmas.Bool.{eqb-true}
-use Rattle.std.proofs.lemmas.List.{drop_more}
+use Rattle.std.proofs.lemmas.Cmp.{nat_eq_equiv}
 use Rattle.std.specs.Cmp.Lexicographic.{pointwise}
 use Rattle.std.specs.List.{list_any, starts_with}
 use Rattle.std.specs.Prelude.{get_or, if◌then◌else◌, is_none, map, nat_eq, not, suc, take, zero}
@@ -57,30 +57,21 @@ unlike_begun pattern name unlike = by pattern.star refl
     by true is = rw is (apart name pattern.name unlike).0
     by false is = rw is (apart name pattern.name unlike).1
 
+-- For `is_named`: a pattern of one letter with a star names a switch that begins with it.
+pub letter_begun : (pattern : Pattern) (name : List ℕ) → begin_alike name pattern.name ≡ true → pattern.star ≡ true
+    → length pattern.name ≡ 1 → ((name ≡ []) → ⊥) → true ≡ is_named pattern name
+letter_begun pattern [] alike star one some = absurd (some refl)
+letter_begun pattern (b ∷ name) alike star one some = rw star (begun pattern.name alike one)
+  where
+    begun : (letters : List ℕ) → begin_alike (b ∷ name) letters ≡ true → length letters ≡ 1 → true ≡ starts_with nat_eq (b ∷ name) letters
+    begun [] alike one = absurd cc
+    begun (c ∷ []) alike one = let same : b ≡ c = eqb-true b c alike in rw (same, nat_eq_equiv.refl c) refl
+    begun (c ∷ d ∷ letters) alike one = absurd (omega (arith, one))
+
 -- nor has a part with such a pattern to do with one
-unlike_concerns : (name : List ℕ) (live : Bool) (naming : Naming) → begin_alike name naming.word ≡ false
+pub unlike_concerns : (name : List ℕ) (live : Bool) (naming : Naming) → begin_alike name naming.word ≡ false
     → false ≡ concerns name live naming
 unlike_concerns name live naming unlike = rw (sym (unlike_begun (pattern_of naming) name unlike)) refl
-
--- For `push_namings`: if the text so far and the parts left are the whole, then they still are after one part more.
-pub namings_next : (sources : List Source) (name : List ℕ) (live : Bool) (n : ℕ) (namings : List Naming) (naming : Naming)
-    (before after whole : List ℕ) → n < length namings → naming ≡ get_or namings n naming
-    → after ≡ before ++ text_if sources name live naming
-    → before ++ namings_text sources name live (drop n namings) ≡ whole
-    → after ++ namings_text sources name live (drop (n + 1) namings) ≡ whole
-namings_next sources name live n namings naming before after whole below here grows is =
-    ap (λ t. t ++ namings_text sources name live (drop (n + 1) namings)) grows
-    ∙ append_assoc before (text_if sources name live naming) (namings_text sources name live (drop (n + 1) namings))
-    ∙ ap (λ m. before ++ namings_text sources name live (m ∷ drop (n + 1) namings)) here
-    ∙ ap (λ ns. before ++ namings_text sources name live ns) (sym (drop_more namings n naming below)) ∙ is
-
--- For `push_if`: if a part's pattern begins with another letter, then it adds nothing.
-pub passed_over : (sources : List Source) (name : List ℕ) (live : Bool) (naming : Naming) (text : List ℕ)
-    → begin_alike name naming.word ≡ false → text ≡ text ++ text_if sources name live naming
-passed_over sources name live naming text unlike =
-    let none : [] ≡ text_if sources name live naming =
-    ap (λ test. if test then naming_text sources naming else []) (unlike_concerns name live naming unlike) in
-    sym (append-nil text) ∙ ap (λ t. text ++ t) none
 
 -- For `push_all_lines`: a switch that another one cancels has lines.
 pub cancelled_named : (name lines text before : List ℕ) → text ≡ before ++ cancelled_text (Some name)

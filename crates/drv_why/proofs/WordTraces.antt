@@ -1,9 +1,10 @@
 use Rattle.drv_check.specs.MarkWords.{mark_end}
 use Rattle.drv_forms.specs.Difference.{words_of}
-use Rattle.drv_why.specs.Code.Marks.{has_mark, unmarked}
+use Rattle.drv_why.specs.Code.Marks.{IsNamedAt, has_mark, unmarked}
 use Rattle.drv_why.specs.Origins.{Marking, command_json, command_text, is_cut, origins_from, origins_items, shown}
-use Rattle.drv_why.specs.Traces.{all_worded, are_words, at_word, is_found, read, taken, taken_by, traces_by, traces_of, with_byte, worded}
+use Rattle.drv_why.specs.Traces.{all_worded, are_words, at_word, before_name, is_found, read, taken, taken_by, traces_by, traces_of, with_byte, worded}
 use Rattle.drv_why.specs.declared.traces.Trace.{Trace}
+use Rattle.drv_words.specs.Bytes.{slash}
 use Rattle.drv_words.specs.declared.plan.Command.{Command}
 use Rattle.drv_words.specs.declared.plan.PlanLine.{PlanLine}
 use Rattle.json.specs.Token.{Token}
@@ -16,8 +17,9 @@ use Rattle.std.proofs.lemmas.List.{append-nil, drop-set-lt, drop_all, drop_more,
 use Rattle.std.proofs.lemmas.Option.{slice_get_cases}
 use Rattle.std.proofs.lemmas.Slice.Eq.{slice_eq-Decides}
 use Rattle.std.specs.Cmp.Lexicographic.{pointwise}
+use Rattle.std.specs.List.{ends_with}
 use Rattle.std.specs.Option.{option_to_list, unwrap_or}
-use Rattle.std.specs.Prelude.{◌==◌, ◌||◌, get_or, if◌then◌else◌, map, nat_eq, slice_get}
+use Rattle.std.specs.Prelude.{◌==◌, ◌&&◌, ◌||◌, get_or, if◌then◌else◌, map, nat_eq, slice_get}
 
 -- For origins_report (src/origins.rt): the words of a command beside those of the plan, the bytes of a part, and the commands of a plan,
 -- one after another.
@@ -70,10 +72,33 @@ pub worded_so : (words : List (List ℕ)) (n : ℕ) (t : Trace) (word : List ℕ
     → record t { word = word } ≡ worded words n t
 worded_so words n t word is = ap (λ o. record t { word = unwrap_or o t.word }) is
 
--- For `take_word`: it has those bytes.
-pub worded_alike : (words : List (List ℕ)) (n : ℕ) (t : Trace) (word : List ℕ) → Some word ≡ slice_get words n → t.word ≡ word
-    → t ≡ worded words n t
-worded_alike words n t word is same = ap (λ w. record t { word = w }) same ∙ worded_so words n t word is
+-- two texts that compare alike are the same
+same_bytes : (bytes bytes' : List ℕ) → pointwise nat_eq bytes bytes' ≡ true → bytes ≡ bytes'
+same_bytes bytes bytes' alike = (slice_eq-Decides Decides-eqb bytes bytes' (pointwise nat_eq bytes bytes') refl).0 alike
+
+-- a name that is as long as the word that it names is that word
+same_length : (word name : List ℕ) → is_found word name ≡ true → length name ≡ length word → name ≡ word
+same_length word name found long = by (pointwise nat_eq word name) refl found
+  where
+    -- nothing precedes the name, and so no slash
+    no_slash : ends_with nat_eq (before_name word name) (slash ∷ []) ≡ false
+    no_slash =
+        let none : length word - length name ≡ 0 = omega (arith, long) in
+        ap (λ n. ends_with nat_eq (take n word) (slash ∷ [])) none
+
+    -- Plan: `by` goes by whether the word is the name.
+    by : (test : Bool) → pointwise nat_eq word name ≡ test
+        → (test || (ends_with nat_eq word name && ends_with nat_eq (before_name word name) (slash ∷ []))) ≡ true → name ≡ word
+    by true is found = sym (same_bytes word name is)
+    by false is found =
+        absurd (let clash : false ≡ true = sym no_slash ∙ (and_parts (ends_with nat_eq word name)
+        (ends_with nat_eq (before_name word name) (slash ∷ [])) found).1 in cc)
+
+-- For `take_word`: it has those bytes, as it is as long.
+pub worded_alike : (words : List (List ℕ)) (n : ℕ) (t : Trace) (word : List ℕ) → Some word ≡ slice_get words n
+    → IsNamedAt words n t → length t.word ≡ length word → t ≡ worded words n t
+worded_alike words n t word is named long =
+    ap (λ w. record t { word = w }) (same_length word t.word (named word (sym is)) long) ∙ worded_so words n t word is
 
 -- For `take_word`: there is no word at this place.
 pub worded_not : (words : List (List ℕ)) (n : ℕ) (t : Trace) → None ≡ slice_get words n → t ≡ worded words n t
@@ -96,6 +121,10 @@ worded_next words n t it all whole below here is so_far =
     ∙ ap (λ x. take n all ++ all_worded words n (x ∷ drop (n + 1) all)) here
     ∙ ap (λ ts. take n all ++ all_worded words n ts) (sym (drop_more all n t below))
     ∙ so_far
+
+-- the words from the place n on are the one there and those behind it
+cut_here : (n : ℕ) (t : Trace) (all : List Trace) → n < length all → t ≡ get_or all n t → drop n all ≡ t ∷ drop (n + 1) all
+cut_here n t all below here = drop_more all n t below ∙ ap (λ x. x ∷ drop (n + 1) all) (sym here)
 
 -- lists that are the same begin alike
 heads : {x y : List ℕ} {xs ys : List (List ℕ)} → x ∷ xs ≡ y ∷ ys → x ≡ y
@@ -121,6 +150,32 @@ at_place words n word left is = by (slice_get_cases words n).1
     by (inr (past, none)) =
         let nothing : [] ≡ word ∷ left = sym (drop_all n words past) ∙ is in
         absurd cc
+
+-- the first of words that name those from the place n on names the word there, and the others those behind it
+both_named : (words : List (List ℕ)) (n : ℕ) (t : Trace) (ts : List Trace) (left : List (List ℕ)) → drop n words ≡ left
+    → are_words (t ∷ ts) left ≡ true → (IsNamedAt words n t) × (are_words ts (drop (n + 1) words) ≡ true)
+both_named words n t ts [] cut is = absurd cc
+both_named words n t ts (word ∷ left) cut is =
+    let here : (slice_get words n ≡ Some word) × (drop (n + 1) words ≡ left) = at_place words n word left cut in
+    let parts : (is_found word t.word ≡ true) × (are_words ts left ≡ true) = and_parts (is_found word t.word) (are_words ts left) is in (
+      λ other got. let same : other ≡ word = ap (λ o. unwrap_or o []) (sym got ∙ here.0) in ap (λ w. is_found w t.word) same ∙ parts.0,
+      ap (are_words ts) here.1 ∙ parts.1,
+    )
+
+-- For `set_words`: the word at a place names the one there.
+pub named_at : (words : List (List ℕ)) (n : ℕ) (t : Trace) (all : List Trace) → n < length all → t ≡ get_or all n t
+    → are_words (drop n all) (drop n words) ≡ true → IsNamedAt words n t
+named_at words n t all below here is =
+    (both_named words n t (drop (n + 1) all) (drop n words) refl
+    (ap (λ ts. are_words ts (drop n words)) (sym (cut_here n t all below here)) ∙ is)).0
+
+-- For `set_words`: those behind it name the others.
+pub others_named : (words : List (List ℕ)) (n : ℕ) (t it : Trace) (all : List Trace) → n < length all → t ≡ get_or all n t
+    → are_words (drop n all) (drop n words) ≡ true → are_words (drop (n + 1) (set all n it)) (drop (n + 1) words) ≡ true
+others_named words n t it all below here is =
+    ap (λ ts. are_words ts (drop (n + 1) words)) (drop-set-lt (n + 1) all n it (omega (arith)))
+    ∙ (both_named words n t (drop (n + 1) all) (drop n words) refl
+    (ap (λ ts. are_words ts (drop n words)) (sym (cut_here n t all below here)) ∙ is)).1
 
 -- words that are those from the place n on get the bytes of these
 given_words : (words : List (List ℕ)) (n : ℕ) (ts : List Trace) (left : List (List ℕ)) → drop n words ≡ left → are_words ts left ≡ true

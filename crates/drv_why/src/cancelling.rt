@@ -8,8 +8,8 @@ ghost use Rattle.std.specs.Option.{option_map};
 ghost use Rattle.std.specs.Prelude.{◌≡◌, ◌<◌, IfOk, List, None, OnOk, Some, get_or, if◌then◌else◌, length};
 ghost use Rattle.std.specs.Prelude.{true, ℕ};
 
-use crate::matching::{has_negative, is_level};
 use drv_args::Switch;
+use drv_match::{has_negative, is_level};
 use drv_words::Word;
 use std::alloc::{AllocError, Global};
 use std::collections::HashMap;

@@ -1,5 +1,7 @@
 //! What becomes of the switches of a line.
 
+ghost use Rattle.drv_why.specs.Code.Beginning.{alike_to, parts_at, text_at};
+ghost use Rattle.drv_why.specs.Code.LinePlaces.{IsKept, IsPlaced};
 ghost use Rattle.drv_why.specs.Fates.{argument_text, cancelled_line, cancelled_text, concerns, deed_text};
 ghost use Rattle.drv_why.specs.Fates.{fates_text, naming_text, namings_text, or_unnamed, pattern_of};
 ghost use Rattle.drv_why.specs.Fates.{source_text, spot_text, switch_text, takes, text_if};
@@ -7,19 +9,19 @@ ghost use Rattle.drv_why.specs.FatesJson.{fates_report};
 ghost use Rattle.drv_words.specs.Bytes.{hyphen, newline};
 ghost use Rattle.drv_words.specs.Printed.{quoted};
 ghost use Rattle.std.specs.Option.{option_map};
-ghost use Rattle.std.specs.Prelude.{◌≡◌, ◌∷◌, ◌++◌, [], IfOk, IsTrue, OnOk, decimal, is_none, Some};
+ghost use Rattle.std.specs.Prelude.{◌≡◌, ◌∷◌, ◌++◌, [], IfOk, IsTrue, OnOk, decimal, is_none, slice_get, Some};
 
+use crate::alike::{places_alike, renew_places};
 use crate::cancelling::Cancellers;
 use crate::fates_json::fates_json;
-use crate::matching::{begin_alike, is_broad, is_named};
-use crate::quoting::push_quoted;
+use crate::line_places::{LinePlace, PlacedText, column_of, empty_text, move_to};
+use crate::matching::{is_broad, is_named};
 use crate::report::Report;
 use crate::taking::option_of;
 use drv_args::Switch;
 use drv_check::{Deed, Naming, Source, Spot};
 use drv_match::Pattern;
-use drv_place::{line_before, line_number};
-use drv_words::Word;
+use drv_words::{Word, push_quoted};
 use itoa::Buffer;
 use std::alloc::{AllocError, Global};
 
@@ -58,37 +60,46 @@ pub(crate) fn concerns(name: &[u8], live: bool, naming: &Naming) -> bool
 }
 
 /// Adds a number in decimal digits.
-fn push_number(text: &mut Word, number: usize) -> Result<(), AllocError>
-    ensures { OnOk result (text.new ≡ text.old ++ decimal number) }
+fn push_number(text: &mut Vec<u8>, number: usize) -> Result<(), AllocError>
+    ensures { OnOk result (text.new.items ≡ text.old.items ++ decimal number) }
 {
     text.extend_from_slice(Buffer::new().format(number).as_bytes())
 }
 
-/// Adds a byte of a source, by its file, line and column.
-fn push_source(text: &mut Word, source: &Source, at: usize) -> Result<(), AllocError>
-    ensures { OnOk result (text.new ≡ text.old ++ source_text (Some source.now) at) }
+/// Adds a byte of a source, by its file, line and column. The place has these.
+fn push_source(text: &mut Vec<u8>, source: &Source, place: &LinePlace) -> Result<(), AllocError>
+    requires { IsPlaced source.now.text place.now }
+    ensures { OnOk result
+        (text.new.items ≡ text.old.items ++ source_text (Some source.now) place.now.at) }
 {
     text.extend_from_slice(b" at ")?;
     text.extend_from_slice(source.name.as_bytes())?;
     text.extend_from_slice(b":")?;
-    push_number(text, line_number(source.text.as_bytes(), at))?;
+    push_number(text, place.line)?;
     text.extend_from_slice(b":")?;
-    push_number(text, line_before(source.text.as_bytes(), at).len() + 1)
+    push_number(text, column_of(source.text.as_bytes(), place))
 }
 
 /// Adds where a part is.
+#[tactic(auto, using(crate::proofs::LinePlaces::placed_there, crate::proofs::LinePlaces::kept_there))]
 pub(crate) fn push_spot(
-    text: &mut Word,
+    text: &mut PlacedText,
     sources: &[Source],
     spot: Option<Spot>,
 ) -> Result<(), AllocError>
-    ensures { OnOk result (text.new ≡ text.old ++ spot_text sources.now spot) }
+    requires { IsKept sources.now text.old.last }
+    ensures text { OnOk result
+        (text.new.bytes.items ≡ text.old.bytes.items ++ spot_text sources.now spot) }
+    ensures kept { OnOk result (IsKept sources.now text.new.last) }
 {
     let Some(spot) = spot else {
         return Ok(());
     };
     match sources.get(spot.source) {
-        Some(source) => push_source(text, source, spot.at),
+        Some(source) => {
+            move_to(&mut text.last, source.text.as_bytes(), spot.source, spot.at);
+            push_source(&mut text.bytes, source, &text.last)
+        }
         None => Ok(()),
     }
 }
@@ -105,84 +116,128 @@ fn deed_text(deed: Deed) -> &'static str
 }
 
 /// Adds the line of a part.
-fn push_naming(text: &mut Word, sources: &[Source], naming: &Naming) -> Result<(), AllocError>
-    ensures { OnOk result (text.new ≡ text.old ++ naming_text sources.now naming.now) }
+fn push_naming(text: &mut PlacedText, sources: &[Source], naming: &Naming) -> Result<(), AllocError>
+    requires { IsKept sources.now text.old.last }
+    ensures text { OnOk result
+        (text.new.bytes.items ≡ text.old.bytes.items ++ naming_text sources.now naming.now) }
+    ensures kept { OnOk result (IsKept sources.now text.new.last) }
 {
-    text.extend_from_slice(deed_text(naming.deed).as_bytes())?;
-    text.extend_from_slice(naming.written.as_bytes())?;
-    text.extend_from_slice(b" of ")?;
-    text.extend_from_slice(naming.head.as_bytes())?;
+    text.bytes
+        .extend_from_slice(deed_text(naming.deed).as_bytes())?;
+    text.bytes.extend_from_slice(naming.written.as_bytes())?;
+    text.bytes.extend_from_slice(b" of ")?;
+    text.bytes.extend_from_slice(naming.head.as_bytes())?;
     push_spot(text, sources, naming.spot)?;
-    text.push(b'\n')
+    text.bytes.push(b'\n')?;
+    Ok(())
 }
 
 /// Adds the line of a part that has to do with a switch.
-#[inline(always)]
-#[tactic(auto, using(crate::proofs::SwitchFates::passed_over))]
 fn push_if(
-    text: &mut Word,
+    text: &mut PlacedText,
     sources: &[Source],
     name: &[u8],
     live: bool,
     naming: &Naming,
 ) -> Result<(), AllocError>
-    ensures { OnOk result
-        (text.new ≡ text.old ++ text_if sources.now name.now live naming.now) }
+    requires { IsKept sources.now text.old.last }
+    ensures text { OnOk result
+        (text.new.bytes.items ≡ text.old.bytes.items ++ text_if sources.now name.now live naming.now) }
+    ensures kept { OnOk result (IsKept sources.now text.new.last) }
 {
-    // Most patterns begin with another letter, and this test is the cheapest.
-    if !begin_alike(name, naming.word.as_bytes()) {
-        return Ok(());
-    }
     if concerns(name, live, naming) {
         push_naming(text, sources, naming)?;
     }
     Ok(())
 }
 
-/// Adds the lines of the parts that have to do with a switch.
-#[tactic(auto, using(crate::proofs::SwitchFates::namings_next))]
-fn push_namings(
-    text: &mut Word,
-    sources: &[Source],
+/// Adds the line of the part at a place, if there is one that has to do with a switch.
+fn push_at(
+    text: &mut PlacedText,
+    parts: &Parts<'_>,
+    place: usize,
     name: &[u8],
     live: bool,
-    namings: &[Naming],
 ) -> Result<(), AllocError>
-    ensures { OnOk result
-        (text.new ≡ text.old ++ namings_text sources.now name.now live namings.now) }
+    requires { IsKept parts.now.sources.now text.old.last }
+    ensures kept { OnOk result (IsKept parts.now.sources.now text.new.last) }
+    ensures text { OnOk result
+        (text.new.bytes.items ≡ text.old.bytes.items
+        ++ text_at parts.now.sources.now name.now live (slice_get parts.now.namings.now place)) }
 {
-    for naming in namings {
-        push_if(text, sources, name, live, naming)?;
+    match parts.namings.get(place) {
+        Some(naming) => push_if(text, parts.sources, name, live, naming),
+        None => Ok(()),
+    }
+}
+
+/// Adds the lines of those of the parts at these places that have to do with a switch.
+#[tactic(auto, using(crate::proofs::Beginnings::place_next))]
+fn push_namings(
+    text: &mut PlacedText,
+    parts: &Parts<'_>,
+    places: &[usize],
+    name: &[u8],
+    live: bool,
+) -> Result<(), AllocError>
+    requires { IsKept parts.now.sources.now text.old.last }
+    ensures kept { OnOk result (IsKept parts.now.sources.now text.new.last) }
+    ensures text { OnOk result
+        (text.new.bytes.items ≡ text.old.bytes.items
+        ++ namings_text parts.now.sources.now name.now live (parts_at parts.now.namings.now places.now)) }
+{
+    for place in places {
+        push_at(text, parts, *place, name, live)?;
     }
     Ok(())
 }
 
+/// Makes a text the lines of the parts that have to do with a switch, by the places of those that begin
+/// as its name does.
+#[tactic(auto, using(crate::proofs::Beginnings::others_silent))]
+fn renew_text(
+    text: &mut PlacedText,
+    parts: &Parts<'_>,
+    places: &[usize],
+    name: &[u8],
+    live: bool,
+) -> Result<(), AllocError>
+    requires places { parts_at parts.now.namings.now places.now ≡ alike_to name.now parts.now.namings.now }
+    requires kept { IsKept parts.now.sources.now text.old.last }
+    ensures kept { OnOk result (IsKept parts.now.sources.now text.new.last) }
+    ensures text { OnOk result (text.new.bytes.items
+        ≡ namings_text parts.now.sources.now name.now live parts.now.namings.now) }
+{
+    text.bytes.clear();
+    push_namings(text, parts, places, name, live)
+}
+
 /// A name as an option, as the driver prints words.
-fn option_text(alloc: Global, name: &[u8]) -> Result<Word, AllocError>
-    ensures { IfOk result (λ text. text ≡ quoted (hyphen ∷ name.now)) }
+fn option_text(alloc: Global, name: &[u8]) -> Result<Vec<u8>, AllocError>
+    ensures { IfOk result (λ text. text.items ≡ quoted (hyphen ∷ name.now)) }
 {
     let option = option_of(alloc, name)?;
-    let mut text = Word::empty(alloc);
-    push_quoted(&mut text, option.as_bytes())?;
+    let mut text = Vec::new(alloc);
+    push_quoted(&mut text, &option)?;
     Ok(text)
 }
 
-/// The line of an option that cancels a switch.
-fn cancelled_line(alloc: Global, option: &Word) -> Result<Word, AllocError>
-    ensures { IfOk result (λ text. text ≡ cancelled_line option.now) }
+/// Adds the line of an option that cancels a switch.
+fn push_canceller(text: &mut Vec<u8>, option: &Word) -> Result<(), AllocError>
+    ensures { OnOk result (text.new.items ≡ text.old.items ++ cancelled_line (quoted option.now)) }
 {
-    let mut text = Word::from_bytes(alloc, b"  cancelled by ")?;
-    text.extend_from_slice(option.as_bytes())?;
+    text.extend_from_slice(b"  cancelled by ")?;
+    push_quoted(text, option)?;
     text.push(b'\n')?;
-    Ok(text)
+    Ok(())
 }
 
-/// The line of the switch of this name, which cancels another one.
-fn later_switch_text(alloc: Global, name: &Word) -> Result<Word, AllocError>
-    ensures { IfOk result (λ text. text ≡ cancelled_text (Some name.now)) }
+/// Adds the line of the switch of this name, which cancels another one.
+fn push_cancelled(alloc: Global, text: &mut Vec<u8>, name: &Word) -> Result<(), AllocError>
+    ensures { OnOk result (text.new.items ≡ text.old.items ++ cancelled_text (Some name.now)) }
 {
-    let option = option_text(alloc, name.as_bytes())?;
-    cancelled_line(alloc, &option)
+    let option = option_of(alloc, name.as_bytes())?;
+    push_canceller(text, &option)
 }
 
 /// Whether no switch cancels one.
@@ -201,11 +256,13 @@ struct Named<'a> {
     /// The name.
     name: &'a [u8],
     /// The name as an option, as the driver prints words.
-    option: Word,
+    option: Vec<u8>,
     /// Whether no later switch cancels them.
     live: bool,
+    /// The places of the parts whose patterns begin as the name does.
+    places: Vec<usize>,
     /// The lines.
-    text: Word,
+    text: PlacedText,
 }
 
 /// The lines of the parts that have to do with the switches of a name.
@@ -216,16 +273,20 @@ fn named_as<'a>(
     live: bool,
 ) -> Result<Named<'a>, AllocError>
     ensures { IfOk result (λ named. (named.name.now ≡ name.now) × (named.live ≡ live)
-        × (named.option ≡ quoted (hyphen ∷ name.now))
-        × (named.text ≡ namings_text parts.now.sources.now name.now live parts.now.namings.now)) }
+        × (named.option.items ≡ quoted (hyphen ∷ name.now))
+        × (parts_at parts.now.namings.now named.places.items ≡ alike_to name.now parts.now.namings.now)
+        × (IsKept parts.now.sources.now named.text.last)
+        × (named.text.bytes.items ≡ namings_text parts.now.sources.now name.now live parts.now.namings.now)) }
 {
-    let mut text = Word::empty(alloc);
-    push_namings(&mut text, parts.sources, name, live, parts.namings)?;
+    let places = places_alike(alloc, name, parts.namings)?;
+    let mut text = empty_text(alloc, parts.sources);
+    renew_text(&mut text, parts, places.as_slice(), name, live)?;
     let option = option_text(alloc, name)?;
     Ok(Named {
         name,
         option,
         live,
+        places,
         text,
     })
 }
@@ -254,105 +315,116 @@ fn renew_lines<'a>(
     name: &'a [u8],
     live: bool,
 ) -> Result<(), AllocError>
-    requires text { named.old.text
+    requires text { named.old.text.bytes.items
         ≡ namings_text parts.now.sources.now named.old.name.now named.old.live parts.now.namings.now }
-    requires option { named.old.option ≡ quoted (hyphen ∷ named.old.name.now) }
-    ensures option { OnOk result (named.new.option ≡ quoted (hyphen ∷ named.new.name.now)) }
+    requires option { named.old.option.items ≡ quoted (hyphen ∷ named.old.name.now) }
+    requires places { parts_at parts.now.namings.now named.old.places.items
+        ≡ alike_to named.old.name.now parts.now.namings.now }
+    requires last { IsKept parts.now.sources.now named.old.text.last }
+    ensures last { OnOk result (IsKept parts.now.sources.now named.new.text.last) }
+    ensures places { OnOk result (parts_at parts.now.namings.now named.new.places.items
+        ≡ alike_to named.new.name.now parts.now.namings.now) }
+    ensures option { OnOk result (named.new.option.items ≡ quoted (hyphen ∷ named.new.name.now)) }
     ensures name { OnOk result (named.new.name.now ≡ name.now) }
-    ensures kept { OnOk result (named.new.text
+    ensures kept { OnOk result (named.new.text.bytes.items
         ≡ namings_text parts.now.sources.now named.new.name.now named.new.live parts.now.namings.now) }
-    ensures of { OnOk result (named.new.text
+    ensures of { OnOk result (named.new.text.bytes.items
         ≡ namings_text parts.now.sources.now name.now live parts.now.namings.now) }
 {
     if !is_same(named, name, live) {
-        *named = named_as(alloc, parts, name, live)?;
+        renew_places(alloc, &mut named.places, parts.namings, named.name, name)?;
+        renew_text(&mut named.text, parts, named.places.as_slice(), name, live)?;
+        named.option = option_text(alloc, name)?;
+        named.name = name;
+        named.live = live;
     }
     Ok(())
 }
 
 /// Adds the lines of a switch, or that there are none.
-fn push_lines(text: &mut Word, lines: &Word) -> Result<(), AllocError>
-    ensures { OnOk result (text.new ≡ text.old ++ or_unnamed lines.now) }
+fn push_lines(text: &mut Vec<u8>, lines: &[u8]) -> Result<(), AllocError>
+    ensures { OnOk result (text.new.items ≡ text.old.items ++ or_unnamed lines.now) }
 {
     if lines.is_empty() {
         return text.extend_from_slice(b"  named by no text\n");
     }
-    text.extend_from_slice(lines.as_bytes())
+    text.extend_from_slice(lines)
 }
 
 /// Adds the lines of a switch, which another one may cancel, or that there are none.
 #[tactic(auto, using(crate::proofs::SwitchFates::cancelled_named))]
 fn push_all_lines(
     alloc: Global,
-    text: &mut Word,
+    text: &mut Vec<u8>,
     by: Option<&Word>,
-    lines: &Word,
+    lines: &[u8],
 ) -> Result<(), AllocError>
     ensures { OnOk result
-        (text.new ≡ text.old
+        (text.new.items ≡ text.old.items
         ++ or_unnamed (cancelled_text (option_map (λ word. word.now) by.entry) ++ lines.now)) }
 {
     match by {
         Some(name) => {
-            text.extend_from_slice(later_switch_text(alloc, name)?.as_bytes())?;
-            text.extend_from_slice(lines.as_bytes())
+            push_cancelled(alloc, text, name)?;
+            text.extend_from_slice(lines)
         }
         None => push_lines(text, lines),
     }
 }
 
 /// Adds the argument of a switch.
-fn push_argument(text: &mut Word, arg: &Option<Word>) -> Result<(), AllocError>
-    ensures { OnOk result (text.new ≡ text.old ++ argument_text arg.now) }
+fn push_argument(text: &mut Vec<u8>, arg: &Option<Word>) -> Result<(), AllocError>
+    ensures { OnOk result (text.new.items ≡ text.old.items ++ argument_text arg.now) }
 {
     match arg {
         Some(word) => {
             text.push(b' ')?;
-            push_quoted(text, word.as_bytes())
+            push_quoted(text, word)
         }
         None => Ok(()),
     }
 }
 
 /// Adds a switch on a line, whose option is this.
-fn push_switch(text: &mut Word, option: &Word, arg: &Option<Word>) -> Result<(), AllocError>
+fn push_switch(text: &mut Vec<u8>, option: &[u8], arg: &Option<Word>) -> Result<(), AllocError>
     ensures { OnOk result
-        (text.new ≡ text.old ++ (option.now ++ argument_text arg.now ++ newline ∷ [])) }
+        (text.new.items ≡ text.old.items ++ (option.now ++ argument_text arg.now ++ newline ∷ [])) }
 {
-    text.extend_from_slice(option.as_bytes())?;
+    text.extend_from_slice(option)?;
     push_argument(text, arg)?;
-    text.push(b'\n')
+    text.push(b'\n')?;
+    Ok(())
 }
 
 /// Adds what becomes of a switch of a name, which another one may cancel.
 #[tactic(auto, using(crate::proofs::SwitchFates::fate_written))]
 fn push_fate(
     alloc: Global,
-    text: &mut Word,
+    text: &mut Vec<u8>,
     named: &Named<'_>,
     switch: &Switch,
     by: Option<&Word>,
 ) -> Result<(), AllocError>
-    requires option { named.now.option ≡ quoted (hyphen ∷ named.now.name.now) }
+    requires option { named.now.option.items ≡ quoted (hyphen ∷ named.now.name.now) }
     requires name { named.now.name.now ≡ switch.now.name }
     ensures { OnOk result
-        (text.new ≡ text.old ++ switch_text switch.now
-        ++ or_unnamed (cancelled_text (option_map (λ word. word.now) by.entry) ++ named.now.text)) }
+        (text.new.items ≡ text.old.items ++ switch_text switch.now
+        ++ or_unnamed (cancelled_text (option_map (λ word. word.now) by.entry) ++ named.now.text.bytes.items)) }
 {
-    push_switch(text, &named.option, &switch.arg)?;
-    push_all_lines(alloc, text, by, &named.text)
+    push_switch(text, named.option.as_slice(), &switch.arg)?;
+    push_all_lines(alloc, text, by, named.text.bytes.as_slice())
 }
 
 /// What becomes of the switches of a line, as text.
-fn fates_text(
+pub(crate) fn fates_text(
     alloc: Global,
     parts: &Parts<'_>,
     switches: &Cancellers<'_>,
-) -> Result<Word, AllocError>
+) -> Result<Vec<u8>, AllocError>
     ensures { IfOk result
-        (λ text. text ≡ fates_text parts.now.sources.now parts.now.namings.now switches.now) }
+        (λ text. text.items ≡ fates_text parts.now.sources.now parts.now.namings.now switches.now) }
 {
-    let mut text = Word::empty(alloc);
+    let mut text = Vec::new(alloc);
     let mut named = named_as(alloc, parts, &[], true)?;
     let mut place = 0;
     while place < switches.len() {
@@ -388,7 +460,7 @@ pub fn fates_report(
     let parts = Parts { sources, namings };
     let switches = Cancellers::new(alloc, switches)?;
     match report {
-        Report::Lines => fates_text(alloc, &parts, &switches),
+        Report::Lines => Ok(Word::from_vec(fates_text(alloc, &parts, &switches)?)),
         Report::Json => fates_json(alloc, &parts, &switches),
     }
 }

@@ -2,19 +2,21 @@
 //! words of its plan are from.
 #![tactic(auto)]
 
+mod alike;
 mod cancelling;
 mod causes;
 mod fates;
 mod fates_json;
 mod laws;
 mod leaving_out;
+mod line_places;
 mod matching;
+mod numbers;
 mod origins;
 mod origins_json;
 mod outers;
 mod parting;
 mod printing;
-mod quoting;
 mod reasons;
 mod reasons_json;
 mod repeating;

@@ -1,24 +1,10 @@
-//! Which switches a pattern names, and which of them others may cancel.
+//! Which switches a pattern names.
 
-ghost use Rattle.drv_match.specs.Matching.{has_negative, is_broad, is_level, is_named};
+ghost use Rattle.drv_match.specs.Matching.{is_broad, is_named};
 ghost use Rattle.drv_why.specs.Code.Beginning.{begin_alike};
 ghost use Rattle.std.specs.Prelude.{◌≡◌};
 
 use drv_match::Pattern;
-
-/// Whether this is an optimization level, such as `O2`.
-pub(crate) fn is_level(name: &[u8]) -> bool
-    ensures { result ≡ is_level name.now }
-{
-    matches!(name, [b'O', ..])
-}
-
-/// Whether the name has a negative form.
-pub(crate) fn has_negative(name: &[u8]) -> bool
-    ensures { result ≡ has_negative name.now }
-{
-    matches!(name, [b'f' | b'm' | b'W', ..])
-}
 
 /// Whether the first bytes of two texts are the same, if both have one.
 pub(crate) fn begin_alike(text: &[u8], other: &[u8]) -> bool
@@ -35,12 +21,16 @@ pub(crate) fn begin_alike(text: &[u8], other: &[u8]) -> bool
 
 /// Whether a pattern names a switch.
 #[inline(always)]
-#[tactic(auto, using(crate::proofs::SwitchFates::unlike_begun))]
+#[tactic(auto, using(crate::proofs::SwitchFates::unlike_begun, crate::proofs::SwitchFates::letter_begun))]
 pub(crate) fn is_named(pattern: &Pattern<'_>, name: &[u8]) -> bool
     ensures { result ≡ is_named pattern.now name.now }
 {
     if !begin_alike(name, pattern.name) {
         return false;
+    }
+    // Most patterns with a star are of one letter, which the name begins with.
+    if pattern.star && pattern.name.len() == 1 && !name.is_empty() {
+        return true;
     }
     if pattern.star {
         name.starts_with(pattern.name)

@@ -1,5 +1,6 @@
 //! Where the words of a plan are from.
 
+ghost use Rattle.drv_why.specs.Code.LinePlaces.{IsKept};
 ghost use Rattle.drv_why.specs.Origins.{causes_text, command_text, ending_text, found_text, further_text, is_cut, more_text, most_shown};
 ghost use Rattle.drv_why.specs.Origins.{origins_from, origins_report, origins_text};
 ghost use Rattle.drv_why.specs.Origins.{part_text, parts_text, shown, trace_text, traces_text};
@@ -8,15 +9,16 @@ ghost use Rattle.drv_words.specs.Printed.{line_text, quoted};
 ghost use Rattle.std.specs.List.{flat_map};
 ghost use Rattle.std.specs.Prelude.{◌≡◌, ◌∷◌, ◌++◌, [], IfOk, IsTrue, OnOk, codes, slice_get};
 
+use crate::cancelling::Cancellers;
 use crate::fates::push_spot;
+use crate::line_places::{PlacedText, empty_text};
 use crate::origins_json::origins_json;
-use crate::quoting::push_quoted;
 use crate::report::Report;
 use crate::traces::Trace;
 use crate::tracing::caused_at;
 use drv_args::Line;
 use drv_check::{MarkedPart, Source};
-use drv_words::{Listing, Plan, PlanLine, Word, plan_lines, render};
+use drv_words::{Listing, Plan, PlanLine, Word, plan_lines, push_quoted, render};
 use std::alloc::{AllocError, Global};
 use std::marker::Model;
 use std::slice::from_ref;
@@ -65,8 +67,8 @@ fn is_cut(room: usize, byte: u8) -> bool
 
 /// Adds a part as it is written, as far as it is shown.
 #[tactic(auto, using(crate::proofs::WordTraces::shown_next, crate::proofs::WordTraces::shown_cut))]
-fn push_shown(text: &mut Word, part: &[u8]) -> Result<(), AllocError>
-    ensures { OnOk result (text.new ≡ text.old ++ shown most_shown part.now) }
+fn push_shown(text: &mut Vec<u8>, part: &[u8]) -> Result<(), AllocError>
+    ensures { OnOk result (text.new.items ≡ text.old.items ++ shown most_shown part.now) }
 {
     let mut room = MOST_SHOWN;
     for byte in part {
@@ -81,44 +83,58 @@ fn push_shown(text: &mut Word, part: &[u8]) -> Result<(), AllocError>
 }
 
 /// Adds a part, its text, and where it is.
-fn push_part(text: &mut Word, sources: &[Source], part: &MarkedPart) -> Result<(), AllocError>
-    ensures { OnOk result (text.new ≡ text.old ++ part_text sources.now part.now) }
+fn push_part(text: &mut PlacedText, sources: &[Source], part: &MarkedPart) -> Result<(), AllocError>
+    requires { IsKept sources.now text.old.last }
+    ensures kept { OnOk result (IsKept sources.now text.new.last) }
+    ensures text { OnOk result
+        (text.new.bytes.items ≡ text.old.bytes.items ++ part_text sources.now part.now) }
 {
-    push_shown(text, part.written.as_bytes())?;
-    text.extend_from_slice(b" of ")?;
-    text.extend_from_slice(part.head.as_bytes())?;
+    push_shown(&mut text.bytes, part.written.as_bytes())?;
+    text.bytes.extend_from_slice(b" of ")?;
+    text.bytes.extend_from_slice(part.head.as_bytes())?;
     push_spot(text, sources, part.spot)
 }
 
 /// Adds the part of a mark's number.
-fn push_found(text: &mut Word, marking: &Marking<'_>, number: usize) -> Result<(), AllocError>
-    ensures { OnOk result
-        (text.new ≡ text.old
+fn push_found(text: &mut PlacedText, marking: &Marking<'_>, number: usize) -> Result<(), AllocError>
+    requires { IsKept marking.now.sources text.old.last }
+    ensures kept { OnOk result (IsKept marking.now.sources text.new.last) }
+    ensures text { OnOk result
+        (text.new.bytes.items ≡ text.old.bytes.items
         ++ found_text marking.now.sources (slice_get marking.now.parts number)) }
 {
     match marking.parts.get(number) {
         Some(part) => push_part(text, marking.sources, part),
-        None => text.extend_from_slice(b"no part"),
+        None => text.bytes.extend_from_slice(b"no part"),
     }
 }
 
 /// Adds one more part of a word.
-fn push_further(text: &mut Word, marking: &Marking<'_>, number: usize) -> Result<(), AllocError>
-    ensures { OnOk result
-        (text.new ≡ text.old ++ further_text marking.now.sources marking.now.parts number) }
+fn push_further(
+    text: &mut PlacedText,
+    marking: &Marking<'_>,
+    number: usize,
+) -> Result<(), AllocError>
+    requires { IsKept marking.now.sources text.old.last }
+    ensures kept { OnOk result (IsKept marking.now.sources text.new.last) }
+    ensures text { OnOk result
+        (text.new.bytes.items ≡ text.old.bytes.items
+        ++ further_text marking.now.sources marking.now.parts number) }
 {
-    text.extend_from_slice(b" and ")?;
+    text.bytes.extend_from_slice(b" and ")?;
     push_found(text, marking, number)
 }
 
 /// Adds more parts of a word.
 fn push_all_further(
-    text: &mut Word,
+    text: &mut PlacedText,
     marking: &Marking<'_>,
     numbers: &[usize],
 ) -> Result<(), AllocError>
-    ensures { OnOk result
-        (text.new ≡ text.old
+    requires { IsKept marking.now.sources text.old.last }
+    ensures kept { OnOk result (IsKept marking.now.sources text.new.last) }
+    ensures text { OnOk result
+        (text.new.bytes.items ≡ text.old.bytes.items
         ++ flat_map (further_text marking.now.sources marking.now.parts) numbers.now) }
 {
     for number in numbers {
@@ -128,9 +144,15 @@ fn push_all_further(
 }
 
 /// Adds the parts of a word.
-fn push_parts(text: &mut Word, marking: &Marking<'_>, numbers: &[usize]) -> Result<(), AllocError>
-    ensures { OnOk result
-        (text.new ≡ text.old
+fn push_parts(
+    text: &mut PlacedText,
+    marking: &Marking<'_>,
+    numbers: &[usize],
+) -> Result<(), AllocError>
+    requires { IsKept marking.now.sources text.old.last }
+    ensures kept { OnOk result (IsKept marking.now.sources text.new.last) }
+    ensures text { OnOk result
+        (text.new.bytes.items ≡ text.old.bytes.items
         ++ parts_text marking.now.sources marking.now.parts numbers.now) }
 {
     match numbers {
@@ -138,21 +160,23 @@ fn push_parts(text: &mut Word, marking: &Marking<'_>, numbers: &[usize]) -> Resu
             push_found(text, marking, *first)?;
             push_all_further(text, marking, others)
         }
-        [] => text.extend_from_slice(b"the first part of its command"),
+        [] => text
+            .bytes
+            .extend_from_slice(b"the first part of its command"),
     }
 }
 
 /// Adds what a word is for, after a word before it.
-fn push_cause(text: &mut Word, before: &[u8], name: &Word) -> Result<(), AllocError>
-    ensures { OnOk result (text.new ≡ text.old ++ before.now ++ quoted name.now) }
+fn push_cause(text: &mut Vec<u8>, before: &[u8], name: &Word) -> Result<(), AllocError>
+    ensures { OnOk result (text.new.items ≡ text.old.items ++ before.now ++ quoted name.now) }
 {
     text.extend_from_slice(before)?;
-    push_quoted(text, name.as_bytes())
+    push_quoted(text, name)
 }
 
 /// Adds what else a word is for.
-fn push_more(text: &mut Word, names: &[Word]) -> Result<(), AllocError>
-    ensures { OnOk result (text.new ≡ text.old ++ flat_map more_text names.now) }
+fn push_more(text: &mut Vec<u8>, names: &[Word]) -> Result<(), AllocError>
+    ensures { OnOk result (text.new.items ≡ text.old.items ++ flat_map more_text names.now) }
 {
     for name in names {
         push_cause(text, b" and ", name)?;
@@ -161,8 +185,8 @@ fn push_more(text: &mut Word, names: &[Word]) -> Result<(), AllocError>
 }
 
 /// Adds what a word is for, if it is for anything.
-fn push_causes(text: &mut Word, names: &[Word]) -> Result<(), AllocError>
-    ensures { OnOk result (text.new ≡ text.old ++ causes_text names.now) }
+fn push_causes(text: &mut Vec<u8>, names: &[Word]) -> Result<(), AllocError>
+    ensures { OnOk result (text.new.items ≡ text.old.items ++ causes_text names.now) }
 {
     match names {
         [first, others @ ..] => {
@@ -179,7 +203,7 @@ struct PartsText<'a> {
     /// Their numbers.
     numbers: &'a [usize],
     /// Them as text.
-    text: Word,
+    text: PlacedText,
 }
 
 /// Parts as text.
@@ -189,9 +213,10 @@ fn parts_of_text<'a>(
     numbers: &'a [usize],
 ) -> Result<PartsText<'a>, AllocError>
     ensures { IfOk result (λ parts. (parts.numbers.now ≡ numbers.now)
-        × (parts.text ≡ parts_text marking.now.sources marking.now.parts numbers.now)) }
+        × (IsKept marking.now.sources parts.text.last)
+        × (parts.text.bytes.items ≡ parts_text marking.now.sources marking.now.parts numbers.now)) }
 {
-    let mut text = Word::empty(alloc);
+    let mut text = empty_text(alloc, marking.sources);
     push_parts(&mut text, marking, numbers)?;
     Ok(PartsText { numbers, text })
 }
@@ -206,19 +231,22 @@ fn are_parts(parts: &PartsText<'_>, trace: &Trace) -> bool
 
 /// The parts of a word as text. Those of the last one are kept if they are the same.
 fn renew_parts<'a>(
-    alloc: Global,
     parts: &mut PartsText<'a>,
     marking: &Marking<'_>,
     trace: &'a Trace,
 ) -> Result<(), AllocError>
-    requires { parts.old.text
+    requires text { parts.old.text.bytes.items
         ≡ parts_text marking.now.sources marking.now.parts parts.old.numbers.now }
+    requires kept { IsKept marking.now.sources parts.old.text.last }
+    ensures kept { OnOk result (IsKept marking.now.sources parts.new.text.last) }
     ensures numbers { OnOk result (parts.new.numbers.now ≡ trace.now.parts) }
-    ensures text { OnOk result (parts.new.text
+    ensures text { OnOk result (parts.new.text.bytes.items
         ≡ parts_text marking.now.sources marking.now.parts trace.now.parts) }
 {
     if !are_parts(parts, trace) {
-        *parts = parts_of_text(alloc, marking, trace.parts.as_slice())?;
+        parts.text.bytes.clear();
+        push_parts(&mut parts.text, marking, trace.parts.as_slice())?;
+        parts.numbers = trace.parts.as_slice();
     }
     Ok(())
 }
@@ -231,17 +259,17 @@ struct Ending<'a> {
     /// What it is for.
     causes: &'a [Word],
     /// These as text.
-    text: Word,
+    text: Vec<u8>,
 }
 
 /// What follows a word with parts of this text that is for these.
-fn ending_with(alloc: Global, parts: &[u8], causes: &[Word]) -> Result<Word, AllocError>
+fn ending_with(alloc: Global, parts: &[u8], causes: &[Word]) -> Result<Vec<u8>, AllocError>
     ensures { IfOk result
-        (λ text. text ≡ codes " by " ++ parts.now ++ causes_text causes.now ++ newline ∷ []) }
+        (λ text. text.items ≡ codes " by " ++ parts.now ++ causes_text causes.now ++ newline ∷ []) }
 {
     // One allocation serves most endings; a word that grows by pieces makes several.
     let room = parts.len().saturating_add(CAUSE_ROOM);
-    let mut text = Word::from_vec(Vec::with_capacity(alloc, room)?);
+    let mut text = Vec::with_capacity(alloc, room)?;
     text.extend_from_slice(b" by ")?;
     text.extend_from_slice(parts)?;
     push_causes(&mut text, causes)?;
@@ -265,47 +293,49 @@ fn renew_ending<'a>(
     marking: &Marking<'_>,
     trace: &'a Trace,
 ) -> Result<(), AllocError>
-    requires parts { ending.old.parts.text
+    requires last { IsKept marking.now.sources ending.old.parts.text.last }
+    requires parts { ending.old.parts.text.bytes.items
         ≡ parts_text marking.now.sources marking.now.parts ending.old.parts.numbers.now }
-    requires text { ending.old.text
+    requires text { ending.old.text.items
         ≡ ending_text marking.now.sources marking.now.parts ending.old.parts.numbers.now ending.old.causes.now }
-    ensures parts { OnOk result (ending.new.parts.text
+    ensures last { OnOk result (IsKept marking.now.sources ending.new.parts.text.last) }
+    ensures parts { OnOk result (ending.new.parts.text.bytes.items
         ≡ parts_text marking.now.sources marking.now.parts ending.new.parts.numbers.now) }
-    ensures kept { OnOk result (ending.new.text
+    ensures kept { OnOk result (ending.new.text.items
         ≡ ending_text marking.now.sources marking.now.parts ending.new.parts.numbers.now ending.new.causes.now) }
-    ensures of { OnOk result (ending.new.text
+    ensures of { OnOk result (ending.new.text.items
         ≡ ending_text marking.now.sources marking.now.parts trace.now.parts trace.now.causes) }
 {
     if !is_ending(ending, trace) {
-        renew_parts(alloc, &mut ending.parts, marking, trace)?;
+        renew_parts(&mut ending.parts, marking, trace)?;
         ending.causes = trace.causes.as_slice();
-        ending.text = ending_with(alloc, ending.parts.text.as_bytes(), ending.causes)?;
+        ending.text = ending_with(alloc, ending.parts.text.bytes.as_slice(), ending.causes)?;
     }
     Ok(())
 }
 
 /// Adds the line of a word, which ends so.
-fn push_trace(text: &mut Word, word: &Word, ending: &[u8]) -> Result<(), AllocError>
-    ensures { OnOk result (text.new ≡ text.old ++ codes "  " ++ quoted word.now ++ ending.now) }
+fn push_trace(text: &mut Vec<u8>, word: &Word, ending: &[u8]) -> Result<(), AllocError>
+    ensures { OnOk result (text.new.items ≡ text.old.items ++ codes "  " ++ quoted word.now ++ ending.now) }
 {
     text.extend_from_slice(b"  ")?;
-    push_quoted(text, word.as_bytes())?;
+    push_quoted(text, word)?;
     text.extend_from_slice(ending)
 }
 
 /// Adds the lines of words.
 fn push_all_traces(
     alloc: Global,
-    text: &mut Word,
+    text: &mut Vec<u8>,
     marking: &Marking<'_>,
     traces: &[Trace],
 ) -> Result<(), AllocError>
     ensures { OnOk result
-        (text.new ≡ text.old
+        (text.new.items ≡ text.old.items
         ++ flat_map (trace_text marking.now.sources marking.now.parts) traces.now) }
 {
     let parts = parts_of_text(alloc, marking, &[])?;
-    let first = ending_with(alloc, parts.text.as_bytes(), &[])?;
+    let first = ending_with(alloc, parts.text.bytes.as_slice(), &[])?;
     let mut ending = Ending {
         parts,
         causes: &[],
@@ -313,7 +343,7 @@ fn push_all_traces(
     };
     for trace in traces {
         renew_ending(alloc, &mut ending, marking, trace)?;
-        push_trace(text, &trace.word, ending.text.as_bytes())?;
+        push_trace(text, &trace.word, ending.text.as_slice())?;
     }
     Ok(())
 }
@@ -321,12 +351,12 @@ fn push_all_traces(
 /// Adds the lines of the words of a command, or that marks change it.
 fn push_traces(
     alloc: Global,
-    text: &mut Word,
+    text: &mut Vec<u8>,
     marking: &Marking<'_>,
     traces: &Option<Listing<Trace>>,
 ) -> Result<(), AllocError>
     ensures { OnOk result
-        (text.new ≡ text.old
+        (text.new.items ≡ text.old.items
         ++ traces_text marking.now.sources marking.now.parts traces.now) }
 {
     match traces {
@@ -337,46 +367,56 @@ fn push_traces(
     }
 }
 
-/// Adds the line of the plan at a place and the lines of its words.
+/// Adds a line of the plan and the lines of its words.
 fn push_command(
     alloc: Global,
-    text: &mut Word,
+    text: &mut Vec<u8>,
     marking: &Marking<'_>,
-    place: usize,
     line: &PlanLine,
+    traces: &Option<Listing<Trace>>,
 ) -> Result<(), AllocError>
-    ensures { OnOk result (text.new ≡ text.old ++ command_text marking.now place line.now) }
+    ensures { OnOk result
+        (text.new.items ≡ text.old.items ++ line_text line.now
+        ++ traces_text marking.now.sources marking.now.parts traces.now) }
 {
-    let traces = caused_at(alloc, marking, place, &line.command)?;
     text.extend_from_slice(render(alloc, from_ref(line))?.as_bytes())?;
-    push_traces(alloc, text, marking, &traces)
+    push_traces(alloc, text, marking, traces)
 }
 
 /// Adds the lines of a plan, each with the lines of its words.
 #[tactic(auto, using(crate::proofs::WordTraces::command_next))]
-fn push_commands(
+fn push_commands<'x>(
     alloc: Global,
-    text: &mut Word,
-    marking: &Marking<'_>,
+    text: &mut Vec<u8>,
+    marking: &'x Marking<'x>,
+    switches: &'x Cancellers<'x>,
     lines: &[PlanLine],
 ) -> Result<(), AllocError>
-    ensures { OnOk result (text.new ≡ text.old ++ origins_from marking.now 0 lines.now) }
+    requires { switches.now ≡ marking.now.line.switches }
+    ensures { OnOk result (text.new.items ≡ text.old.items ++ origins_from marking.now 0 lines.now) }
 {
     let mut place = 0;
     while place < lines.len() {
-        push_command(alloc, text, marking, place, &lines[place])?;
+        let line = &lines[place];
+        let traces = caused_at(alloc, marking, switches, place, &line.command)?;
+        push_command(alloc, text, marking, line, &traces)?;
         place += 1;
     }
     Ok(())
 }
 
 /// The lines of a plan, each with the lines of its words.
-fn origins_text(alloc: Global, marking: &Marking<'_>) -> Result<Word, AllocError>
-    ensures { IfOk result (λ text. text ≡ origins_text marking.now) }
+pub(crate) fn origins_text<'x>(
+    alloc: Global,
+    marking: &'x Marking<'x>,
+    switches: &'x Cancellers<'x>,
+) -> Result<Vec<u8>, AllocError>
+    requires { switches.now ≡ marking.now.line.switches }
+    ensures { IfOk result (λ text. text.items ≡ origins_text marking.now) }
 {
     let lines = plan_lines(alloc, marking.plan)?;
-    let mut text = Word::empty(alloc);
-    push_commands(alloc, &mut text, marking, lines.as_slice())?;
+    let mut text = Vec::new(alloc);
+    push_commands(alloc, &mut text, marking, switches, lines.as_slice())?;
     Ok(text)
 }
 
@@ -392,7 +432,10 @@ pub fn origins_report(
     ensures { IfOk result (λ text. text ≡ origins_report report marking.now) }
 {
     match report {
-        Report::Lines => origins_text(alloc, marking),
+        Report::Lines => {
+            let switches = Cancellers::new(alloc, marking.line.switches.as_slice())?;
+            Ok(Word::from_vec(origins_text(alloc, marking, &switches)?))
+        }
         Report::Json => origins_json(alloc, marking),
     }
 }

@@ -8,6 +8,7 @@ ghost use Rattle.json.specs.Json.{array, member, no_members};
 ghost use Rattle.json.specs.Tree.{items_tokens, json_tokens, members_tokens};
 ghost use Rattle.std.specs.Prelude.{◌≡◌, ◌++◌, IfOk, OnOk, codes};
 
+use crate::cancelling::Cancellers;
 use crate::fates_json::put_spot;
 use crate::origins::Marking;
 use crate::traces::Trace;
@@ -180,36 +181,25 @@ fn put_traces(
     }
 }
 
-/// Writes the command at a place.
-fn put_command(
-    alloc: Global,
-    out: &mut Pretty,
-    marking: &Marking<'_>,
-    place: usize,
-    line: &PlanLine,
-) -> Result<(), AllocError>
-    ensures { OnOk result
-        (out.new ≡ out.old ++ json_tokens (command_json marking.now place line.now)) }
-{
-    let traces = caused_at(alloc, marking, place, &line.command)?;
-    put_traces(out, marking, &line.command, &traces)
-}
-
 /// Writes the commands of a plan as an array.
 #[tactic(auto, using(crate::proofs::WordTraces::command_written))]
-pub(crate) fn put_origins(
+pub(crate) fn put_origins<'x>(
     alloc: Global,
     out: &mut Pretty,
-    marking: &Marking<'_>,
+    marking: &'x Marking<'x>,
+    switches: &'x Cancellers<'x>,
     lines: &[PlanLine],
 ) -> Result<(), AllocError>
+    requires { switches.now ≡ marking.now.line.switches }
     ensures { OnOk result
         (out.new ≡ out.old ++ json_tokens (array (origins_items marking.now 0 lines.now))) }
 {
     out.token(Token::BeginArray)?;
     let mut place = 0;
     while place < lines.len() {
-        put_command(alloc, out, marking, place, &lines[place])?;
+        let command = &lines[place].command;
+        let traces = caused_at(alloc, marking, switches, place, command)?;
+        put_traces(out, marking, command, &traces)?;
         place += 1;
     }
     out.token(Token::EndArray)
@@ -221,8 +211,9 @@ pub(crate) fn origins_json(alloc: Global, marking: &Marking<'_>) -> Result<Word,
     ensures { IfOk result (λ text. text ≡ origins_json marking.now) }
 {
     let lines = plan_lines(alloc, marking.plan)?;
+    let switches = Cancellers::new(alloc, marking.line.switches.as_slice())?;
     let mut out = Pretty::new(alloc);
-    put_origins(alloc, &mut out, marking, lines.as_slice())?;
+    put_origins(alloc, &mut out, marking, &switches, lines.as_slice())?;
     let mut text = Word::from_vec(out.into_inner());
     text.push(b'\n')?;
     Ok(text)

@@ -11,7 +11,7 @@ ghost use Rattle.std.specs.Prelude.{◌≡◌, ◌<◌, IfOk, OnOk, false, lengt
 
 use crate::cancelling::Cancellers;
 use crate::causes::{asked_options, is_true};
-use crate::walking::{Walk, after_token, gives, is_behind, is_passed, reach};
+use crate::walking::{Walk, after_token, gives, gone_by, is_before, is_behind, is_passed, reach};
 use drv_check::MarkedPart;
 use drv_syntax::{Leaf, SpecTree, SyntaxFault, TestKind, Token, TokenKind, parse};
 use drv_words::{Listing, Word};
@@ -166,6 +166,7 @@ impl Way {
     }
 
     /// Takes one more token.
+    #[tactic(auto, using(crate::proofs::Passing::before_met))]
     fn take_token(
         &mut self,
         alloc: Global,
@@ -177,6 +178,11 @@ impl Way {
             ≡ token_met switches.now met.now.token
             (label_at (tree_of met.now.tree.now) met.now.place) self.old) }
     {
+        // In a long text most tokens end before the part.
+        if is_before(self.walk, met.token) {
+            self.walk = gone_by(self.walk, met.token);
+            return Ok(());
+        }
         self.walk = reach(self.walk, met.token);
         if is_passed(self.walk, met.token) {
             return Ok(());

@@ -1,13 +1,14 @@
 //! The parts of texts that each word of a command has its bytes from, by marks.
 
 ghost use Rattle.drv_forms.specs.Difference.{words_of};
-ghost use Rattle.drv_why.specs.Code.Marks.{has_mark, unmarked};
+ghost use Rattle.drv_why.specs.Code.Marks.{IsNamedAt, has_mark, unmarked};
 ghost use Rattle.drv_why.specs.Traces.{are_words, at_word, before_name, in_mark, is_found, is_marks, no_traces, outside_marks, read, taken};
 ghost use Rattle.drv_why.specs.Traces.{command_traces, traces_by, traces_of, with_byte, with_digit};
 ghost use Rattle.drv_why.specs.Traces.{all_worded, with_trace, with_word, worded, words_read};
 ghost use Rattle.std.specs.Option.{option_map};
-ghost use Rattle.std.specs.Prelude.{◌≡◌, IfOk, OnOk, slice_get};
+ghost use Rattle.std.specs.Prelude.{◌≡◌, IfOk, OnOk, slice_get, true};
 
+use crate::numbers::Numbers;
 use drv_words::{Command, Listing, PlanLine, Word};
 use std::alloc::{AllocError, Global};
 
@@ -23,7 +24,7 @@ pub(crate) struct Trace {
     /// Its bytes without marks, and then those in the plan.
     pub(crate) word: Word,
     /// The numbers of the parts that those are of.
-    pub(crate) parts: Listing<usize>,
+    pub(crate) parts: Numbers,
     /// The options and inputs of the line that it is for.
     pub(crate) causes: Listing<Word>,
     /// The last mark of the command.
@@ -59,7 +60,7 @@ impl Trace {
     {
         Trace {
             word: Word::empty(alloc),
-            parts: Listing::new(alloc),
+            parts: Numbers::new(alloc),
             causes: Listing::new(alloc),
             last,
             due: last,
@@ -134,7 +135,7 @@ fn has_mark(bytes: &[u8]) -> bool
 fn unmarked(alloc: Global, last: Option<usize>, bytes: &[u8]) -> Result<Trace, AllocError>
     ensures { IfOk result (λ trace. trace ≡ unmarked last bytes.now) }
 {
-    let mut parts = Listing::new(alloc);
+    let mut parts = Numbers::new(alloc);
     if let Some(number) = last {
         parts.push(number)?;
     }
@@ -289,12 +290,14 @@ impl Trace {
     /// Takes its bytes in the plan, as the word at this place of a command.
     #[tactic(auto, using(crate::proofs::WordTraces::worded_so, crate::proofs::WordTraces::worded_alike, crate::proofs::WordTraces::worded_not))]
     fn take_word(&mut self, command: &Command, place: usize) -> Result<(), AllocError>
+        requires { IsNamedAt (words_of command.now) place self.old }
         ensures { OnOk result (self.new ≡ worded (words_of command.now) place self.old) }
     {
         let Some(word) = word_at(command, place) else {
             return Ok(());
         };
-        if self.word.as_bytes() != word.as_bytes() {
+        // A path is longer than the name that was found.
+        if self.word.len() != word.len() {
             self.word = word.clone()?;
         }
         Ok(())
@@ -302,8 +305,9 @@ impl Trace {
 }
 
 /// Gives each word its bytes in the plan: a file that was found has its path there.
-#[tactic(auto, using(crate::proofs::WordTraces::worded_next))]
+#[tactic(auto, using(crate::proofs::WordTraces::worded_next, crate::proofs::WordTraces::named_at, crate::proofs::WordTraces::others_named))]
 fn set_words(traces: &mut [Trace], command: &Command) -> Result<(), AllocError>
+    requires { are_words traces.old (words_of command.now) ≡ true }
     ensures { OnOk result (traces.new ≡ all_worded (words_of command.now) 0 traces.old) }
 {
     for n in 0..traces.len() {

@@ -25,18 +25,19 @@ fn last_word(traces: &[Trace]) -> &[u8]
 }
 
 /// Says for each word of the command at a place what it is for.
-fn set_causes(
+fn set_causes<'x>(
     alloc: Global,
-    marking: &Marking<'_>,
+    marking: &'x Marking<'x>,
+    switches: &'x Cancellers<'x>,
     place: usize,
     traces: &mut [Trace],
 ) -> Result<(), AllocError>
+    requires { switches.now ≡ marking.now.line.switches }
     ensures { OnOk result (traces.new
         ≡ all_caused marking.now.line marking.now.plan.jobs marking.now.parts place [] traces.old) }
 {
     let jobs = marking.plan.jobs.as_slice();
     let input = input_at(marking.line.inputs.as_slice(), source_of(jobs, place));
-    let switches = Cancellers::new(alloc, marking.line.switches.as_slice())?;
     let outers = outers_of(alloc, marking.parts)?;
     let mut kept = Kept::new(alloc);
     for n in 0..traces.len() {
@@ -44,7 +45,7 @@ fn set_causes(
         let trace = &read[n];
         let case = Case {
             line: marking.line,
-            switches: &switches,
+            switches: &*switches,
             jobs,
             input,
             word: trace.word.as_bytes(),
@@ -60,12 +61,14 @@ fn set_causes(
 
 /// The words of the command at a place with their parts and what they are for, by the line of the
 /// marked plan in its place.
-pub(crate) fn caused_at(
+pub(crate) fn caused_at<'x>(
     alloc: Global,
-    marking: &Marking<'_>,
+    marking: &'x Marking<'x>,
+    switches: &'x Cancellers<'x>,
     place: usize,
     command: &Command,
 ) -> Result<Option<Listing<Trace>>, AllocError>
+    requires { switches.now ≡ marking.now.line.switches }
     ensures { IfOk result
         (λ traces. traces
         ≡ caused_by marking.now.line marking.now.plan.jobs marking.now.parts place command.now
@@ -74,7 +77,7 @@ pub(crate) fn caused_at(
     match traces_at(alloc, command, marking.marked, place)? {
         Some(traces) => {
             let mut all = traces.into_vec();
-            set_causes(alloc, marking, place, all.as_mut_slice())?;
+            set_causes(alloc, marking, switches, place, all.as_mut_slice())?;
             Ok(Some(Listing::from_vec(all)))
         }
         None => Ok(None),

@@ -9,9 +9,9 @@ ghost use Rattle.json.specs.Tree.{json_tokens, members_tokens};
 ghost use Rattle.std.specs.Prelude.{◌≡◌, ◌++◌, IfOk, OnOk};
 
 use crate::cancelling::Cancellers;
-use crate::fates::{Parts, fates_report};
+use crate::fates::{Parts, fates_text};
 use crate::fates_json::put_fates;
-use crate::origins::{Marking, origins_report};
+use crate::origins::{Marking, origins_text};
 use crate::origins_json::put_origins;
 use crate::report::Report;
 use drv_check::Naming;
@@ -30,18 +30,18 @@ fn are_both(text: &[u8], other: &[u8]) -> bool
 }
 
 /// Adds an empty line before another text, if both have a byte.
-fn push_gap(text: &mut Word, other: &[u8]) -> Result<(), AllocError>
-    ensures { OnOk result (text.new ≡ text.old ++ gap text.old other.now) }
+fn push_gap(text: &mut Vec<u8>, other: &[u8]) -> Result<(), AllocError>
+    ensures { OnOk result (text.new.items ≡ text.old.items ++ gap text.old.items other.now) }
 {
-    if are_both(text.as_bytes(), other) {
-        return text.push(b'\n');
+    if are_both(text, other) {
+        text.push(b'\n')?;
     }
     Ok(())
 }
 
 /// Adds another text, after an empty line if both have a byte.
-fn push_half(text: &mut Word, other: &[u8]) -> Result<(), AllocError>
-    ensures { OnOk result (text.new ≡ text.old ++ gap text.old other.now ++ other.now) }
+fn push_half(text: &mut Vec<u8>, other: &[u8]) -> Result<(), AllocError>
+    ensures { OnOk result (text.new.items ≡ text.old.items ++ gap text.old.items other.now ++ other.now) }
 {
     push_gap(text, other)?;
     text.extend_from_slice(other)
@@ -51,11 +51,15 @@ fn push_half(text: &mut Word, other: &[u8]) -> Result<(), AllocError>
 fn whole_text(alloc: Global, marking: &Marking<'_>, namings: &[Naming]) -> Result<Word, AllocError>
     ensures { IfOk result (λ text. text ≡ whole_text marking.now namings.now) }
 {
-    let mut text = origins_report(alloc, Report::Lines, marking)?;
-    let switches = marking.line.switches.as_slice();
-    let fates = fates_report(alloc, Report::Lines, marking.sources, namings, switches)?;
-    push_half(&mut text, fates.as_bytes())?;
-    Ok(text)
+    let switches = Cancellers::new(alloc, marking.line.switches.as_slice())?;
+    let mut text = origins_text(alloc, marking, &switches)?;
+    let parts = Parts {
+        sources: marking.sources,
+        namings,
+    };
+    let fates = fates_text(alloc, &parts, &switches)?;
+    push_half(&mut text, fates.as_slice())?;
+    Ok(Word::from_vec(text))
 }
 
 /// Writes what becomes of the switches as a member, and ends the object.
@@ -63,8 +67,10 @@ fn put_switches(
     alloc: Global,
     out: &mut Pretty,
     marking: &Marking<'_>,
+    switches: &Cancellers<'_>,
     namings: &[Naming],
 ) -> Result<(), AllocError>
+    requires { switches.now ≡ marking.now.line.switches }
     ensures { OnOk result
         (out.new ≡ out.old ++ members_tokens (switches_member marking.now namings.now)) }
 {
@@ -72,18 +78,23 @@ fn put_switches(
         sources: marking.sources,
         namings,
     };
-    let switches = Cancellers::new(alloc, marking.line.switches.as_slice())?;
     out.token(Token::Key("switches"))?;
-    put_fates(alloc, out, &parts, &switches)?;
+    put_fates(alloc, out, &parts, switches)?;
     out.token(Token::EndObject)
 }
 
 /// Writes where the words are from as an array.
-fn put_commands(alloc: Global, out: &mut Pretty, marking: &Marking<'_>) -> Result<(), AllocError>
+fn put_commands<'x>(
+    alloc: Global,
+    out: &mut Pretty,
+    marking: &'x Marking<'x>,
+    switches: &'x Cancellers<'x>,
+) -> Result<(), AllocError>
+    requires { switches.now ≡ marking.now.line.switches }
     ensures { OnOk result (out.new ≡ out.old ++ json_tokens (origins_value marking.now)) }
 {
     let lines = plan_lines(alloc, marking.plan)?;
-    put_origins(alloc, out, marking, lines.as_slice())
+    put_origins(alloc, out, marking, switches, lines.as_slice())
 }
 
 /// Writes both halves as members, and ends the object.
@@ -96,9 +107,10 @@ fn put_halves(
     ensures { OnOk result
         (out.new ≡ out.old ++ members_tokens (whole_members marking.now namings.now)) }
 {
+    let switches = Cancellers::new(alloc, marking.line.switches.as_slice())?;
     out.token(Token::Key("commands"))?;
-    put_commands(alloc, out, marking)?;
-    put_switches(alloc, out, marking, namings)
+    put_commands(alloc, out, &*marking, &switches)?;
+    put_switches(alloc, out, marking, &switches, namings)
 }
 
 /// Writes both halves as an object.

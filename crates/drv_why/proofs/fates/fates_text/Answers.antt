@@ -16,4 +16,6 @@ loop-place-preserved c =
           c.in_ok-push_fate.ensures c.loop-place.invariant.0,
       c.in_ok-renew_lines.ensures.kept,
       c.in_ok-renew_lines.ensures.option,
+      c.in_ok-renew_lines.ensures.places,
+      c.in_ok-renew_lines.ensures.last,
     )

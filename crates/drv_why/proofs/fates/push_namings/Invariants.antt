@@ -1,10 +1,13 @@
 use Rattle.drv_why.proofs.fates.push_namings.Given as goal
+use Rattle.drv_why.specs.Code.Beginning.{parts_at}
+use Rattle.drv_why.specs.Code.LinePlaces.{IsKept}
 use Rattle.drv_why.specs.Fates.{namings_text}
 use Rattle.std.proofs.Common.{◌≡◌, ◌++◌, drop}
 
--- The loops of push_namings (src/fates.rt). Adds the lines of the parts that have to do with a switch.
+-- The loops of push_namings (src/fates.rt). Adds the lines of those of the parts at these places that have to do with a switch.
 
-abbrev pub invariant-loop-naming : goal.invariant-loop-naming
-invariant-loop-naming l =
-    l.text ++ namings_text l.sources l.name l.live (drop l.naming-index l.namings) ≡ l.fn.text
-    ++ namings_text l.sources l.name l.live l.namings
+abbrev pub invariant-loop-place : goal.invariant-loop-place
+invariant-loop-place l =
+    (l.text.bytes.items ++ namings_text l.parts.sources.now l.name l.live (parts_at l.parts.namings.now (drop l.place-index l.places))
+    ≡ l.fn.text.bytes.items ++ namings_text l.parts.sources.now l.name l.live (parts_at l.parts.namings.now l.places))
+    × IsKept l.parts.sources.now l.text.last

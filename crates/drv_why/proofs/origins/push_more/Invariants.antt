@@ -6,4 +6,4 @@ use Rattle.std.specs.List.{flat_map}
 -- The loops of push_more (src/origins.rt). Adds what else a word is for.
 
 abbrev pub invariant-loop-name : goal.invariant-loop-name
-invariant-loop-name l = l.text ++ flat_map more_text (drop l.name-index l.names) ≡ l.fn.text ++ flat_map more_text l.names
+invariant-loop-name l = l.text.items ++ flat_map more_text (drop l.name-index l.names) ≡ l.fn.text.items ++ flat_map more_text l.names

@@ -1,10 +1,12 @@
 use Rattle.drv_forms.specs.Difference.{words_of}
 use Rattle.drv_why.proofs.WordTraces.{half_worded}
 use Rattle.drv_why.proofs.traces.set_words.Given as goal
-use Rattle.drv_why.specs.Traces.{all_worded}
-use Rattle.std.proofs.Common.{◌≡◌}
+use Rattle.drv_why.specs.Traces.{all_worded, are_words}
+use Rattle.std.proofs.Common.{◌≡◌, drop, true}
 
 -- The loops of set_words (src/traces.rt). Gives each word its bytes in the plan: a file that was found has its path there.
 
 abbrev pub invariant-loop-n : goal.invariant-loop-n
-invariant-loop-n l = half_worded (words_of l.command) l.n l.traces ≡ all_worded (words_of l.command) 0 l.fn.traces
+invariant-loop-n l =
+    (half_worded (words_of l.command) l.n l.traces ≡ all_worded (words_of l.command) 0 l.fn.traces)
+    × (are_words (drop l.n l.traces) (drop l.n (words_of l.command)) ≡ true)
