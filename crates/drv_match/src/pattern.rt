@@ -22,8 +22,8 @@ impl<'a> Model for Pattern<'a> {
 }
 
 impl<'a> Pattern<'a> {
-    /// Whether the pattern names a switch of this name.
-    pub(crate) fn is_named(&self, name: &[u8]) -> bool
+    /// Whether the pattern names a switch of this name (GCC manual, "Spec Files", `%{S}`, `%{S*}`).
+    pub fn is_named(&self, name: &[u8]) -> bool
         ensures { result ≡ is_named self.now name.now }
     {
         if self.star {
@@ -35,7 +35,7 @@ impl<'a> Pattern<'a> {
 
     /// Whether the pattern also hits cancelled switches: it has a star and a name of at most one
     /// byte.
-    pub(crate) fn is_broad(&self) -> bool
+    pub fn is_broad(&self) -> bool
         ensures { result ≡ is_broad self.now }
     {
         self.star && self.name.len() <= 1
