@@ -1,3 +1,4 @@
 mod Marking
 mod Newlines
+mod PlaceRuns
 mod Plain

@@ -1,3 +1,4 @@
+pub mod BytesAt
 pub mod Code
 pub mod LinePlaces
 pub mod Settling

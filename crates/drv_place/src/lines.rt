@@ -3,8 +3,9 @@
 ghost use Rattle.drv_place.specs.LinePlaces.{line_after, line_before, line_number};
 ghost use Rattle.drv_specs.specs.Lines.{ends_line};
 ghost use Rattle.std.specs.List.{position};
-ghost use Rattle.std.specs.Prelude.{◌≡◌, ◌<◌, ◌≤◌, IfNone, IfSome, drop, filter, length, suc, take};
+ghost use Rattle.std.specs.Prelude.{◌≡◌, ◌<◌, ◌≤◌, IfNone, IfSome, filter, length, suc};
 
+use crate::slices::{after_first, first_of};
 use bstr::ByteSlice;
 use drv_words::split_at_last;
 
@@ -13,29 +14,6 @@ fn ends_line(byte: u8) -> bool
     ensures { result ≡ ends_line byte }
 {
     byte == b'\n'
-}
-
-/// The first bytes of a text.
-fn first_bytes(text: &[u8], count: usize) -> &[u8]
-    ensures is { result.now ≡ take count text.now }
-    ensures within { length result.now ≤ length text.now }
-{
-    if count <= text.len() {
-        &text[..count]
-    } else {
-        text
-    }
-}
-
-/// A text after its first bytes.
-fn back(text: &[u8], count: usize) -> &[u8]
-    ensures { result.now ≡ drop count text.now }
-{
-    if count <= text.len() {
-        &text[count..]
-    } else {
-        &[]
-    }
 }
 
 /// What follows the first newline.
@@ -47,7 +25,7 @@ fn behind_newline(bytes: &[u8]) -> Option<&[u8]>
     ensures shorter { IfSome result (λ rest. length rest.now < length bytes.now) }
 {
     match bytes.find_byte(b'\n') {
-        Some(at) => Some(back(bytes, at + 1)),
+        Some(at) => Some(after_first(bytes, at + 1)),
         None => None,
     }
 }
@@ -78,14 +56,14 @@ fn newline_in(bytes: &[u8]) -> Option<usize>
 pub fn line_number(text: &[u8], at: usize) -> usize
     ensures { result ≡ line_number text.now at }
 {
-    count_newlines(first_bytes(text, at)) + 1
+    count_newlines(first_of(text, at)) + 1
 }
 
 /// What precedes a byte in its line. The byte's column, from 1, is one more than its length.
 pub fn line_before(text: &[u8], at: usize) -> &[u8]
     ensures { result.now ≡ line_before text.now at }
 {
-    let bytes = first_bytes(text, at);
+    let bytes = first_of(text, at);
     match split_at_last(b'\n', bytes) {
         Some((_, line)) => line,
         None => bytes,
@@ -96,7 +74,7 @@ pub fn line_before(text: &[u8], at: usize) -> &[u8]
 pub fn line_after(text: &[u8], at: usize) -> &[u8]
     ensures { result.now ≡ line_after text.now at }
 {
-    let bytes = back(text, at);
+    let bytes = after_first(text, at);
     match newline_in(bytes) {
         Some(end) => &bytes[..end],
         None => bytes,

@@ -3,11 +3,12 @@
 ghost use Rattle.drv_place.specs.Code.Plain.{are_apart};
 ghost use Rattle.drv_place.specs.Settling.{marked_from, marked_onto, nothing, places_of};
 ghost use Rattle.drv_specs.specs.Lines.{is_kept, settle};
-ghost use Rattle.std.specs.List.{list_all, range_with_len};
-ghost use Rattle.std.specs.Prelude.{◌≡◌, IfOk, IsTrue, OnOk, Some, false, length, map, slice_get, true};
+ghost use Rattle.std.specs.List.{list_all};
+ghost use Rattle.std.specs.Prelude.{◌≡◌, IfOk, IsTrue, OnOk, Some, false, map, slice_get, true};
 
+use crate::places::Places;
 use bstr::ByteSlice;
-use drv_words::{Listing, Word};
+use drv_words::Word;
 use std::alloc::{AllocError, Global};
 
 /// What is left of a spec file's text: its bytes, and the place of each of them in the file.
@@ -16,7 +17,7 @@ pub struct Settled {
     /// The bytes.
     pub text: Word,
     /// The place of each in the file, counted from 0.
-    pub places: Listing<usize>,
+    pub places: Places,
 }
 
 /// Takes one more byte, which is at this place of the file.
@@ -71,25 +72,15 @@ fn is_plain(text: &[u8]) -> bool
     are_apart(text)
 }
 
-/// All bytes of a text, and the place of each.
-fn copy_all(alloc: Global, text: &[u8]) -> Result<(Vec<u8>, Vec<usize>), AllocError>
-    ensures bytes { IfOk result (λ left. left.0.items ≡ text.now) }
-    ensures places { IfOk result (λ left. left.1.items ≡ range_with_len 0 (length text.now)) }
-{
-    let mut bytes = Vec::with_capacity(alloc, text.len())?;
-    bytes.extend_from_slice(text)?;
-    let places: Vec<usize> = (0..text.len()).collect(alloc)?;
-    Ok((bytes, places))
-}
-
 /// The bytes that are left of a text, and the place of each. Most texts are plain, and are copied.
 #[tactic(auto, using(crate::proofs::Plain::plain_bytes, crate::proofs::Plain::plain_places))]
-fn settle_all(alloc: Global, text: &[u8]) -> Result<(Vec<u8>, Vec<usize>), AllocError>
+fn settle_all(alloc: Global, text: &[u8]) -> Result<(Vec<u8>, Places), AllocError>
     ensures bytes { IfOk result (λ left. left.0.items ≡ (marked_from nothing 0 text.now).bytes) }
-    ensures places { IfOk result (λ left. left.1.items ≡ (marked_from nothing 0 text.now).places) }
+    ensures places { IfOk result (λ left. left.1 ≡ (marked_from nothing 0 text.now).places) }
 {
     if is_plain(text) {
-        return copy_all(alloc, text);
+        let bytes = Vec::from_slice(alloc, text)?;
+        return Ok((bytes, Places::run(alloc, text.len())));
     }
     let mut bytes = Vec::with_capacity(alloc, text.len())?;
     let mut places = Vec::with_capacity(alloc, text.len())?;
@@ -98,7 +89,7 @@ fn settle_all(alloc: Global, text: &[u8]) -> Result<(Vec<u8>, Vec<usize>), Alloc
         settle_onto(&mut bytes, &mut places, place, byte)?;
         place += 1;
     }
-    Ok((bytes, places))
+    Ok((bytes, Places::from_vec(places)))
 }
 
 /// What is left of a spec file's text, without carriage returns and without each pair of a
@@ -113,6 +104,6 @@ pub fn settle(alloc: Global, text: &[u8]) -> Result<Settled, AllocError>
     let (bytes, places) = settle_all(alloc, text)?;
     Ok(Settled {
         text: Word::from_vec(bytes),
-        places: Listing::from_vec(places),
+        places,
     })
 }

@@ -6,6 +6,4 @@ use Rattle.std.proofs.Common.{◌∙◌}
 -- (GCC manual, "Spec Files"), and where each of its bytes is in the file.
 
 pub returns-clause-bytes : goal.returns-clause-bytes
-returns-clause-bytes c =
-    bytes_there c.from_vec.result c.from_vec-2.result c.args.text.now (c.from_vec.ensures ∙ c.in_ok-bytes.ensures.bytes)
-    (c.from_vec-2.ensures ∙ c.in_ok-bytes.ensures.places)
+returns-clause-bytes c = bytes_there _ _ c.args.text.now (c.from_vec.ensures ∙ c.in_ok-bytes.ensures.bytes) c.in_ok-bytes.ensures.places

@@ -1,8 +1,8 @@
-use Rattle.drv_check.proofs.origins.has_bytes.Given as goal
-use Rattle.drv_check.specs.Code.OwnSpots.{has_bytes}
+use Rattle.drv_place.proofs.places.has_each.Given as goal
+use Rattle.drv_place.specs.BytesAt.{has_bytes}
 use Rattle.std.proofs.Common.{◌≡◌, length}
 
--- The loops of has_bytes (src/origins.rt). Whether a source has the bytes of a text at these places.
+-- The loops of has_each (src/places.rt). Whether a source has the bytes of a text at these places.
 
 -- The places that are left have the bytes left exactly if all have.
 abbrev pub invariant-loop-places_left : goal.invariant-loop-places_left
