@@ -3,4 +3,5 @@ pub mod Branching
 pub mod Deeds
 pub mod OwnSpots
 pub mod OwnTrees
+pub mod Recovering
 pub mod Seeking

@@ -1,5 +1,6 @@
 //! The pieces of a settled text that are directives.
 
+ghost use Rattle.drv_check.specs.Code.Recovering.{recovers};
 ghost use Rattle.drv_check.specs.Pieces.{alone_at, begins_head, begun_after, checked_pieces, ended_by};
 ghost use Rattle.drv_check.specs.Pieces.{first_lacks_colon, goes_on_at, is_cut, is_head_byte, lacks_colon, line_kind};
 ghost use Rattle.drv_check.specs.Pieces.{longer, opened_by, piece_of, pieces_cut, pieces_of};
@@ -71,13 +72,34 @@ fn longer(piece: Piece, line: &[u8]) -> Result<Piece, AllocError>
     })
 }
 
-/// Where a line begins.
-#[derive(Clone, Copy, Debug)]
-struct LineStart {
+/// A line of a text.
+#[derive(Drop)]
+struct Line<'a> {
     /// Its number, from 1.
     number: usize,
     /// The place of its first byte.
     at: usize,
+    /// Its bytes.
+    bytes: &'a [u8],
+}
+
+/// What reading does below a line that is no directive.
+#[derive(Clone, Copy, Debug)]
+enum Reading {
+    /// It takes all up to an empty line for that line's body.
+    Strict,
+    /// It goes on where a directive begins.
+    Recovering,
+}
+
+/// Whether reading goes on there where a directive begins.
+fn recovers(reading: Reading) -> bool
+    ensures { result ≡ recovers reading }
+{
+    match reading {
+        Reading::Strict => false,
+        Reading::Recovering => true,
+    }
 }
 
 /// Whether a line has no colon, so that it begins no directive with a body.
@@ -126,60 +148,58 @@ fn is_cut(piece: &Piece, line: &[u8]) -> bool
     goes_on_at(line) && first_lacks_colon(piece.text.as_bytes())
 }
 
-/// Takes a line that begins here and is in no body.
+/// Takes a line that is in no body.
 fn take_first(
     alloc: Global,
     pieces: &mut Vec<Piece>,
-    start: LineStart,
-    line: &[u8],
+    line: &Line<'_>,
 ) -> Result<Option<Piece>, AllocError>
-    ensures begun { IfOk result (λ next. next ≡ opened_by start.number start.at line.now) }
+    ensures begun { IfOk result (λ next. next ≡ opened_by line.now.number line.now.at line.now.bytes.now) }
     ensures ended { OnOk result
-        (pieces.new.items ≡ pieces.old.items ++ alone_at start.number start.at line.now) }
+        (pieces.new.items ≡ pieces.old.items ++ alone_at line.now.number line.now.at line.now.bytes.now) }
 {
-    match line_kind(line) {
+    match line_kind(line.bytes) {
         LineKind::Passed => Ok(None),
         LineKind::Alone => {
-            pieces.push(piece_of(alloc, start.number, start.at, line)?)?;
+            pieces.push(piece_of(alloc, line.number, line.at, line.bytes)?)?;
             Ok(None)
         }
-        LineKind::Opens => Ok(Some(piece_of(alloc, start.number, start.at, line)?)),
+        LineKind::Opens => Ok(Some(piece_of(alloc, line.number, line.at, line.bytes)?)),
     }
 }
 
-/// Takes a line that begins here, after a piece that may go on.
+/// Takes a line after a piece that may go on.
 fn take_line(
     alloc: Global,
     pieces: &mut Vec<Piece>,
-    recovers: bool,
+    reading: Reading,
     begun: Option<Piece>,
-    start: LineStart,
-    line: &[u8],
+    line: &Line<'_>,
 ) -> Result<Option<Piece>, AllocError>
     ensures begun { IfOk result
-        (λ next. next ≡ begun_after recovers begun start.number start.at line.now) }
+        (λ next. next ≡ begun_after (recovers reading) begun line.now.number line.now.at line.now.bytes.now) }
     ensures ended { OnOk result
         (pieces.new.items
-        ≡ pieces.old.items ++ ended_by recovers begun start.number start.at line.now) }
+        ≡ pieces.old.items ++ ended_by (recovers reading) begun line.now.number line.now.at line.now.bytes.now) }
 {
     let Some(piece) = begun else {
-        return take_first(alloc, pieces, start, line);
+        return take_first(alloc, pieces, line);
     };
-    if is_empty_line(line) {
+    if is_empty_line(line.bytes) {
         pieces.push(piece)?;
         return Ok(None);
     }
-    if recovers && is_cut(&piece, line) {
+    if recovers(reading) && is_cut(&piece, line.bytes) {
         pieces.push(piece)?;
-        return take_first(alloc, pieces, start, line);
+        return take_first(alloc, pieces, line);
     }
-    Ok(Some(longer(piece, line)?))
+    Ok(Some(longer(piece, line.bytes)?))
 }
 
-/// The pieces of a settled text, where reading recovers from a line that is no directive or not.
+/// The pieces of a settled text that is read so.
 #[tactic(auto, using(crate::proofs::Cutting::pieces_more))]
-fn cut_pieces(alloc: Global, recovers: bool, text: &[u8]) -> Result<Listing<Piece>, AllocError>
-    ensures { IfOk result (λ pieces. pieces ≡ pieces_cut recovers text.now) }
+fn cut_pieces(alloc: Global, reading: Reading, text: &[u8]) -> Result<Listing<Piece>, AllocError>
+    ensures { IfOk result (λ pieces. pieces ≡ pieces_cut (recovers reading) text.now) }
 {
     let mut pieces = Vec::new(alloc);
     let mut begun = None;
@@ -188,8 +208,12 @@ fn cut_pieces(alloc: Global, recovers: bool, text: &[u8]) -> Result<Listing<Piec
     let mut left = Some(text);
     while let Some(bytes) = left {
         let (line, rest) = cut_line(bytes);
-        let start = LineStart { number, at };
-        begun = take_line(alloc, &mut pieces, recovers, begun, start, line)?;
+        let taken = Line {
+            number,
+            at,
+            bytes: line,
+        };
+        begun = take_line(alloc, &mut pieces, reading, begun, &taken)?;
         number += 1;
         at += line.len() + 1;
         left = rest;
@@ -204,7 +228,7 @@ fn cut_pieces(alloc: Global, recovers: bool, text: &[u8]) -> Result<Listing<Piec
 pub fn pieces_of(alloc: Global, text: &[u8]) -> Result<Listing<Piece>, AllocError>
     ensures { IfOk result (λ pieces. pieces ≡ pieces_of text.now) }
 {
-    cut_pieces(alloc, false, text)
+    cut_pieces(alloc, Reading::Strict, text)
 }
 
 /// The pieces of a settled text that are checked: also those below a line that is no directive, at
@@ -212,5 +236,5 @@ pub fn pieces_of(alloc: Global, text: &[u8]) -> Result<Listing<Piece>, AllocErro
 pub(crate) fn checked_pieces(alloc: Global, text: &[u8]) -> Result<Listing<Piece>, AllocError>
     ensures { IfOk result (λ pieces. pieces ≡ checked_pieces text.now) }
 {
-    cut_pieces(alloc, true, text)
+    cut_pieces(alloc, Reading::Recovering, text)
 }
