@@ -1,10 +1,10 @@
 use Rattle.drv_check.proofs.TextOrigins.{after_last}
-use Rattle.drv_check.specs.Code.OwnSpots.{has_bytes}
-use Rattle.drv_check.specs.Origins.{agree, if_agreed, is_byte, last_spots, own_spots, puts_head, source_byte, spots_after, spots_at}
+use Rattle.drv_check.specs.Origins.{agree, if_agreed, last_spots, old_head, own_spots, put_spots, puts_head, source_byte, spots_after, spots_at}
 use Rattle.drv_check.specs.Origins.{text_spots}
 use Rattle.drv_check.specs.declared.findings.Source.{Source}
 use Rattle.drv_check.specs.declared.findings.Spot.{Spot}
 use Rattle.drv_check.specs.declared.loading_order.LoadedPiece.{LoadedPiece}
+use Rattle.drv_place.specs.BytesAt.{has_bytes, is_byte}
 use Rattle.std.proofs.Common.{◌≡◌, ◌∙◌, ◌<◌, ◌≤◌, ◌⊎◌, inl, inr, ◌+◌, ◌-◌, ◌&&◌, ◌++◌, ◌∷◌, List, None, Some, [], ap, append-nil, arith, drop, false}
 use Rattle.std.proofs.Common.{get_or, length, refl, reverse, suc, sym, true, zero, ℕ}
 use Rattle.std.proofs.lemmas.List.{drop-map, length-append, length-map}
@@ -25,11 +25,11 @@ pub no_others : (n : ℕ) (places : List ℕ) → spots_at n places ++ [] ≡ sp
 no_others n places = append-nil (spots_at n places)
 
 -- For `get`: a place of the source.
-pub own_got : (n : ℕ) (places : List ℕ) (others : List Spot) (i at : ℕ) → i < length places → at ≡ get_or places i at
+pub own_got : (n : ℕ) (places : List ℕ) (others : List Spot) (i at d : ℕ) → i < length places → at ≡ get_or places i d
     → Some (record { source = n; at = at }) ≡ slice_get (spots_at n places ++ others) i
-own_got n [] others i at below here = absurd (omega (arith, below))
-own_got n (place ∷ places) others zero at below here = ap (λ p. Some (record { source = n; at = p })) here
-own_got n (place ∷ places) others (suc i) at below here = own_got n places others i at (omega (arith, below)) here
+own_got n [] others i at d below here = absurd (omega (arith, below))
+own_got n (place ∷ places) others zero at d below here = ap (λ p. Some (record { source = n; at = p })) here
+own_got n (place ∷ places) others (suc i) at d below here = own_got n places others i at d (omega (arith, below)) here
 
 -- For `get`: one of the others.
 pub other_got : (n : ℕ) (places : List ℕ) (others : List Spot) (i : ℕ) → length places ≤ i
@@ -57,21 +57,30 @@ own_found head left earlier piece whole cut puts stays is =
     let all : spots_after head (piece ∷ reverse earlier) ≡ own_spots piece = rw (puts, stays) refl in
     sym is ∙ after_last head left earlier piece cut ∙ all
 
--- For `own_piece`: another one, which renames nothing.
+-- For `own_piece`: the last one that adds to it, where the others give none of it.
+pub own_added : (head : List ℕ) (left earlier : List LoadedPiece) (piece : LoadedPiece) (whole : List Spot) → left ≡ earlier ++ piece ∷ []
+    → puts_head head piece ≡ true → piece.adds ≡ true → spots_after head (reverse earlier) ≡ [] → spots_after head (reverse left) ≡ whole
+    → whole ≡ own_spots piece
+own_added head left earlier piece whole cut puts adds none is =
+    let all : spots_after head (piece ∷ reverse earlier) ≡ spots_after head (reverse earlier) ++ own_spots piece = rw (puts, adds) refl in
+    sym is ∙ after_last head left earlier piece cut ∙ all ∙ ap (λ ss. ss ++ own_spots piece) none
+
+-- For `gives_none`: where no directive is left, the text has no spots.
+pub none_given : (head : List ℕ) (left : List LoadedPiece) (whole : List Spot) → left ≡ [] → spots_after head (reverse left) ≡ whole
+    → whole ≡ []
+none_given head left whole none is = sym is ∙ ap (λ ps. spots_after head (reverse ps)) none
+
+-- For `own_piece` and `gives_none`: another one, which gives no text this head.
 pub other_passed : (head : List ℕ) (left earlier : List LoadedPiece) (piece : LoadedPiece) (whole : List Spot) → left ≡ earlier ++ piece ∷ []
-    → puts_head head piece ≡ false → piece.renaming ≡ None → spots_after head (reverse left) ≡ whole
+    → puts_head head piece ≡ false → old_head head piece.renaming ≡ head → spots_after head (reverse left) ≡ whole
     → spots_after head (reverse earlier) ≡ whole
 other_passed head left earlier piece whole cut other stays is =
-    let same : spots_after head (piece ∷ reverse earlier) ≡ spots_after head (reverse earlier) = rw (other, stays) refl in
+    let same : spots_after head (piece ∷ reverse earlier) ≡ spots_after head (reverse earlier) =
+    ap (λ t. if t then put_spots piece (spots_after head (reverse earlier)) else spots_after (old_head head piece.renaming) (reverse earlier))
+    other ∙ ap (λ h. spots_after h (reverse earlier)) stays in
     sym same ∙ sym (after_last head left earlier piece cut) ∙ is
 
 -- the bytes of its source
-
--- For `has_bytes`: if the first byte is there, then all are exactly if the others are.
-pub bytes_next : (bytes : List ℕ) (place : ℕ) (places places' : List ℕ) (b : ℕ) (text text' : List ℕ) → places ≡ place ∷ places'
-    → text ≡ b ∷ text' → is_byte (slice_get bytes place) b ≡ true → has_bytes bytes places text ≡ has_bytes bytes places' text'
-bytes_next bytes place places places' b text text' cut cut' is =
-    ap (λ ps. has_bytes bytes ps text) cut ∙ ap (λ bs. has_bytes bytes (place ∷ places') bs) cut' ∙ rw is refl
 
 -- the spots of a source agree with bytes exactly if that has them
 agree_in : (sources : List Source) (n : ℕ) (source : Source) (places text : List ℕ) → slice_get sources n ≡ Some source

@@ -1,7 +1,8 @@
-use Rattle.drv_check.specs.Origins.{agree, byte_at, is_byte, last_spots, spot_at, spots_after, text_spots}
+use Rattle.drv_check.specs.Origins.{agree, byte_at, last_spots, spot_at, spots_after, text_spots}
 use Rattle.drv_check.specs.declared.findings.Source.{Source}
 use Rattle.drv_check.specs.declared.findings.Spot.{Spot}
 use Rattle.drv_check.specs.declared.loading_order.LoadedPiece.{LoadedPiece}
+use Rattle.drv_place.specs.BytesAt.{is_byte}
 use Rattle.std.proofs.Common.{◌≡◌, ◌∙◌, ◌&&◌, ◌+◌, ◌-◌, ◌∷◌, Bool, List, None, Option, Some, [], ap, arith, drop, false, if◌then◌else◌}
 use Rattle.std.proofs.Common.{length, refl, subst, suc, true, zero, ℕ}
 use Rattle.std.proofs.lemmas.Bool.Decides.{nat_tests}

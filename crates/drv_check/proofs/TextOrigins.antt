@@ -1,22 +1,25 @@
-use Rattle.drv_check.specs.Origins.{agree, byte_at, if_agreed, is_byte, last_spots, old_head, own_spots, puts_head, sources_found}
+use Rattle.drv_check.specs.Origins.{agree, byte_at, if_agreed, last_spots, old_head, own_spots, puts_head, sources_found}
 use Rattle.drv_check.specs.Origins.{sources_of, spots_after, spots_at, text_spots}
 use Rattle.drv_check.specs.declared.findings.Source.{Source}
 use Rattle.drv_check.specs.declared.findings.Spot.{Spot}
 use Rattle.drv_check.specs.declared.loading_order.LoadedPiece.{LoadedPiece}
+use Rattle.drv_place.specs.BytesAt.{is_byte}
 use Rattle.drv_search.specs.Search.{prefixes_of}
 use Rattle.drv_search.specs.declared.prefixes.Prefixes.{Prefixes}
 use Rattle.drv_system.specs.Facts.{Facts}
 use Rattle.drv_system.specs.Known.{◌>>=◌, Is}
-use Rattle.std.proofs.Common.{◌≡◌, ◌∙◌, ◌-◌, ◌++◌, ◌∷◌, Err, IfOk, List, Ok, Result, [], ap, append_assoc, arith, false, length, refl}
-use Rattle.std.proofs.Common.{reverse, sym, true, ℕ}
-use Rattle.std.proofs.lemmas.List.{drop_all, map-append, reverse-append, reverse-reverse}
+use Rattle.std.proofs.Common.{◌≡◌, ◌∙◌, ◌<◌, ◌≤◌, ◌+◌, ◌-◌, ◌++◌, ◌∷◌, Err, IfOk, List, Ok, Result, [], ap, append-nil}
+use Rattle.std.proofs.Common.{append_assoc, arith, false, get_or, length, refl}
+use Rattle.std.proofs.Common.{reverse, suc, sym, take, true, zero, ℕ}
+use Rattle.std.proofs.lemmas.List.{drop_all, map-append, reverse-append, reverse-reverse, take_all, take_more}
 
 -- For sources_of (src/seeking.rt): the prefixes are found first.
 -- Names: A spot is a place in a file. `F` is what is known of the outside. `names` is the files of the line, and `sources` those that were
 -- read. `pieces` is their directives in the order in which they are loaded. `left` is those of them that are left, `piece` the last of these,
 -- and `earlier` the others. `head` is what precedes the colon of a text, and `head'` before the directive. `spots` is the spots of the
 -- text's bytes so far, the last one first, and `spots'` after one step more. `before`, `after` and `whole` are a list before a step, after
--- it, and at the end. `n` is the number of a source. `result` is what the code's call gives. `spots_after` and `agree` are in specs/Origins.
+-- it, and at the end. `n` is the number of a source. `k` is how
+-- many places are left, and `k'` after one step more. `at` is a place, and `d` what is read where there is none. `result` is what the code's call gives. `spots_after` and `agree` are in specs/Origins.
 
 -- The prefixes that the call finds are those of the definition.
 pub opens_sources : {E : Type 0} (F : Facts) (found : Prefixes) (prefixes names : List (List ℕ)) (result : Result (List Source) E)
@@ -33,15 +36,31 @@ spots_back : (n : ℕ) (before : List ℕ) (at : ℕ)
 spots_back n before at = ap reverse (map-append (λ p. record { source = n; at = p }) before (at ∷ []))
     ∙ reverse-append (spots_at n before) (spots_at n (at ∷ []))
 
--- If the spots so far and those of the places left, the last one first, are all, then they still are after the last place.
-pub spot_next : (n : ℕ) (left before : List ℕ) (at : ℕ) (spots spots' whole : List Spot) → left ≡ before ++ at ∷ []
-    → spots' ≡ spots ++ record { source = n; at = at } ∷ []
-    → spots ++ reverse (spots_at n left) ≡ whole → spots' ++ reverse (spots_at n before) ≡ whole
-spot_next n left before at spots spots' whole cut grows is =
+-- For `push_own`: at first all places are left.
+pub spots_all : (n : ℕ) (places : List ℕ) (spots : List Spot) (k : ℕ) → k ≡ length places
+    → spots ++ reverse (spots_at n (take k places)) ≡ spots ++ reverse (spots_at n places)
+spots_all n places spots k is = ap (λ ps. spots ++ reverse (spots_at n ps)) (take_all k places (omega (arith, is)))
+
+-- For `push_own`: if the spots so far and those of the places left, the last one first, are all, then they still are after the last place.
+pub spot_next : (n : ℕ) (places : List ℕ) (k k' at d : ℕ) (spots spots' whole : List Spot) → k ≤ length places → 0 < k → k' ≡ k - 1
+    → at ≡ get_or places k' d → spots' ≡ spots ++ record { source = n; at = at } ∷ []
+    → spots ++ reverse (spots_at n (take k places)) ≡ whole → spots' ++ reverse (spots_at n (take k' places)) ≡ whole
+spot_next n places k k' at d spots spots' whole within some less here grows is =
+    let before : List ℕ = take k' places in
+    let more : k ≡ k' + 1 = omega (arith, some, less) in
+    let below : k' < length places = omega (arith, within, more) in
+    let cut : take k places ≡ before ++ at ∷ [] =
+    ap (λ m. take m places) more ∙ take_more places k' d below ∙ ap (λ a. before ++ a ∷ []) (sym here) in
     ap (λ ss. ss ++ reverse (spots_at n before)) grows
     ∙ append_assoc spots (record { source = n; at = at } ∷ []) (reverse (spots_at n before))
     ∙ ap (λ ss. spots ++ ss) (sym (spots_back n before at))
     ∙ ap (λ ps. spots ++ reverse (spots_at n ps)) (sym cut) ∙ is
+
+-- For `push_own`: no place is left.
+pub spots_done : (n : ℕ) (places : List ℕ) (k : ℕ) (spots whole : List Spot) → k ≤ 0
+    → spots ++ reverse (spots_at n (take k places)) ≡ whole → spots ≡ whole
+spots_done n places zero spots whole none is = sym (append-nil spots) ∙ is
+spots_done n places (suc k) spots whole none is = absurd (omega (arith, none))
 
 -- what the last directive does to the text of a head
 pub after_last : (head : List ℕ) (left earlier : List LoadedPiece) (piece : LoadedPiece) → left ≡ earlier ++ piece ∷ []

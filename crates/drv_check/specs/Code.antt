@@ -1,7 +1,6 @@
 -- How the code reads and keeps what it checks. No public contract rests on these.
 pub mod Branching
 pub mod Deeds
-pub mod OwnSpots
 pub mod OwnTrees
 pub mod Recovering
 pub mod Seeking

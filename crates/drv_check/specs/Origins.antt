@@ -5,13 +5,14 @@ use Rattle.drv_check.specs.declared.findings.Source.{Source}
 use Rattle.drv_check.specs.declared.findings.Spot.{Spot}
 use Rattle.drv_check.specs.declared.loading_order.LoadedPiece.{LoadedPiece}
 use Rattle.drv_check.specs.declared.loading_order.Renaming.{Renaming}
+use Rattle.drv_place.specs.BytesAt.{is_byte}
 use Rattle.drv_search.specs.Search.{prefixes_of}
 use Rattle.drv_search.specs.declared.prefixes.Prefixes.{Prefixes}
 use Rattle.drv_system.specs.Facts.{Facts}
 use Rattle.drv_system.specs.Known.{◌>>=◌, Is, Known}
 use Rattle.drv_words.specs.Bytes.{asterisk}
 use Rattle.std.specs.Cmp.Lexicographic.{pointwise}
-use Rattle.std.specs.Prelude.{◌-◌, ◌==◌, ◌&&◌, Bool, List, [], ◌∷◌, ◌++◌, None, Option, Some, drop, false, if◌then◌else◌, length, map}
+use Rattle.std.specs.Prelude.{◌-◌, ◌&&◌, Bool, List, [], ◌∷◌, ◌++◌, None, Option, Some, drop, false, if◌then◌else◌, length, map}
 use Rattle.std.specs.Prelude.{nat_eq, nat_lt, reverse, slice_get, true, ℕ}
 
 -- Where in files the bytes of a set's texts are (GCC manual, "Spec Files"). A text has a head, as *cc1 or .c: what precedes its colon where
@@ -67,11 +68,6 @@ source_byte (Some source) at = slice_get source.text at
 -- the byte at a spot, if there is one
 abbrev pub byte_at : List Source → Spot → Option ℕ
 byte_at sources spot = source_byte (slice_get sources spot.source) spot.at
-
--- whether a byte is there and is this one
-abbrev pub is_byte : Option ℕ → ℕ → Bool
-is_byte None b = false
-is_byte (Some other) b = other == b
 
 -- whether files have these bytes at these spots, one after another
 abbrev pub agree : List Source → List Spot → List ℕ → Bool

@@ -5,7 +5,7 @@ ghost use Rattle.drv_check.specs.LoadingOrder.{own_places, piece_spot, renaming_
 ghost use Rattle.drv_specs.specs.Lines.{words_of};
 ghost use Rattle.std.specs.List.{flat_map};
 ghost use Rattle.std.specs.Option.{option_map};
-ghost use Rattle.std.specs.Prelude.{◌≡◌, ◌++◌, IfOk, OnOk, take};
+ghost use Rattle.std.specs.Prelude.{◌≡◌, ◌++◌, IfOk, OnOk};
 
 use crate::bytes::{blanks_before, following, next_word};
 use crate::findings::{Source, Spot};
@@ -13,7 +13,8 @@ use crate::opening::{OpenFile, open_file};
 use crate::own_text::own_start;
 use crate::pieces::Piece;
 use crate::pointing::{body_start, colon_in, is_addition};
-use drv_words::{Listing, Word};
+use drv_place::{LentPlaces, Places};
+use drv_words::Word;
 use std::alloc::{AllocError, Global};
 use std::marker::Model;
 
@@ -34,7 +35,7 @@ pub(crate) struct LoadedPiece {
     /// Whether its text is an addition.
     pub(crate) adds: bool,
     /// Where in its file the bytes of its text are.
-    pub(crate) places: Listing<usize>,
+    pub(crate) places: Places,
     /// The names that it changes, if it is a `%rename`.
     pub(crate) renaming: Option<Renaming>,
 }
@@ -83,35 +84,24 @@ fn renaming_of(alloc: Global, line: &[u8]) -> Result<Option<Renaming>, AllocErro
     }))
 }
 
-/// The first items of a list.
-fn first_of(places: &[usize], count: usize) -> &[usize]
-    ensures { result.now ≡ take count places.now }
-{
-    if count <= places.len() {
-        &places[..count]
-    } else {
-        places
-    }
-}
-
 /// The places of the bytes of the text that a piece gives.
-fn own_places<'a>(file: &'a OpenFile, piece: &Piece) -> &'a [usize]
-    ensures { result.now ≡ own_places file.now piece.now }
+fn own_places<'a>(file: &'a OpenFile, piece: &Piece) -> LentPlaces<'a>
+    ensures { result ≡ own_places file.now piece.now }
 {
-    let places = following(file.places.as_slice(), piece.start);
-    let places = first_of(places, piece.text.len());
-    following(places, own_start(piece.text.as_bytes()))
+    let places = file.places.lend().after(piece.start);
+    let places = places.first(piece.text.len());
+    places.after(own_start(piece.text.as_bytes()))
 }
 
 /// The spot of a piece.
 fn piece_spot(file: &OpenFile, piece: &Piece) -> Spot
     ensures { result ≡ piece_spot file.now piece.now }
 {
-    let places = following(file.places.as_slice(), piece.start);
+    let places = file.places.lend().after(piece.start);
     let blanks = blanks_before(piece.text.as_bytes());
     Spot {
         source: file.number,
-        at: places.get(blanks).copied().unwrap_or(file.size),
+        at: places.get_or(blanks, file.size),
     }
 }
 
@@ -120,12 +110,12 @@ fn loaded_piece(alloc: Global, file: &OpenFile, piece: &Piece) -> Result<LoadedP
     ensures { IfOk result (λ loaded. loaded ≡ loaded_piece file.now piece.now) }
 {
     let text = piece.text.as_bytes();
-    let places = Vec::from_slice(alloc, own_places(file, piece))?;
+    let places = own_places(file, piece).to_places(alloc)?;
     Ok(LoadedPiece {
         spot: piece_spot(file, piece),
         head: kept_head(alloc, text)?,
         adds: is_addition(following(text, body_start(text))),
-        places: Listing::from_vec(places),
+        places,
         renaming: renaming_of(alloc, text)?,
     })
 }

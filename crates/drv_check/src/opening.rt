@@ -13,7 +13,7 @@ ghost use Rattle.std.specs.Prelude.{◌≡◌, ◌<◌, IfOk, IfSome};
 use crate::findings::{Checking, Note, Source, Spot, add_note};
 use crate::including::Inclusion;
 use crate::pieces::{Piece, checked_pieces};
-use drv_place::settle;
+use drv_place::{Places, settle};
 use drv_search::{Prefixes, find_file};
 use drv_specs::SpecsFault;
 use drv_system::{Outside, ReadAnswer, System};
@@ -51,7 +51,7 @@ pub(crate) struct OpenFile {
     /// The size of its text.
     pub(crate) size: usize,
     /// Where each byte is in that text that is left of it.
-    pub(crate) places: Listing<usize>,
+    pub(crate) places: Places,
     /// Its directives.
     pub(crate) pieces: Listing<Piece>,
 }

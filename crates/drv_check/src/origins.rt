@@ -1,15 +1,16 @@
 //! Where in files the bytes of a set's texts are.
 
-ghost use Rattle.drv_check.specs.Code.OwnSpots.{has_bytes};
-ghost use Rattle.drv_check.specs.Origins.{agree, byte_at, if_agreed, is_byte, last_spots, old_head, own_spots, puts_head};
+ghost use Rattle.drv_check.specs.Origins.{agree, byte_at, if_agreed, last_spots, old_head, own_spots, puts_head};
 ghost use Rattle.drv_check.specs.Origins.{spot_at, spots_after, spots_at, text_spots};
+ghost use Rattle.drv_place.specs.BytesAt.{is_byte};
 ghost use Rattle.drv_words.specs.Bytes.{asterisk};
 ghost use Rattle.std.specs.Cmp.Lexicographic.{pointwise};
-ghost use Rattle.std.specs.Prelude.{◌≡◌, ◌∷◌, ◌++◌, IfOk, IfSome, OnOk, nat_eq, reverse, slice_get};
+ghost use Rattle.std.specs.Prelude.{◌≡◌, ◌∷◌, ◌++◌, [], IfOk, IfSome, IsTrue, OnOk, false, nat_eq, reverse, slice_get};
 
 use crate::bytes::following;
 use crate::findings::{Source, Spot};
 use crate::loading_order::{LoadedPiece, Renaming};
+use drv_place::LentPlaces;
 use drv_specs::SpecSet;
 use drv_words::Word;
 use std::alloc::{AllocError, Global};
@@ -68,17 +69,18 @@ fn old_head(alloc: Global, head: Word, renaming: &Option<Renaming>) -> Result<Wo
 }
 
 /// Adds the spots of the text that a directive gives, the last one first.
-#[tactic(auto, using(crate::proofs::TextOrigins::spot_next))]
+#[tactic(auto, using(crate::proofs::TextOrigins::spots_all, crate::proofs::TextOrigins::spot_next, crate::proofs::TextOrigins::spots_done))]
 fn push_own(spots: &mut Vec<Spot>, piece: &LoadedPiece) -> Result<(), AllocError>
     ensures { OnOk result (spots.new.items ≡ spots.old.items ++ reverse (own_spots piece.now)) }
 {
-    let mut left = piece.places.as_slice();
-    while let Some((place, before)) = left.split_last() {
+    let places = piece.places.lend();
+    let mut left = places.len();
+    while left > 0 {
+        left -= 1;
         spots.push(Spot {
             source: piece.spot.source,
-            at: *place,
+            at: places.get_or(left, 0),
         })?;
-        left = before;
     }
     Ok(())
 }
@@ -191,7 +193,7 @@ pub(crate) struct Spots<'a> {
     /// The number of that source.
     source: usize,
     /// The places there.
-    places: &'a [usize],
+    places: LentPlaces<'a>,
     /// The spots of the others.
     others: Vec<Spot>,
 }
@@ -203,14 +205,14 @@ impl<'a> Model for Spots<'a> {
 
     ghost Value = { List Spot };
 
-    ghost view = { λ s. spots_at s.source s.places.now ++ s.others.items };
+    ghost view = { λ s. spots_at s.source s.places ++ s.others.items };
 }
 
 impl<'a> Spots<'a> {
     /// These places of a source.
     #[tactic(auto, using(crate::proofs::OwnSpots::no_others))]
-    fn of_places(alloc: Global, source: usize, places: &'a [usize]) -> Spots<'a>
-        ensures { result ≡ spots_at source places.now }
+    fn of_places(alloc: Global, source: usize, places: LentPlaces<'a>) -> Spots<'a>
+        ensures { result ≡ spots_at source places.entry }
     {
         Spots {
             source,
@@ -225,7 +227,7 @@ impl<'a> Spots<'a> {
     {
         Spots {
             source: 0,
-            places: &[],
+            places: LentPlaces::none(),
             others: spots,
         }
     }
@@ -238,24 +240,54 @@ impl<'a> Spots<'a> {
         if index < self.places.len() {
             return Some(Spot {
                 source: self.source,
-                at: self.places[index],
+                at: self.places.get_or(index, 0),
             });
         }
         self.others.get(index - self.places.len()).copied()
     }
 }
 
-/// The directive that gives the whole text of a head, where no later one renames a text.
-#[tactic(auto, using(crate::proofs::OwnSpots::own_found, crate::proofs::OwnSpots::other_passed))]
+/// Whether a renaming gives a text this head.
+fn is_renamed(head: &[u8], renaming: &Option<Renaming>) -> bool
+    ensures { result ≡ false → old_head head.now renaming.now ≡ head.now }
+{
+    match renaming {
+        Some(renaming) => is_name_head(head, renaming.new.as_bytes()),
+        None => false,
+    }
+}
+
+/// Whether none of these directives gives the text of a head, and none gives a text that head.
+#[tactic(auto, using(crate::proofs::OwnSpots::other_passed, crate::proofs::OwnSpots::none_given))]
+fn gives_none(head: &[u8], pieces: &[LoadedPiece]) -> bool
+    ensures { IsTrue result → spots_after head.now (reverse pieces.now) ≡ [] }
+{
+    let mut left = pieces;
+    while let Some((piece, earlier)) = left.split_last() {
+        if puts_head(head, piece) || is_renamed(head, &piece.renaming) {
+            return false;
+        }
+        left = earlier;
+    }
+    true
+}
+
+/// The directive that gives all bytes of a head's text that are in files: the last one puts the text,
+/// or adds to one that no file gives. A text that a later one gives this head has none.
+#[tactic(auto, using(crate::proofs::OwnSpots::own_found, crate::proofs::OwnSpots::own_added, crate::proofs::OwnSpots::other_passed))]
 fn own_piece<'a>(head: &[u8], pieces: &'a [LoadedPiece]) -> Option<&'a LoadedPiece>
     ensures { IfSome result (λ piece. spots_after head.now (reverse pieces.now) ≡ own_spots piece.now) }
 {
     let mut left = pieces;
     while let Some((piece, earlier)) = left.split_last() {
         if puts_head(head, piece) {
-            return if piece.adds { None } else { Some(piece) };
+            return if piece.adds && !gives_none(head, earlier) {
+                None
+            } else {
+                Some(piece)
+            };
         }
-        if piece.renaming.is_some() {
+        if is_renamed(head, &piece.renaming) {
             return None;
         }
         left = earlier;
@@ -263,41 +295,21 @@ fn own_piece<'a>(head: &[u8], pieces: &'a [LoadedPiece]) -> Option<&'a LoadedPie
     None
 }
 
-/// Whether a source has the bytes of a text at these places.
-#[tactic(auto, using(crate::proofs::OwnSpots::bytes_next))]
-fn has_bytes(source: &[u8], places: &[usize], text: &[u8]) -> bool
-    ensures { result ≡ has_bytes source.now places.now text.now }
-{
-    let mut places_left = places;
-    let mut bytes_left = text;
-    while let [place, places_after @ ..] = places_left {
-        let [byte, bytes_after @ ..] = bytes_left else {
-            return false;
-        };
-        if !is_byte(source.get(*place).copied(), *byte) {
-            return false;
-        }
-        places_left = places_after;
-        bytes_left = bytes_after;
-    }
-    true
-}
-
 /// The places of the last bytes of a text that a directive gives, if its source has those bytes there.
-fn agreed_places<'a>(sources: &[Source], piece: &'a LoadedPiece, text: &[u8]) -> &'a [usize]
-    ensures { spots_at piece.now.spot.source result.now
+fn agreed_places<'a>(sources: &[Source], piece: &'a LoadedPiece, text: &[u8]) -> LentPlaces<'a>
+    ensures { spots_at piece.now.spot.source result
         ≡ if_agreed sources.now text.now (last_spots (own_spots piece.now) text.now) }
 {
-    let places = piece.places.as_slice();
+    let places = piece.places.lend();
     let Some(source) = sources.get(piece.spot.source) else {
-        return &[];
+        return LentPlaces::none();
     };
-    let last = following(places, places.len().saturating_sub(text.len()));
+    let last = places.after(places.len().saturating_sub(text.len()));
     let bytes = following(text, text.len().saturating_sub(last.len()));
-    if has_bytes(source.text.as_bytes(), last, bytes) {
+    if last.has_bytes(source.text.as_bytes(), bytes) {
         last
     } else {
-        &[]
+        LentPlaces::none()
     }
 }
 

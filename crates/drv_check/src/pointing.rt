@@ -9,6 +9,7 @@ ghost use Rattle.std.specs.Option.{option_map};
 ghost use Rattle.std.specs.Prelude.{◌≡◌, ◌≤◌, ◌<◌, IfSome, length};
 
 use crate::bytes::{blanks_before, following, is_blank, white_before};
+use drv_place::LentPlaces;
 use drv_specs::{SpecSet, SpecsFault};
 use drv_syntax::SyntaxFault;
 
@@ -88,19 +89,19 @@ pub(crate) fn is_addition(body: &[u8]) -> bool
 fn place_in_addition(
     old: Option<usize>,
     body: &[u8],
-    places: &[usize],
+    places: &LentPlaces<'_>,
     number: usize,
 ) -> Option<usize>
     ensures { result ≡ place_in_addition old body.now places.now number }
 {
-    let rest = following(places, 1);
+    let rest = places.after(1);
     match old {
         Some(size) if number < size => None,
-        Some(size) => rest.get(number - size).copied(),
+        Some(size) => rest.get(number - size),
         None if number == 0 => None,
         None => {
             let white = white_before(following(body, 1));
-            following(rest, white).get(number - 1).copied()
+            rest.after(white).get(number - 1)
         }
     }
 }
@@ -109,14 +110,14 @@ fn place_in_addition(
 fn in_body(
     old: Option<Option<usize>>,
     body: &[u8],
-    places: &[usize],
+    places: &LentPlaces<'_>,
     number: usize,
 ) -> Option<usize>
     ensures { result ≡ in_body old body.now places.now number }
 {
     match old {
         Some(old) if is_addition(body) => place_in_addition(old, body, places, number),
-        _ => places.get(number).copied(),
+        _ => places.get(number),
     }
 }
 
@@ -137,7 +138,7 @@ pub(crate) fn old_length(set: &SpecSet, name: Option<&[u8]>) -> Option<Option<us
 fn percent_place(
     set: &SpecSet,
     text: &[u8],
-    places: &[usize],
+    places: &LentPlaces<'_>,
     percent: Option<usize>,
 ) -> Option<usize>
     ensures { result ≡ percent_place set.now text.now places.now percent }
@@ -145,19 +146,14 @@ fn percent_place(
     let number = percent?;
     let start = body_start(text);
     let old = old_length(set, name_in(text));
-    in_body(
-        old,
-        following(text, start),
-        following(places, start),
-        number,
-    )
+    in_body(old, following(text, start), &places.after(start), number)
 }
 
 /// The place of a fault in a file of this size, of a piece whose bytes are at these places.
 pub(crate) fn point(
     set: &SpecSet,
     text: &[u8],
-    places: &[usize],
+    places: &LentPlaces<'_>,
     size: usize,
     fault: &SpecsFault,
 ) -> usize
@@ -165,6 +161,6 @@ pub(crate) fn point(
 {
     match percent_place(set, text, places, place_of(fault)) {
         Some(place) => place,
-        None => places.get(blanks_before(text)).copied().unwrap_or(size),
+        None => places.get_or(blanks_before(text), size),
     }
 }

@@ -11,7 +11,7 @@ ghost use Rattle.drv_system.specs.Facts.{Facts};
 ghost use Rattle.drv_system.specs.Known.{Is};
 ghost use Rattle.std.specs.Prelude.{◌≡◌, ◌<◌, ◌++◌, IfOk, IfSome, OnOk, map, Some};
 
-use crate::bytes::{blanks_before, following};
+use crate::bytes::blanks_before;
 use crate::findings::{Checking, Finding, Note, Spot, add_note};
 use crate::including::inclusion_in;
 use crate::opening::{FilePiece, Nesting, OpenFile, Search, open};
@@ -38,10 +38,10 @@ fn with_number(number: usize, fault: SpecsFault) -> SpecsFault
 pub(crate) fn spot_in(file: &OpenFile, piece: &Piece, at: usize) -> Spot
     ensures { Some result ≡ spot_in file.now piece.now at }
 {
-    let places = following(file.places.as_slice(), piece.start);
+    let places = file.places.lend().after(piece.start);
     Spot {
         source: file.number,
-        at: places.get(at).copied().unwrap_or(file.size),
+        at: places.get_or(at, file.size),
     }
 }
 
@@ -54,11 +54,11 @@ fn note_fault(
 ) -> Result<(), AllocError>
     ensures { OnOk result (checking.new ≡ faulty checking.old file.now piece.now fault) }
 {
-    let places = following(file.places.as_slice(), piece.start);
+    let places = file.places.lend().after(piece.start);
     let at = point(
         &checking.set,
         piece.text.as_bytes(),
-        places,
+        &places,
         file.size,
         &fault,
     );

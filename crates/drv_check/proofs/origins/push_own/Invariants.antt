@@ -1,11 +1,15 @@
 use Rattle.drv_check.proofs.origins.push_own.Given as goal
 use Rattle.drv_check.specs.Origins.{own_spots, spots_at}
-use Rattle.std.proofs.Common.{◌≡◌, ◌++◌, length, reverse}
+use Rattle.std.proofs.Common.{◌≡◌, ◌≤◌, ◌++◌, length, reverse, take}
 
 -- The loops of push_own (src/origins.rt). Adds the spots of the text that a directive gives, the last one first.
 
-abbrev pub invariant-loop-place : goal.invariant-loop-place
-invariant-loop-place l = l.spots.items ++ reverse (spots_at l.piece.spot.source l.left) ≡ l.fn.spots.items ++ reverse (own_spots l.piece)
+abbrev pub invariant-loop-left : goal.invariant-loop-left
+invariant-loop-left l = record {
+  within : l.left ≤ length l.piece.places;
+  spots : l.spots.items ++ reverse (spots_at l.piece.spot.source (take l.left l.piece.places))
+      ≡ l.fn.spots.items ++ reverse (own_spots l.piece);
+}
 
-abbrev pub decreases-loop-place : goal.decreases-loop-place
-decreases-loop-place l = length l.left
+abbrev pub decreases-loop-left : goal.decreases-loop-left
+decreases-loop-left l = l.left
