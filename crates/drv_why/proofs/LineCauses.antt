@@ -3,10 +3,6 @@ use Rattle.drv_args.specs.declared.line.Line.{Line}
 use Rattle.drv_args.specs.declared.line.Switch.{Switch}
 use Rattle.drv_check.specs.declared.marking.MarkedPart.{MarkedPart}
 use Rattle.drv_match.specs.Pattern.{Pattern}
-use Rattle.drv_syntax.specs.Outcome.{parsed}
-use Rattle.drv_syntax.specs.Parsed.{tree_in, tree_of}
-use Rattle.drv_syntax.specs.Tree.{none}
-use Rattle.drv_syntax.specs.declared.fault.SyntaxFault.{SyntaxFault}
 use Rattle.drv_why.proofs.FirstCancellers.{cut_at, met_at}
 use Rattle.drv_why.specs.Causes.{all_caused, behind_groups, case_at, caused, causes_of, input_at, input_word, makers, word_of_input}
 use Rattle.drv_why.specs.Causes.{outer_of, outers_from, outers_of, source_of}
@@ -17,7 +13,7 @@ use Rattle.drv_why.specs.declared.outers.Outer.{Outer}
 use Rattle.drv_why.specs.declared.traces.Trace.{Trace}
 use Rattle.drv_words.specs.declared.plan.Command.{Command}
 use Rattle.drv_words.specs.declared.plan.Job.{Job}
-use Rattle.std.proofs.Common.{◌≡◌, ◌∙◌, ◌<◌, ◌≤◌, ◌+◌, ◌-◌, ◌∷◌, ◌++◌, Err, List, None, Option, Some, [], ap, append_assoc}
+use Rattle.std.proofs.Common.{◌≡◌, ◌∙◌, ◌<◌, ◌≤◌, ◌+◌, ◌-◌, ◌∷◌, ◌++◌, List, None, Option, Some, [], ap, append_assoc}
 use Rattle.std.proofs.Common.{arith, drop, false, length, refl, set, sym, take, true, ℕ}
 use Rattle.std.proofs.lemmas.Bool.Decides.{Decides-eqb, nat_tests}
 use Rattle.std.proofs.lemmas.List.{drop-set-lt, drop_all, drop_more, get_or_default, take_more_set}
@@ -161,10 +157,6 @@ pub no_input : (n : ℕ) (inputs : List Input) (word : List ℕ) (whole : List (
 no_input n inputs word whole past is = sym (ap (λ is. word_of_input is word) (drop_all n inputs past)) ∙ is
 
 -- texts and parts
-
--- a text that the grammar refuses has no item
-pub no_tree : (text : List ℕ) (fault : SyntaxFault) → parsed text ≡ Err fault → tree_of text ≡ none
-no_tree text fault is = ap tree_in is
 
 -- a text that is kept is the same one
 pub same_text : (kept text : List ℕ) → pointwise nat_eq kept text ≡ true → kept ≡ text

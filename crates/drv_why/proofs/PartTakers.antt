@@ -11,16 +11,18 @@ use Rattle.drv_syntax.specs.declared.token.TokenKind.TheVariants as kinds
 use Rattle.drv_syntax.specs.declared.token.TokenKind.{TokenKind}
 use Rattle.drv_why.specs.Causes.{Case, Telling, both_told, causes_of, is_true, may_take, number_told, numbers_told, outers_of, part_at, takes}
 use Rattle.drv_why.specs.Causes.{test_takes, token_told, tokens_told, told_at, told_by, told_on}
-use Rattle.drv_why.specs.Code.Takers.{all_taken, asked_options, both_takers, last_takers, met_at, met_by, parts_taken, taker_met, taker_takes, takers_at}
-use Rattle.drv_why.specs.Code.Takers.{test_met, token_met, tokens_met, tree_met, way_in, with_taker}
+use Rattle.drv_why.specs.Code.Takers.{all_taken, asked_options, both_takers, last_takers, met_at, met_by, parts_taken}
+use Rattle.drv_why.specs.Code.Takers.{taker_met, taker_takes, takers_at, takers_in, test_met, token_met, tokens_met, tree_met, way_in, with_taker}
+use Rattle.drv_why.specs.Code.Halts.{way_from}
 use Rattle.drv_why.specs.Taken.{with_names}
 use Rattle.drv_why.specs.Walks.{after_token, gives, is_passed, reach, walked_by, way_to}
 use Rattle.drv_why.specs.declared.takers.Taker.TheVariants.{Known, Repeats, Takes}
 use Rattle.drv_why.specs.declared.takers.Taker.{Taker}
 use Rattle.drv_why.specs.declared.takers.Way.{Way}
 use Rattle.drv_why.specs.declared.walking.Walk.{Walk}
-use Rattle.std.proofs.Common.{◌≡◌, ◌∙◌, ◌<◌, ◌≤◌, ◌+◌, ◌∷◌, ◌++◌, Bool, List, None, Option, Some, [], ap, drop, false, length, refl, sym, true, ℕ}
+use Rattle.std.proofs.Common.{◌≡◌, ◌∙◌, ◌<◌, ◌≤◌, ◌+◌, ◌-◌, ◌∷◌, ◌++◌, Bool, List, None, Option, Some, [], ap, drop, false, length, refl, sym, true, ℕ}
 use Rattle.std.proofs.lemmas.List.{drop_all, drop_more}
+use Rattle.std.proofs.lemmas.Option.{slice_get-get_or}
 use Rattle.std.specs.Prelude.{get_or, if◌then◌else◌, nat_le, slice_get}
 
 -- For causes_of (src/telling.rt) and takers_in (src/takers.rt): what a word is for is what the takers of its parts take, and those are the
@@ -32,7 +34,7 @@ use Rattle.std.specs.Prelude.{get_or, if◌then◌else◌, nat_le, slice_get}
 
 -- the loops
 
--- For `take_tree`: if the way so far with the tokens left is the whole, then it still is after one token more.
+-- For `take_from`: if the way so far with the tokens left is the whole, then it still is after one token more.
 pub token_next : (switches : List Switch) (items : Items) (n : ℕ) (tokens : List Token) (token : Token) (before after whole : Way)
     → n < length tokens → token ≡ get_or tokens n token → nat_le before.walk.last token.start ≡ false
     → after ≡ token_met switches token (label_at items n) before
@@ -43,7 +45,7 @@ token_next switches items n tokens token before after whole below here inside ta
     ∙ sym (ap (tokens_met switches items n before) (drop_more tokens n token below)
     ∙ ap (λ t. tokens_met switches items n before (t ∷ drop (n + 1) tokens)) (sym here) ∙ rw inside refl) ∙ is
 
--- For `take_tree`: if token n begins behind the part, then the way so far is the whole.
+-- For `take_from`: if token n begins behind the part, then the way so far is the whole.
 pub token_behind : (switches : List Switch) (items : Items) (n : ℕ) (tokens : List Token) (token : Token) (before whole : Way)
     → n < length tokens → token ≡ get_or tokens n token → nat_le before.walk.last token.start ≡ true
     → tokens_met switches items n before (drop n tokens) ≡ whole → before ≡ whole
@@ -51,15 +53,39 @@ token_behind switches items n tokens token before whole below here behind is =
     sym (ap (tokens_met switches items n before) (drop_more tokens n token below)
     ∙ ap (λ t. tokens_met switches items n before (t ∷ drop (n + 1) tokens)) (sym here) ∙ rw behind refl) ∙ is
 
--- For `take_text`: if the tree that is kept is that of the text, then the way through it is the way through the text.
-pub kept_met : (switches : List Switch) (before after : Way) (text kept : List ℕ) (has : Bool) → has ≡ true → (has ≡ true → kept ≡ text)
-    → after ≡ tree_met switches before (tree_of kept) → after ≡ tree_met switches before (tree_of text)
-kept_met switches before after text kept has is same takes = takes ∙ ap (λ t. tree_met switches before (tree_of t)) (same is)
+-- the item at a place
+pub got : {A : Type 0} (items : List A) (n : ℕ) (item : A) → n < length items → item ≡ get_or items n item → slice_get items n ≡ Some item
+got items n item below here = slice_get-get_or items n item below ∙ ap Some (sym here)
 
--- For `take_text`: if the text has no tree, then it has no tokens.
-pub none_met : (switches : List Switch) (before : Way) (text : List ℕ) (has : Bool) → has ≡ false → (has ≡ false → tree_of text ≡ none)
-    → before ≡ tree_met switches before (tree_of text)
-none_met switches before text has is lacks = sym (ap (tree_met switches before) (lacks is))
+-- the takers of a part with an outer one
+pub taken_at : (switches : List Switch) (parts : List MarkedPart) (outers : List ℕ) (n first : ℕ) (part outer : MarkedPart)
+    → slice_get parts n ≡ Some part → slice_get outers n ≡ Some first → slice_get parts first ≡ Some outer
+    → takers_at switches parts outers n ≡ takers_in switches part outer
+taken_at switches parts outers n first part outer here leads there =
+    ap (λ p. both_takers switches p (part_at parts (slice_get outers n))) here
+    ∙ ap (λ o. both_takers switches (Some part) (part_at parts o)) leads
+    ∙ ap (both_takers switches (Some part)) there
+
+-- For `go_to_number`: if the tree is that of the part's outer one, then the takers on the way through it are those of the part.
+pub number_taken : (switches : List Switch) (parts : List MarkedPart) (outers : List ℕ) (n first : ℕ) (part outer : MarkedPart)
+    (tree : List ℕ) (takers : List Taker) → slice_get parts n ≡ Some part → slice_get outers n ≡ Some first
+    → slice_get parts first ≡ Some outer → tree ≡ outer.written
+    → takers
+    ≡ (tree_met switches (way_from 0 [] (part.at - outer.at) (part.at - outer.at + length part.written)) (tree_of tree)).takers
+    → takers ≡ takers_at switches parts outers n
+number_taken switches parts outers n first part outer tree takers here leads there same is =
+    is
+    ∙ ap (λ t. (tree_met switches (way_in part outer) (tree_of t)).takers) same
+    ∙ sym (taken_at switches parts outers n first part outer here leads there)
+
+-- For `go_to_number`: if the text of the outer one has no tree, then the part has no takers.
+pub none_taken : (switches : List Switch) (parts : List MarkedPart) (outers : List ℕ) (n first : ℕ) (part outer : MarkedPart)
+    (takers : List Taker) → slice_get parts n ≡ Some part → slice_get outers n ≡ Some first → slice_get parts first ≡ Some outer
+    → tree_of outer.written ≡ none → takers ≡ [] → takers ≡ takers_at switches parts outers n
+none_taken switches parts outers n first part outer takers here leads there lacks is =
+    is
+    ∙ sym (taken_at switches parts outers n first part outer here leads there
+    ∙ ap (λ t. (tree_met switches (way_in part outer) t).takers) lacks)
 
 -- For `add_all_taken`: if the names so far with what the takers left take are all, then they still are after one taker more.
 pub taker_next : (case : Case) (n : ℕ) (takers : List Taker) (taker : Taker) (before after whole : List (List ℕ)) → n < length takers

@@ -15,7 +15,7 @@ use crate::alike::{places_alike, renew_places};
 use crate::cancelling::Cancellers;
 use crate::fates_json::fates_json;
 use crate::line_places::{LinePlace, PlacedText, column_of, empty_text, move_to};
-use crate::matching::{is_broad, is_named};
+use crate::matching::is_named;
 use crate::report::Report;
 use crate::taking::option_of;
 use drv_args::Switch;
@@ -48,7 +48,7 @@ fn takes(naming: &Naming, live: bool) -> bool
 {
     match naming.deed {
         Deed::Hides => true,
-        Deed::Passes | Deed::Tests => is_broad(&pattern_of(naming)) || live,
+        Deed::Passes | Deed::Tests => pattern_of(naming).is_broad() || live,
     }
 }
 
@@ -74,9 +74,9 @@ fn push_source(text: &mut Vec<u8>, source: &Source, place: &LinePlace) -> Result
 {
     text.extend_from_slice(b" at ")?;
     text.extend_from_slice(source.name.as_bytes())?;
-    text.extend_from_slice(b":")?;
+    text.push(b':')?;
     push_number(text, place.line)?;
-    text.extend_from_slice(b":")?;
+    text.push(b':')?;
     push_number(text, column_of(source.text.as_bytes(), place))
 }
 

@@ -7,6 +7,7 @@ mod cancelling;
 mod causes;
 mod fates;
 mod fates_json;
+mod halts;
 mod laws;
 mod leaving_out;
 mod line_places;

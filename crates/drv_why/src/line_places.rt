@@ -2,10 +2,10 @@
 
 ghost use Rattle.drv_place.specs.LinePlaces.{line_before, line_number};
 ghost use Rattle.drv_why.specs.Code.LinePlaces.{IsKept, IsPlaced};
-ghost use Rattle.std.specs.Prelude.{◌≡◌, ◌≤◌, ◌+◌, [], IsTrue, drop, length, take};
+ghost use Rattle.std.specs.Prelude.{◌≡◌, ◌≤◌, ◌+◌, [], IsTrue, length, take};
 
 use drv_check::Source;
-use drv_place::{line_before, line_number};
+use drv_place::{after_first, first_of, line_before, line_number};
 use std::alloc::Global;
 
 /// The last place that was looked for.
@@ -21,7 +21,7 @@ pub(crate) struct LinePlace {
     pub(crate) column: usize,
 }
 
-/// A text that says places, and the last one that it says.
+/// A text with places in files, and the last of these.
 #[derive(Drop)]
 pub(crate) struct PlacedText {
     /// Its bytes.
@@ -30,26 +30,11 @@ pub(crate) struct PlacedText {
     pub(crate) last: LinePlace,
 }
 
-/// A text after its first bytes.
-fn back(text: &[u8], count: usize) -> &[u8]
-    ensures { result.now ≡ drop count text.now }
-{
-    if count <= text.len() {
-        &text[count..]
-    } else {
-        &[]
-    }
-}
-
 /// How many of the first bytes of a text there are.
 fn first_count(text: &[u8], count: usize) -> usize
     ensures { result ≡ length (take count text.now) }
 {
-    if count <= text.len() {
-        count
-    } else {
-        text.len()
-    }
+    first_of(text, count).len()
 }
 
 /// The start of a file.
@@ -87,7 +72,7 @@ fn advance(place: &mut LinePlace, text: &[u8], at: usize)
     ensures at { place.new.at ≡ at }
     ensures source { place.new.source ≡ place.old.source }
 {
-    let rest = back(text, place.at);
+    let rest = after_first(text, place.at);
     let gap = at - place.at;
     let lines = line_number(rest, gap);
     if lines == 1 {

@@ -1,6 +1,6 @@
 //! Which switches a pattern names.
 
-ghost use Rattle.drv_match.specs.Matching.{is_broad, is_named};
+ghost use Rattle.drv_match.specs.Matching.{is_named};
 ghost use Rattle.drv_why.specs.Code.Beginning.{begin_alike};
 ghost use Rattle.std.specs.Prelude.{◌≡◌};
 
@@ -32,16 +32,5 @@ pub(crate) fn is_named(pattern: &Pattern<'_>, name: &[u8]) -> bool
     if pattern.star && pattern.name.len() == 1 && !name.is_empty() {
         return true;
     }
-    if pattern.star {
-        name.starts_with(pattern.name)
-    } else {
-        name == pattern.name
-    }
-}
-
-/// Whether a pattern also hits cancelled switches.
-pub(crate) fn is_broad(pattern: &Pattern<'_>) -> bool
-    ensures { result ≡ is_broad pattern.now }
-{
-    pattern.star && pattern.name.len() <= 1
+    pattern.is_named(name)
 }

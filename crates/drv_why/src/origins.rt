@@ -26,9 +26,6 @@ use std::slice::from_ref;
 /// The most bytes of a part that are shown.
 const MOST_SHOWN: usize = 40;
 
-/// The bytes that what a word is for mostly takes, with what precedes its parts.
-const CAUSE_ROOM: usize = 40;
-
 /// A line and its plan, and what the marks of the marked plan lead to.
 #[derive(Drop)]
 pub struct Marking<'a> {
@@ -262,19 +259,16 @@ struct Ending<'a> {
     text: Vec<u8>,
 }
 
-/// What follows a word with parts of this text that is for these.
-fn ending_with(alloc: Global, parts: &[u8], causes: &[Word]) -> Result<Vec<u8>, AllocError>
-    ensures { IfOk result
-        (λ text. text.items ≡ codes " by " ++ parts.now ++ causes_text causes.now ++ newline ∷ []) }
+/// Adds what follows a word with parts of this text that is for these.
+fn push_ending(text: &mut Vec<u8>, parts: &[u8], causes: &[Word]) -> Result<(), AllocError>
+    ensures { OnOk result (text.new.items
+        ≡ text.old.items ++ codes " by " ++ parts.now ++ causes_text causes.now ++ newline ∷ []) }
 {
-    // One allocation serves most endings; a word that grows by pieces makes several.
-    let room = parts.len().saturating_add(CAUSE_ROOM);
-    let mut text = Vec::with_capacity(alloc, room)?;
     text.extend_from_slice(b" by ")?;
     text.extend_from_slice(parts)?;
-    push_causes(&mut text, causes)?;
+    push_causes(text, causes)?;
     text.push(b'\n')?;
-    Ok(text)
+    Ok(())
 }
 
 /// Whether this follows a word.
@@ -288,7 +282,6 @@ fn is_ending(ending: &Ending<'_>, trace: &Trace) -> bool
 /// What follows a word. What followed the last one is kept if it is the same, and else the text of
 /// its parts if these are.
 fn renew_ending<'a>(
-    alloc: Global,
     ending: &mut Ending<'a>,
     marking: &Marking<'_>,
     trace: &'a Trace,
@@ -309,7 +302,12 @@ fn renew_ending<'a>(
     if !is_ending(ending, trace) {
         renew_parts(&mut ending.parts, marking, trace)?;
         ending.causes = trace.causes.as_slice();
-        ending.text = ending_with(alloc, ending.parts.text.bytes.as_slice(), ending.causes)?;
+        ending.text.clear();
+        push_ending(
+            &mut ending.text,
+            ending.parts.text.bytes.as_slice(),
+            ending.causes,
+        )?;
     }
     Ok(())
 }
@@ -335,14 +333,15 @@ fn push_all_traces(
         ++ flat_map (trace_text marking.now.sources marking.now.parts) traces.now) }
 {
     let parts = parts_of_text(alloc, marking, &[])?;
-    let first = ending_with(alloc, parts.text.bytes.as_slice(), &[])?;
+    let mut first = Vec::new(alloc);
+    push_ending(&mut first, parts.text.bytes.as_slice(), &[])?;
     let mut ending = Ending {
         parts,
         causes: &[],
         text: first,
     };
     for trace in traces {
-        renew_ending(alloc, &mut ending, marking, trace)?;
+        renew_ending(&mut ending, marking, trace)?;
         push_trace(text, &trace.word, ending.text.as_slice())?;
     }
     Ok(())

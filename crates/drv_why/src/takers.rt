@@ -3,17 +3,14 @@
 ghost use Rattle.drv_syntax.specs.Labels.{label_at};
 ghost use Rattle.drv_syntax.specs.Parsed.{tree_of};
 ghost use Rattle.drv_syntax.specs.Tokens.{tokens_of};
-ghost use Rattle.drv_syntax.specs.Tree.{none};
-ghost use Rattle.drv_why.specs.Code.Takers.{asked_options, met_by, takers_in, taker_met, test_met, token_met};
-ghost use Rattle.drv_why.specs.Code.Takers.{tree_met, way_in, with_taker};
+ghost use Rattle.drv_why.specs.Code.Takers.{asked_options, met_by, taker_met, test_met, token_met, tokens_met, with_taker};
 ghost use Rattle.drv_why.specs.declared.takers.Taker.TheVariants.{Repeats};
-ghost use Rattle.std.specs.Prelude.{◌≡◌, ◌<◌, IfOk, OnOk, false, length, true};
+ghost use Rattle.std.specs.Prelude.{◌≡◌, ◌<◌, IfOk, OnOk, drop, length};
 
 use crate::cancelling::Cancellers;
 use crate::causes::{asked_options, is_true};
-use crate::walking::{Walk, after_token, gives, gone_by, is_before, is_behind, is_passed, reach};
-use drv_check::MarkedPart;
-use drv_syntax::{Leaf, SpecTree, SyntaxFault, TestKind, Token, TokenKind, parse};
+use crate::walking::{Walk, after_token, gives, is_behind, is_passed, reach};
+use drv_syntax::{Leaf, SpecTree, TestKind, Token, TokenKind};
 use drv_words::{Listing, Word};
 use std::alloc::{AllocError, Global};
 
@@ -30,41 +27,22 @@ pub(crate) enum Taker {
 
 /// The way to a part, as far as the tokens of a text were read.
 #[derive(Drop)]
-struct Way {
+pub(crate) struct Way {
     /// The way.
-    walk: Walk,
+    pub(crate) walk: Walk,
     /// The takers on it so far.
-    takers: Listing<Taker>,
+    pub(crate) takers: Listing<Taker>,
 }
 
 /// A token of a tree.
 #[derive(Drop)]
-struct Met<'a> {
+pub(crate) struct Met<'a> {
     /// The tree.
-    tree: &'a SpecTree,
+    pub(crate) tree: &'a SpecTree,
     /// The token's place among those of the tree.
-    place: usize,
+    pub(crate) place: usize,
     /// The token.
-    token: Token,
-}
-
-/// Keeps the tree of a text, unless that has none. A text that is kept isn't read again.
-#[tactic(auto, using(crate::proofs::LineCauses::no_tree, crate::proofs::LineCauses::same_text))]
-fn keep(alloc: Global, kept: &mut SpecTree, text: &[u8]) -> Result<bool, AllocError>
-    ensures kept { IfOk result (λ has. has ≡ true → kept.new ≡ text.now) }
-    ensures none { IfOk result (λ has. has ≡ false → tree_of text.now ≡ none) }
-{
-    if kept.text() == text {
-        return Ok(true);
-    }
-    match parse(alloc, text) {
-        Ok(tree) => {
-            *kept = tree;
-            Ok(true)
-        }
-        Err(SyntaxFault::Memory) => Err(AllocError),
-        Err(_) => Ok(false),
-    }
+    pub(crate) token: Token,
 }
 
 /// The pattern at this place as a taker.
@@ -80,22 +58,8 @@ fn repeats_at(alloc: Global, tree: &SpecTree, place: usize) -> Result<Taker, All
 }
 
 impl Way {
-    /// The way to a part in its outermost one, before the first token.
-    fn new(alloc: Global, part: &MarkedPart, outer: &MarkedPart) -> Result<Way, AllocError>
-        ensures { IfOk result (λ way. way ≡ way_in part.now outer.now) }
-    {
-        let at = part.at.saturating_sub(outer.at);
-        let Some(last) = at.checked_add(part.written.len()) else {
-            return Err(AllocError);
-        };
-        Ok(Way {
-            walk: Walk::new(at, last),
-            takers: Listing::new(alloc),
-        })
-    }
-
     /// Adds a taker, if the words are for what it takes.
-    fn add_taker(&mut self, is_given: bool, taker: Taker) -> Result<(), AllocError>
+    pub(crate) fn add_taker(&mut self, is_given: bool, taker: Taker) -> Result<(), AllocError>
         ensures { OnOk result (self.new ≡ record (self.old) {
           takers = with_taker is_given self.old.takers taker;
         }) }
@@ -166,7 +130,6 @@ impl Way {
     }
 
     /// Takes one more token.
-    #[tactic(auto, using(crate::proofs::Passing::before_met))]
     fn take_token(
         &mut self,
         alloc: Global,
@@ -178,11 +141,6 @@ impl Way {
             ≡ token_met switches.now met.now.token
             (label_at (tree_of met.now.tree.now) met.now.place) self.old) }
     {
-        // In a long text most tokens end before the part.
-        if is_before(self.walk, met.token) {
-            self.walk = gone_by(self.walk, met.token);
-            return Ok(());
-        }
         self.walk = reach(self.walk, met.token);
         if is_passed(self.walk, met.token) {
             return Ok(());
@@ -190,18 +148,21 @@ impl Way {
         self.take_met(alloc, switches, met)
     }
 
-    /// Takes the tokens of a tree.
+    /// Takes the tokens of a tree from a place on.
     #[tactic(auto, using(crate::proofs::PartTakers::token_next, crate::proofs::PartTakers::token_behind))]
-    fn take_tree(
+    pub(crate) fn take_from(
         &mut self,
         alloc: Global,
         switches: &Cancellers<'_>,
         tree: &SpecTree,
+        first: usize,
     ) -> Result<(), AllocError>
-        ensures { OnOk result (self.new ≡ tree_met switches.now self.old (tree_of tree.now)) }
+        ensures { OnOk result (self.new
+            ≡ tokens_met switches.now (tree_of tree.now) first self.old
+            (drop first (tokens_of (tree_of tree.now)))) }
     {
         let tokens = tree.tokens();
-        let mut place = 0;
+        let mut place = first;
         while place < tokens.len() {
             let token = tokens[place];
             if is_behind(self.walk, token) {
@@ -212,36 +173,4 @@ impl Way {
         }
         Ok(())
     }
-
-    /// Takes a text. Its tree is kept for the next one.
-    #[tactic(auto, using(crate::proofs::PartTakers::kept_met, crate::proofs::PartTakers::none_met))]
-    fn take_text(
-        &mut self,
-        alloc: Global,
-        kept: &mut SpecTree,
-        switches: &Cancellers<'_>,
-        text: &[u8],
-    ) -> Result<(), AllocError>
-        ensures { OnOk result (self.new ≡ tree_met switches.now self.old (tree_of text.now)) }
-    {
-        if keep(alloc, kept, text)? {
-            self.take_tree(alloc, switches, kept)?;
-        }
-        Ok(())
-    }
-}
-
-/// The takers of a part in its outermost one. The tree of that is kept for the next part.
-pub(crate) fn takers_in(
-    alloc: Global,
-    kept: &mut SpecTree,
-    switches: &Cancellers<'_>,
-    part: &MarkedPart,
-    outer: &MarkedPart,
-) -> Result<Listing<Taker>, AllocError>
-    ensures { IfOk result (λ takers. takers ≡ takers_in switches.now part.now outer.now) }
-{
-    let mut way = Way::new(alloc, part, outer)?;
-    way.take_text(alloc, kept, switches, outer.written.as_bytes())?;
-    Ok(way.takers)
 }

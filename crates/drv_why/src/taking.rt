@@ -11,7 +11,7 @@ ghost use Rattle.std.specs.Prelude.{◌≡◌, ◌∷◌, ◌<◌, IfOk, OnOk, l
 
 use crate::cancelling::Cancellers;
 use crate::fates::is_live;
-use crate::matching::{is_broad, is_named};
+use crate::matching::is_named;
 use drv_args::Switch;
 use drv_match::Pattern;
 use drv_words::{Listing, Word};
@@ -88,7 +88,7 @@ pub(crate) fn is_this(word: &[u8], other: &Option<Word>) -> bool
 pub(crate) fn is_hit(pattern: &Pattern<'_>, by: Option<&Word>) -> bool
     ensures { result ≡ is_hit_by pattern.now (option_map (λ word. word.now) by.entry) }
 {
-    is_broad(pattern) || is_live(by)
+    pattern.is_broad() || is_live(by)
 }
 
 /// Whether a pattern takes the switch at a place.

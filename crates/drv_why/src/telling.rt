@@ -1,64 +1,93 @@
 //! What a word of a command is for, by the takers of its parts.
 
+ghost use Rattle.drv_args.specs.declared.line.Switch.{Switch};
+ghost use Rattle.drv_check.specs.declared.marking.MarkedPart.{MarkedPart};
 ghost use Rattle.drv_why.specs.Causes.{causes_of};
+ghost use Rattle.drv_why.specs.Code.Halts.{IsOn};
+ghost use Rattle.drv_why.specs.Code.PlainParts.{is_literal, is_plain};
 ghost use Rattle.drv_why.specs.Code.Takers.{all_taken, last_takers, taker_takes, takers_at};
 ghost use Rattle.drv_why.specs.Taken.{with_names};
-ghost use Rattle.std.specs.Prelude.{◌≡◌, [], IfOk, IsTrue, None, OnOk, Some};
+ghost use Rattle.std.specs.Prelude.{◌≡◌, [], IfOk, IsTrue, List, None, OnOk, Some};
 
 use crate::causes::{Case, leaf_takes};
+use crate::halts::Trail;
 use crate::repeating::add_repeated;
-use crate::takers::{Taker, takers_in};
+use crate::takers::Taker;
 use crate::taking::add_names;
 use drv_match::Pattern;
-use drv_syntax::SpecTree;
 use drv_words::{Listing, Word};
 use std::alloc::{AllocError, Global};
 
 /// What is kept of the last part, since the next word is often of the same one.
 #[derive(Drop)]
 pub(crate) struct Kept {
-    /// The tree of the last text.
-    tree: SpecTree,
-    /// The number of the last part.
+    /// The way to the last part, with its takers.
+    trail: Trail,
+    /// The number of that part.
     number: Option<usize>,
-    /// The takers of that part.
-    takers: Listing<Taker>,
     /// The place of the last switch that a word repeated.
     near: usize,
 }
 
-/// The takers of the part with this number. The tree of its outermost part is kept.
-fn takers_at(
+/// Whether a byte begins no directive.
+fn is_literal(byte: u8) -> bool
+    ensures { result ≡ is_literal byte }
+{
+    byte != b'%'
+}
+
+/// Whether a text has no directive.
+fn is_plain(text: &[u8]) -> bool
+    ensures { result ≡ is_plain text.now }
+{
+    text.iter().all(|byte| is_literal(*byte))
+}
+
+/// Goes on to the part with this number. Most outer parts are words, which need no tree.
+#[tactic(auto, using(crate::proofs::PartTakers::number_taken, crate::proofs::PartTakers::none_taken, crate::proofs::PlainParts::plain_taken))]
+fn go_to_number(
     alloc: Global,
-    kept: &mut SpecTree,
+    trail: &mut Trail,
     case: &Case<'_>,
     number: usize,
-) -> Result<Listing<Taker>, AllocError>
-    ensures { IfOk result (λ takers. takers
+) -> Result<(), AllocError>
+    requires { IsOn case.now.line.switches case.now.parts trail.old }
+    ensures on { OnOk result (IsOn case.now.line.switches case.now.parts trail.new) }
+    ensures takers { OnOk result (trail.new.course.way.takers
         ≡ takers_at case.now.line.switches case.now.parts case.now.outers number) }
 {
     let Some(part) = case.parts.get(number) else {
-        return Ok(Listing::new(alloc));
+        trail.clear(alloc);
+        return Ok(());
     };
-    let Some(outer) = case.outers.get(number) else {
-        return Ok(Listing::new(alloc));
+    let Some(first) = case.outers.get(number) else {
+        trail.clear(alloc);
+        return Ok(());
     };
-    let Some(outer) = case.parts.get(*outer) else {
-        return Ok(Listing::new(alloc));
+    let Some(outer) = case.parts.get(*first) else {
+        trail.clear(alloc);
+        return Ok(());
     };
-    takers_in(alloc, kept, case.switches, part, outer)
+    if is_plain(outer.written.as_bytes()) {
+        trail.clear(alloc);
+        return Ok(());
+    }
+    if trail.take_up(alloc, *first, outer)? {
+        trail.go_to(alloc, case.switches, part, outer.at)?;
+    }
+    Ok(())
 }
 
 impl Kept {
     /// Before the first word.
     pub(crate) fn new(alloc: Global) -> Kept
         ensures number { result.number ≡ None }
-        ensures takers { result.takers ≡ [] }
+        ensures takers { result.trail.course.way.takers ≡ [] }
+        ensures on { (switches : List Switch) (parts : List MarkedPart) → IsOn switches parts result.trail }
     {
         Kept {
-            tree: SpecTree::empty(alloc),
+            trail: Trail::new(alloc),
             number: None,
-            takers: Listing::new(alloc),
             near: 0,
         }
     }
@@ -75,15 +104,17 @@ impl Kept {
 
     /// Takes the part with this number for the last one.
     fn renew(&mut self, alloc: Global, case: &Case<'_>, number: usize) -> Result<(), AllocError>
-        requires { self.old.takers
+        requires kept { self.old.trail.course.way.takers
             ≡ last_takers case.now.line.switches case.now.parts case.now.outers self.old.number }
-        ensures kept { OnOk result (self.new.takers
+        requires on { IsOn case.now.line.switches case.now.parts self.old.trail }
+        ensures kept { OnOk result (self.new.trail.course.way.takers
             ≡ last_takers case.now.line.switches case.now.parts case.now.outers self.new.number) }
-        ensures of { OnOk result (self.new.takers
+        ensures on { OnOk result (IsOn case.now.line.switches case.now.parts self.new.trail) }
+        ensures of { OnOk result (self.new.trail.course.way.takers
             ≡ takers_at case.now.line.switches case.now.parts case.now.outers number) }
     {
         if !self.is_of(number) {
-            self.takers = takers_at(alloc, &mut self.tree, case, number)?;
+            go_to_number(alloc, &mut self.trail, case, number)?;
             self.number = Some(number);
         }
         Ok(())
@@ -139,22 +170,18 @@ pub(crate) fn causes_of(
     case: &Case<'_>,
     numbers: &[usize],
 ) -> Result<Listing<Word>, AllocError>
-    requires { kept.old.takers
+    requires kept { kept.old.trail.course.way.takers
         ≡ last_takers case.now.line.switches case.now.parts case.now.outers kept.old.number }
-    ensures kept { OnOk result (kept.new.takers
+    requires on { IsOn case.now.line.switches case.now.parts kept.old.trail }
+    ensures kept { OnOk result (kept.new.trail.course.way.takers
         ≡ last_takers case.now.line.switches case.now.parts case.now.outers kept.new.number) }
+    ensures on { OnOk result (IsOn case.now.line.switches case.now.parts kept.new.trail) }
     ensures causes { IfOk result (λ names. names ≡ causes_of case.now numbers.now) }
 {
     let mut names = Listing::new(alloc);
     for number in numbers {
         kept.renew(alloc, case, *number)?;
-        add_all_taken(
-            alloc,
-            case,
-            &mut names,
-            &mut kept.near,
-            kept.takers.as_slice(),
-        )?;
+        add_all_taken(alloc, case, &mut names, &mut kept.near, kept.trail.takers())?;
     }
     Ok(names)
 }

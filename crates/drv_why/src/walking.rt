@@ -1,6 +1,5 @@
 //! The way through the tokens of a text to the words that a part of it gives.
 
-ghost use Rattle.drv_why.specs.Code.Before.{gone_by, is_around, is_asked, is_before};
 ghost use Rattle.drv_why.specs.Walks.{after_test, after_token, around, at_item, behind, behind_by, blank_by, end_way, gives, inside};
 ghost use Rattle.drv_why.specs.Walks.{is_passed, is_run, last_by, opened_by, past, reach, runs, tested_by, untold_by, way_to};
 ghost use Rattle.std.specs.Prelude.{◌≡◌, nat_le};
@@ -38,13 +37,13 @@ pub(crate) struct Walk {
 }
 
 impl Walk {
-    /// The way to a part from one place up to another.
-    pub(crate) fn new(at: usize, last: usize) -> Walk
-        ensures { result ≡ way_to at last }
+    /// The way to a part from one place up to another, behind the tokens before a byte.
+    pub(crate) fn new(from: usize, at: usize, last: usize) -> Walk
+        ensures { result ≡ record (way_to at last) { from = from } }
     {
         Walk {
             waypoint: Waypoint::Around,
-            from: 0,
+            from,
             to: at,
             end: 0,
             last,
@@ -84,43 +83,6 @@ pub(crate) fn is_passed(walk: Walk, token: Token) -> bool
     ensures { result ≡ is_passed walk token }
 {
     (token.start as usize) < walk.from || walk.to <= token.start as usize
-}
-
-/// Whether the way is among the alternatives around the part.
-fn is_around(waypoint: Waypoint) -> bool
-    ensures { result ≡ is_around waypoint }
-{
-    matches!(waypoint, Waypoint::Around)
-}
-
-/// Whether something is asked of a token around the part: it is a test or a pattern.
-fn is_asked(kind: TokenKind) -> bool
-    ensures { result ≡ is_asked kind }
-{
-    matches!(kind, TokenKind::Test | TokenKind::Pattern)
-}
-
-/// Whether a token ends before the part, and nothing is asked of it.
-pub(crate) fn is_before(walk: Walk, token: Token) -> bool
-    ensures { result ≡ is_before walk token }
-{
-    is_around(walk.waypoint)
-        && !is_asked(token.kind)
-        && (token.start as usize) < walk.to
-        && token.end as usize <= walk.to
-}
-
-/// The way behind such a token.
-pub(crate) fn gone_by(walk: Walk, token: Token) -> Walk
-    ensures { result ≡ gone_by walk token }
-{
-    if is_passed(walk, token) {
-        return walk;
-    }
-    Walk {
-        from: token.end as usize,
-        ..walk
-    }
 }
 
 /// The way around the part, behind what ends before it.
