@@ -13,14 +13,14 @@ use Rattle.drv_why.specs.declared.outers.Outer.{Outer}
 use Rattle.drv_why.specs.declared.traces.Trace.{Trace}
 use Rattle.drv_words.specs.declared.plan.Command.{Command}
 use Rattle.drv_words.specs.declared.plan.Job.{Job}
-use Rattle.std.proofs.Common.{◌≡◌, ◌∙◌, ◌<◌, ◌≤◌, ◌+◌, ◌-◌, ◌∷◌, ◌++◌, List, None, Option, Some, [], ap, append_assoc}
-use Rattle.std.proofs.Common.{arith, drop, false, length, refl, set, sym, take, true, ℕ}
+use Rattle.std.proofs.Common.{◌≡◌, ◌∙◌, ◌<◌, ◌≤◌, ◌+◌, ◌-◌, ◌∷◌, ◌++◌, Bool, List, None, Option, Some, [], ap, append_assoc}
+use Rattle.std.proofs.Common.{arith, drop, false, length, refl, set, suc, sym, take, true, zero, ℕ}
 use Rattle.std.proofs.lemmas.Bool.Decides.{Decides-eqb, nat_tests}
 use Rattle.std.proofs.lemmas.List.{drop-set-lt, drop_all, drop_more, get_or_default, take_more_set}
 use Rattle.std.proofs.lemmas.Slice.Eq.{slice_eq-Decides}
 use Rattle.std.specs.Cmp.Lexicographic.{pointwise}
 use Rattle.std.specs.Option.{option_to_list}
-use Rattle.std.specs.Prelude.{get_or, if◌then◌else◌, nat_eq, nat_lt, suc}
+use Rattle.std.specs.Prelude.{get_or, if◌then◌else◌, nat_eq, nat_lt}
 
 -- For origins_report (src/causes.rt, src/taking.rt): what the words of a command are for, token by token and part by part.
 -- Names: `n` is a place in a list, and the item there has the list's name in the singular: `job` of `jobs`, `token` of `tokens`. `before`
@@ -134,14 +134,18 @@ pub no_maker : (n : ℕ) (inputs : List Input) (jobs : List Job) (word : List �
     → makers inputs (drop n jobs) word ≡ whole → [] ≡ whole
 no_maker n inputs jobs word whole past is = sym (ap (λ js. makers inputs js word) (drop_all n jobs past)) ∙ is
 
--- the next input is this word
-pub input_met : (n : ℕ) (inputs : List Input) (input : Input) (word : List ℕ) (names whole : List (List ℕ)) → n < length inputs
-    → input ≡ get_or inputs n input → pointwise nat_eq (input_word input) word ≡ true → names ≡ word ∷ []
-    → word_of_input (drop n inputs) word ≡ whole → names ≡ whole
-input_met n inputs input word names whole below here same has is =
-    has
-    ∙ sym (ap (λ is. word_of_input is word) (drop_more inputs n input below)
-    ∙ ap (λ i. word_of_input (i ∷ drop (n + 1) inputs) word) (sym here) ∙ rw same refl) ∙ is
+-- an input is this word
+pub input_met : (n : ℕ) (inputs : List Input) (input : Input) (word : List ℕ) → n < length inputs → input ≡ get_or inputs n input
+    → pointwise nat_eq (input_word input) word ≡ true → word_of_input inputs word ≡ word ∷ []
+input_met n [] input word below here same = absurd (omega (arith, below))
+input_met zero (first ∷ inputs) input word below here same =
+    ap (λ t. if t then word ∷ [] else word_of_input inputs word) (ap (λ i. pointwise nat_eq (input_word i) word) (sym here) ∙ same)
+input_met (suc n) (first ∷ inputs) input word below here same =
+    by (pointwise nat_eq (input_word first) word) (input_met n inputs input word (omega (arith, below)) here same)
+  where
+    by : (t : Bool) → word_of_input inputs word ≡ word ∷ [] → (if t then word ∷ [] else word_of_input inputs word) ≡ word ∷ []
+    by true is = refl
+    by false is = is
 
 -- it is another word
 pub input_passed : (n : ℕ) (inputs : List Input) (input : Input) (word : List ℕ) (whole : List (List ℕ)) → n < length inputs
@@ -153,8 +157,8 @@ input_passed n inputs input word whole below here other is =
 
 -- no input is this word
 pub no_input : (n : ℕ) (inputs : List Input) (word : List ℕ) (whole : List (List ℕ)) → length inputs ≤ n
-    → word_of_input (drop n inputs) word ≡ whole → [] ≡ whole
-no_input n inputs word whole past is = sym (ap (λ is. word_of_input is word) (drop_all n inputs past)) ∙ is
+    → word_of_input (drop n inputs) word ≡ whole → whole ≡ []
+no_input n inputs word whole past is = sym is ∙ ap (λ is. word_of_input is word) (drop_all n inputs past)
 
 -- texts and parts
 

@@ -7,7 +7,7 @@ ghost use Rattle.drv_why.specs.Causes.{behind_groups, input_at, input_word, is_t
 ghost use Rattle.drv_why.specs.Causes.{source_of, word_of_input};
 ghost use Rattle.drv_why.specs.Code.Takers.{asked_options};
 ghost use Rattle.std.specs.Option.{option_map, option_to_list};
-ghost use Rattle.std.specs.Prelude.{◌≡◌, ◌∷◌, ◌<◌, [], IfOk, length};
+ghost use Rattle.std.specs.Prelude.{◌≡◌, ◌∷◌, ◌<◌, [], IfOk, MatchOption, drop, length};
 
 use crate::cancelling::Cancellers;
 use crate::taking::{is_this, taken_options};
@@ -153,26 +153,63 @@ fn makers(
     Ok(Listing::new(alloc))
 }
 
-/// A word, if an input is the same.
+/// The place of the first input from a place on that is this word, if there is one.
 #[tactic(auto, using(crate::proofs::LineCauses::input_met, crate::proofs::LineCauses::input_passed, crate::proofs::LineCauses::no_input))]
-fn word_of_input(alloc: Global, inputs: &[Input], word: &[u8]) -> Result<Listing<Word>, AllocError>
+fn find_input(inputs: &[Input], from: usize, word: &[u8]) -> Option<usize>
+    ensures { MatchOption result
+        (word_of_input (drop from inputs.now) word.now ≡ [])
+        (λ place. word_of_input inputs.now word.now ≡ word.now ∷ []) }
+{
+    let mut place = from;
+    while place < inputs.len() {
+        if input_word(&inputs[place]).as_bytes() == word {
+            return Some(place);
+        }
+        place += 1;
+    }
+    None
+}
+
+/// The place of an input that is this word, if there is one. A command has the inputs in the order of
+/// the line, so that it is most often right behind the last one.
+fn find_near(inputs: &[Input], near: usize, word: &[u8]) -> Option<usize>
+    ensures { MatchOption result
+        (word_of_input inputs.now word.now ≡ [])
+        (λ place. word_of_input inputs.now word.now ≡ word.now ∷ []) }
+{
+    match find_input(inputs, near, word) {
+        Some(place) => Some(place),
+        None => find_input(inputs, 0, word),
+    }
+}
+
+/// A word, if an input is the same. What follows that input is near for the next word.
+fn word_of_input(
+    alloc: Global,
+    inputs: &[Input],
+    near: &mut usize,
+    word: &[u8],
+) -> Result<Listing<Word>, AllocError>
     ensures { IfOk result (λ names. names ≡ word_of_input inputs.now word.now) }
 {
-    for input in inputs {
-        if input_word(input).as_bytes() == word {
-            return only(alloc, word);
-        }
-    }
-    Ok(Listing::new(alloc))
+    let Some(place) = find_near(inputs, *near, word) else {
+        return Ok(Listing::new(alloc));
+    };
+    *near = place.saturating_add(1);
+    only(alloc, word)
 }
 
 /// What a word of `%o` takes.
-fn output_takes(alloc: Global, case: &Case<'_>) -> Result<Listing<Word>, AllocError>
+fn output_takes(
+    alloc: Global,
+    case: &Case<'_>,
+    near: &mut usize,
+) -> Result<Listing<Word>, AllocError>
     ensures { IfOk result (λ names. names ≡ output_takes case.now) }
 {
     let names = makers(alloc, case.line.inputs.as_slice(), case.jobs, case.word)?;
     if names.as_slice().is_empty() {
-        return word_of_input(alloc, case.line.inputs.as_slice(), case.word);
+        return word_of_input(alloc, case.line.inputs.as_slice(), near, case.word);
     }
     Ok(names)
 }
@@ -181,13 +218,14 @@ fn output_takes(alloc: Global, case: &Case<'_>) -> Result<Listing<Word>, AllocEr
 pub(crate) fn leaf_takes(
     alloc: Global,
     case: &Case<'_>,
+    near: &mut usize,
     leaf: Leaf,
 ) -> Result<Listing<Word>, AllocError>
     ensures { IfOk result (λ names. names ≡ leaf_takes case.now leaf) }
 {
     match leaf {
         Leaf::InputName | Leaf::BaseStem | Leaf::BaseName => list_of(alloc, case.input),
-        Leaf::Outputs => output_takes(alloc, case),
+        Leaf::Outputs => output_takes(alloc, case, near),
         _ => Ok(Listing::new(alloc)),
     }
 }

@@ -18,6 +18,15 @@ use drv_match::Pattern;
 use drv_words::{Listing, Word};
 use std::alloc::{AllocError, Global};
 
+/// Where the switch and the input mostly are that the next word repeats.
+#[derive(Clone, Copy, Debug)]
+struct Near {
+    /// The place of the last switch that a word repeated.
+    switch: usize,
+    /// The place behind the last input that one repeated.
+    input: usize,
+}
+
 /// What is kept of the last part, since the next word is often of the same one.
 #[derive(Drop)]
 pub(crate) struct Kept {
@@ -25,8 +34,8 @@ pub(crate) struct Kept {
     trail: Trail,
     /// The number of that part.
     number: Option<usize>,
-    /// The place of the last switch that a word repeated.
-    near: usize,
+    /// What is near for the next word.
+    near: Near,
 }
 
 /// Whether a byte begins no directive.
@@ -88,7 +97,10 @@ impl Kept {
         Kept {
             trail: Trail::new(alloc),
             number: None,
-            near: 0,
+            near: Near {
+                switch: 0,
+                input: 0,
+            },
         }
     }
 
@@ -126,7 +138,7 @@ fn add_taken(
     alloc: Global,
     case: &Case<'_>,
     names: &mut Listing<Word>,
-    near: &mut usize,
+    near: &mut Near,
     taker: &Taker,
 ) -> Result<(), AllocError>
     ensures { OnOk result (names.new ≡ with_names names.old (taker_takes case.now taker.now)) }
@@ -138,9 +150,12 @@ fn add_taken(
                 name: name.as_bytes(),
                 star: *star,
             };
-            add_repeated(alloc, case, names, near, &pattern)
+            add_repeated(alloc, case, names, &mut near.switch, &pattern)
         }
-        Taker::Takes(leaf) => add_names(alloc, names, leaf_takes(alloc, case, *leaf)?.as_slice()),
+        Taker::Takes(leaf) => {
+            let taken = leaf_takes(alloc, case, &mut near.input, *leaf)?;
+            add_names(alloc, names, taken.as_slice())
+        }
     }
 }
 
@@ -150,7 +165,7 @@ fn add_all_taken(
     alloc: Global,
     case: &Case<'_>,
     names: &mut Listing<Word>,
-    near: &mut usize,
+    near: &mut Near,
     takers: &[Taker],
 ) -> Result<(), AllocError>
     ensures { OnOk result (names.new ≡ all_taken case.now names.old takers.now) }
