@@ -9,6 +9,8 @@ mod FilesSought
 mod IncludesRead
 mod Inclusions
 mod Judged
+mod KeyEnds
+mod LastEnds
 mod LinesNumbered
 mod LoadedInOrder
 mod Lost
@@ -21,6 +23,7 @@ mod OwnTrees
 mod PieceSteps
 mod PiecesChecked
 mod PiecesRead
+mod PlainRuns
 mod RefusedFirst
 mod Reports
 mod SpotLaws

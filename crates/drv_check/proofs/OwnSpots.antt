@@ -161,3 +161,9 @@ pub text_of_own : (sources : List Source) (pieces : List LoadedPiece) (head text
     → spots ≡ own → spots ≡ text_spots sources pieces head text
 text_of_own sources pieces head text piece spots own alone is same =
     same ∙ is ∙ sym (ap (λ ss. if_agreed sources text (last_spots ss text)) alone)
+
+-- For `spots_of`: the first directives give the spots that all of them do.
+pub text_of_first : (sources : List Source) (first pieces : List LoadedPiece) (head text : List ℕ) (spots : List Spot)
+    → spots_after head (reverse first) ≡ spots_after head (reverse pieces) → spots ≡ text_spots sources first head text
+    → spots ≡ text_spots sources pieces head text
+text_of_first sources first pieces head text spots same is = is ∙ ap (λ ss. if_agreed sources text (last_spots ss text)) same

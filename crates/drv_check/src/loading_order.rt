@@ -9,6 +9,7 @@ ghost use Rattle.std.specs.Prelude.{◌≡◌, ◌++◌, IfOk, OnOk};
 
 use crate::bytes::{blanks_before, following, next_word};
 use crate::findings::{Source, Spot};
+use crate::heads::HeadedPieces;
 use crate::opening::{OpenFile, open_file};
 use crate::own_text::own_start;
 use crate::pieces::Piece;
@@ -214,12 +215,12 @@ fn loaded_pieces(alloc: Global, sources: &[Source]) -> Result<Vec<LoadedPiece>, 
 }
 
 /// The files of a line, read for their directives. Contracts see the files.
-#[derive(Debug, Drop)]
+#[derive(Drop)]
 pub struct LoadedFiles<'a> {
     /// The files.
     sources: &'a [Source],
     /// Their directives, in the order in which they are loaded.
-    pieces: Vec<LoadedPiece>,
+    pieces: HeadedPieces,
 }
 
 impl<'a> Model for LoadedFiles<'a> {
@@ -231,7 +232,7 @@ impl<'a> Model for LoadedFiles<'a> {
 
     ghost view = { λ f. f.sources.now };
 
-    ghost invariant = { λ f. f.pieces.items ≡ loaded_pieces f.sources.now };
+    ghost invariant = { λ f. f.pieces ≡ loaded_pieces f.sources.now };
 }
 
 impl<'a> LoadedFiles<'a> {
@@ -240,6 +241,7 @@ impl<'a> LoadedFiles<'a> {
         ensures { IfOk result (λ files. files ≡ sources.now) }
     {
         let pieces = loaded_pieces(alloc, sources)?;
+        let pieces = HeadedPieces::new(alloc, pieces)?;
         Ok(LoadedFiles { sources, pieces })
     }
 
@@ -251,9 +253,9 @@ impl<'a> LoadedFiles<'a> {
     }
 
     /// Their directives, in the order in which they are loaded.
-    pub(crate) fn pieces(&self) -> &[LoadedPiece]
+    pub(crate) fn pieces(&self) -> &HeadedPieces
         ensures { result.now ≡ loaded_pieces self.now }
     {
-        self.pieces.as_slice()
+        &self.pieces
     }
 }

@@ -12,17 +12,21 @@ use std::alloc::{AllocError, Global};
 /// The byte that a mark begins and ends with.
 const MARK_END: u8 = 1;
 
+/// How much room a mark takes about, in bytes.
+const MARK_ROOM: usize = 6;
+
 /// Adds a mark with this number, and a blank if it is a word of its own.
-fn push_mark(text: &mut Word, joint: Joint, number: usize) -> Result<(), AllocError>
-    ensures { OnOk result (text.new ≡ text.old ++ mark_text joint number) }
+fn push_mark(text: &mut Vec<u8>, joint: Joint, number: usize) -> Result<(), AllocError>
+    ensures { OnOk result (text.new.items ≡ text.old.items ++ mark_text joint number) }
 {
     text.push(MARK_END)?;
     text.extend_from_slice(Buffer::new().format(number).as_bytes())?;
     text.push(MARK_END)?;
     match joint {
-        Joint::Apart => text.push(b' '),
-        Joint::Joined => Ok(()),
+        Joint::Apart => text.push(b' ')?,
+        Joint::Joined => {}
     }
+    Ok(())
 }
 
 /// The first bytes of a text.
@@ -36,7 +40,8 @@ fn first_bytes(text: &[u8], count: usize) -> &[u8]
 pub fn marked_text(alloc: Global, dump: &[u8], parts: &[MarkedPart]) -> Result<Word, AllocError>
     ensures { IfOk result (λ text. text ≡ marked_text dump.now parts.now) }
 {
-    let mut text = Word::empty(alloc);
+    let marks = parts.len().saturating_mul(MARK_ROOM);
+    let mut text = Vec::with_capacity(alloc, dump.len().saturating_add(marks))?;
     let mut at = 0;
     let mut left = dump;
     let mut number = 0;
@@ -50,5 +55,5 @@ pub fn marked_text(alloc: Global, dump: &[u8], parts: &[MarkedPart]) -> Result<W
         number += 1;
     }
     text.extend_from_slice(left)?;
-    Ok(text)
+    Ok(Word::from_vec(text))
 }

@@ -3,22 +3,26 @@
 //! A mark is a number between two bytes 1. It is put before a part of a text, so that the plan's
 //! words show which part gave them (`drv_why`).
 
+ghost use Rattle.drv_check.specs.Code.PlainRuns.{extent_if, follows, read_to};
 ghost use Rattle.drv_check.specs.MarkedParts.{after_blank, after_role, after_test, before_at, ends_starred, first_in, goes_on, has_left};
 ghost use Rattle.drv_check.specs.MarkedParts.{heads_named_text, inside_until, is_entered, is_item};
 ghost use Rattle.drv_check.specs.MarkedParts.{is_nested, is_passed, joint_after, joint_of};
-ghost use Rattle.drv_check.specs.MarkedParts.{part_at, part_end, part_if, parts_from, parts_of, read_by, read_token};
+ghost use Rattle.drv_check.specs.MarkedParts.{part_end, parts_from, parts_of, read_by, read_token};
 ghost use Rattle.drv_check.specs.MarkedParts.{read_until, role_of};
 ghost use Rattle.drv_check.specs.Markings.{headed_parts, marked_part, marked_parts, piece_parts, tree_parts};
 ghost use Rattle.drv_check.specs.OwnTexts.{own_start, own_text, own_tree};
+ghost use Rattle.drv_check.specs.declared.marking.Before.TheVariants.{Follows};
+ghost use Rattle.drv_check.specs.declared.marking.Reading.{Reading};
+ghost use Rattle.drv_check.specs.declared.marking.Role.TheVariants.{Item};
 ghost use Rattle.drv_syntax.specs.Parsed.{tree_of};
 ghost use Rattle.drv_syntax.specs.Tokens.{tokens_of};
 ghost use Rattle.std.specs.List.{flat_map};
-ghost use Rattle.std.specs.Prelude.{◌≡◌, ◌∷◌, ◌++◌, ◌+◌, ◌-◌, ◌<◌, ◌^◌, [], IfOk, OnOk, Some, drop, map, take};
+ghost use Rattle.std.specs.Prelude.{◌≡◌, ◌∷◌, ◌++◌, ◌+◌, ◌-◌, ◌<◌, ◌≤◌, ◌^◌, IfOk, List, OnOk, Some, drop, length, map, take, ℕ};
 
 use crate::findings::{Source, Spot};
-use crate::known_trees::known_tree;
+use crate::known_trees::{PairPlaces, known_tree};
 use crate::loading_order::{LoadedFiles, head_in};
-use crate::origins::{Files, Spots, spot_at, text_spots};
+use crate::origins::{Files, Spots, spot_at};
 use crate::own_text::{own_bytes, own_start, tree_of};
 use crate::pieces::{Piece, pieces_of};
 use crate::pointing::colon_in;
@@ -298,27 +302,6 @@ fn part_end(role: Role, end: u32, tokens: &[Token]) -> u32
     at
 }
 
-/// Adds the part that begins with a token, if it has a mark.
-fn push_extent(
-    parts: &mut Vec<Extent>,
-    joint: Option<Joint>,
-    token: Token,
-    tokens: &[Token],
-) -> Result<(), AllocError>
-    ensures { OnOk result
-        (parts.new.items ≡ parts.old.items ++ part_if joint token tokens.now) }
-{
-    if let Some(joint) = joint {
-        let end = part_end(role_of(token.kind), token.end, tokens);
-        parts.push(Extent {
-            start: token.start,
-            end,
-            joint,
-        })?;
-    }
-    Ok(())
-}
-
 /// Whether a text with this head is one that others name.
 fn heads_named_text(head: &[u8]) -> bool
     ensures { result ≡ heads_named_text head.now }
@@ -337,8 +320,97 @@ fn first_in(head: &[u8]) -> Before
     }
 }
 
+/// Whether this is behind an item without marks inside.
+fn follows(before: Before) -> bool
+    ensures { result ≡ follows before }
+{
+    matches!(before, Before::Follows)
+}
+
+/// Where the plain tokens end that are right behind an item without marks inside, which ends here,
+/// and the tokens behind them.
+#[tactic(auto, using(crate::proofs::PlainRuns::run_ends, crate::proofs::PlainRuns::run_reads))]
+fn plain_run(end: u32, tokens: &[Token]) -> (u32, &[Token])
+    ensures within { length result.1.now ≤ length tokens.now }
+    ensures ends { part_end Item end tokens.now ≡ part_end Item result.0 result.1.now }
+    ensures reads { (text : List ℕ) (reading : Reading) → reading.before ≡ Follows → reading.until ≡ end
+        → parts_from text reading tokens.now ≡ parts_from text (read_to result.0 reading) result.1.now }
+{
+    let mut at = end;
+    let mut left = tokens;
+    while let [token, rest @ ..] = left {
+        if token.start != at || !matches!(token.kind, TokenKind::Plain) {
+            return (at, left);
+        }
+        at = token.end;
+        left = rest;
+    }
+    (at, left)
+}
+
+/// Adds the part from this place up to another, if it has a mark.
+#[inline(always)]
+fn push_extent(
+    parts: &mut Vec<Extent>,
+    joint: Option<Joint>,
+    start: u32,
+    end: u32,
+) -> Result<(), AllocError>
+    ensures { OnOk result (parts.new.items ≡ parts.old.items ++ extent_if joint start end) }
+{
+    if let Some(joint) = joint {
+        parts.push(Extent { start, end, joint })?;
+    }
+    Ok(())
+}
+
+/// Adds the part from this place on, if it has a mark. It has reached another place, behind an
+/// item without marks inside.
+fn push_part(
+    parts: &mut Vec<Extent>,
+    joint: Option<Joint>,
+    start: u32,
+    until: u32,
+    tokens: &[Token],
+) -> Result<(), AllocError>
+    ensures { OnOk result
+        (parts.new.items ≡ parts.old.items ++ extent_if joint start (part_end Item until tokens.now)) }
+{
+    if joint.is_none() {
+        return Ok(());
+    }
+    push_extent(parts, joint, start, part_end(Role::Item, until, tokens))
+}
+
+/// Reads a token, and the plain ones right behind it if it is an item without marks inside. Adds the
+/// part that begins with it, if that has a mark, and gives the tokens that are left.
+#[inline(always)]
+#[tactic(auto, using(crate::proofs::PlainRuns::item_next, crate::proofs::PlainRuns::other_next))]
+fn read_part<'a>(
+    parts: &mut Vec<Extent>,
+    text: &[u8],
+    reading: &mut Reading,
+    token: Token,
+    rest: &'a [Token],
+) -> Result<&'a [Token], AllocError>
+    ensures within { IfOk result (λ left. length left.now ≤ length rest.now) }
+    ensures parts { IfOk result (λ left. parts.new.items ++ parts_from text.now reading.new left.now
+        ≡ parts.old.items ++ parts_from text.now reading.old (token ∷ rest.now)) }
+{
+    let joint = joint_of(*reading, token);
+    let next = read_by(text, *reading, token);
+    if !follows(next.before) {
+        push_extent(parts, joint, token.start, token.end)?;
+        *reading = next;
+        return Ok(rest);
+    }
+    let (until, left) = plain_run(next.until, rest);
+    push_part(parts, joint, token.start, until, left)?;
+    *reading = Reading { until, ..next };
+    Ok(left)
+}
+
 /// The marked parts of a text with these tokens, the first of which this precedes.
-#[tactic(auto, using(crate::proofs::MarkSteps::extent_next))]
 fn parts_of(
     alloc: Global,
     first: Before,
@@ -355,10 +427,7 @@ fn parts_of(
     };
     let mut left = tokens;
     while let [token, rest @ ..] = left {
-        let joint = joint_of(reading, *token);
-        push_extent(&mut parts, joint, *token, rest)?;
-        reading = read_by(text, reading, *token);
-        left = rest;
+        left = read_part(&mut parts, text, &mut reading, *token, rest)?;
     }
     Ok(parts)
 }
@@ -433,7 +502,7 @@ fn text_start(piece: &Piece) -> Result<usize, AllocError>
 fn push_text(
     alloc: Global,
     parts: &mut Listing<MarkedPart>,
-    set: &SpecSet,
+    files: &Files<'_>,
     text: &MarkedText<'_>,
 ) -> Result<(), AllocError>
     requires { text.now.at < 2 ^ 63 }
@@ -442,7 +511,7 @@ fn push_text(
         ++ tree_parts text.now.head.now text.now.text.now text.now.spots.now text.now.at
         (tree_of text.now.text.now)) }
 {
-    if let Some(tree) = known_tree(set, text.head, text.text) {
+    if let Some(tree) = known_tree(alloc, files.set, &files.places, text.head, text.text)? {
         return push_parts(alloc, parts, text, tree.tokens());
     }
     match tree_of(alloc, text.text)? {
@@ -467,14 +536,14 @@ fn push_own(
         (tree_of (own_text piece.now.text))) }
 {
     let text = own_bytes(piece.text.as_bytes());
-    let spots = text_spots(alloc, files.sources, files.pieces, head, text)?;
+    let spots = files.spots_of(alloc, head, text)?;
     let text = MarkedText {
         head,
         text,
         at: text_start(piece)?,
         spots: &spots,
     };
-    push_text(alloc, parts, files.set, &text)
+    push_text(alloc, parts, files, &text)
 }
 
 /// Adds the marked parts of the text of a piece, if it has a colon, and this head before it.
@@ -530,6 +599,7 @@ pub fn marked_parts(
         sources: loaded.sources(),
         pieces: loaded.pieces(),
         set,
+        places: PairPlaces::new(alloc, set)?,
     };
     let pieces = pieces_of(alloc, dump)?;
     let mut parts = Listing::new(alloc);

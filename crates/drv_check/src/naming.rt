@@ -1,10 +1,11 @@
 //! The parts of a set's texts that name switches.
 
 ghost use Rattle.drv_check.specs.LoadingOrder.{head_in};
-ghost use Rattle.drv_check.specs.Namings.{call_deed, deed_of, headed_namings, is_headed_run, is_used};
+ghost use Rattle.drv_check.specs.Namings.{call_deed, deed_of, headed_namings, is_headed_run};
 ghost use Rattle.drv_check.specs.Code.Deeds.{may_name};
+ghost use Rattle.drv_check.specs.Code.LaterKeys.{is_used_if, namings_if};
 ghost use Rattle.drv_check.specs.Namings.{naming_if, naming_word, namings_of};
-ghost use Rattle.drv_check.specs.Namings.{piece_namings, test_deed, token_namings, tree_namings, used_namings, written_part};
+ghost use Rattle.drv_check.specs.Namings.{piece_namings, test_deed, token_namings, tree_namings, written_part};
 ghost use Rattle.drv_check.specs.Origins.{text_spots};
 ghost use Rattle.drv_check.specs.OwnTexts.{own_text, own_tree};
 ghost use Rattle.drv_syntax.specs.Labels.{label_at};
@@ -14,10 +15,10 @@ ghost use Rattle.std.specs.Prelude.{◌≡◌, ◌<◌, ◌++◌, IfOk, OnOk, So
 
 use crate::compared::{asks_switch, is_call, prefix_of};
 use crate::findings::{Source, Spot};
-use crate::hidden_pair::{is_hidden, key_in};
-use crate::known_trees::known_tree;
+use crate::known_trees::{PairPlaces, known_tree};
+use crate::later_keys::HiddenPieces;
 use crate::loading_order::{LoadedFiles, head_in};
-use crate::origins::{Files, Spots, spot_at, text_spots};
+use crate::origins::{Files, Spots, spot_at};
 use crate::own_text::{own_bytes, tree_of as read_tree};
 use crate::pieces::{Piece, pieces_of};
 use crate::pointing::colon_in;
@@ -245,7 +246,7 @@ fn push_read(
 fn push_text(
     alloc: Global,
     namings: &mut Listing<Naming>,
-    set: &SpecSet,
+    files: &Files<'_>,
     text: &Spotted<'_>,
 ) -> Result<(), AllocError>
     ensures { OnOk result
@@ -253,7 +254,7 @@ fn push_text(
         ++ tree_namings text.now.head.now text.now.text.now text.now.spots.now
         (tree_of text.now.text.now)) }
 {
-    if let Some(tree) = known_tree(set, text.head, text.text) {
+    if let Some(tree) = known_tree(alloc, files.set, &files.places, text.head, text.text)? {
         return push_read(alloc, namings, text, tree);
     }
     match read_tree(alloc, text.text)? {
@@ -277,13 +278,13 @@ fn push_run(
         (text_spots files.now.sources.now files.now.pieces.now head.now text.now)
         (tree_of text.now)) }
 {
-    let spots = text_spots(alloc, files.sources, files.pieces, head, text)?;
+    let spots = files.spots_of(alloc, head, text)?;
     let text = Spotted {
         head,
         text,
         spots: &spots,
     };
-    push_text(alloc, namings, files.set, &text)
+    push_text(alloc, namings, files, &text)
 }
 
 /// Adds the parts of the text of a piece that name switches, where it has this head.
@@ -358,26 +359,26 @@ fn is_headed_run(piece: &Piece) -> bool
     }
 }
 
-/// Whether a piece is used: its text is run, and none of these later pieces hides it.
-fn is_used(later: &[Piece], piece: &Piece) -> bool
-    ensures { result ≡ is_used later.now piece.now }
+/// Whether a piece is used: its text is run, and no later piece hides it.
+fn is_used(piece: &Piece, hidden: bool) -> bool
+    ensures { result ≡ is_used_if hidden piece.now }
 {
-    is_headed_run(piece) && !is_hidden(key_in(piece.text.as_bytes()), later)
+    is_headed_run(piece) && !hidden
 }
 
-/// Adds the parts of the text of a piece before these that name switches, if it is used.
+/// Adds the parts of the text of a piece that name switches, if it is used.
 fn push_used(
     alloc: Global,
     namings: &mut Listing<Naming>,
     files: &Files<'_>,
-    later: &[Piece],
     piece: &Piece,
+    hidden: bool,
 ) -> Result<(), AllocError>
     ensures { OnOk result
         (namings.new ≡ namings.old
-        ++ used_namings files.now.sources.now files.now.pieces.now later.now piece.now) }
+        ++ namings_if files.now.sources.now files.now.pieces.now hidden piece.now) }
 {
-    if !is_used(later, piece) {
+    if !is_used(piece, hidden) {
         return Ok(());
     }
     push_piece(alloc, namings, files, piece)
@@ -399,13 +400,17 @@ pub fn namings_of(
         sources: loaded.sources(),
         pieces: loaded.pieces(),
         set,
+        places: PairPlaces::new(alloc, set)?,
     };
-    let pieces = pieces_of(alloc, dump)?;
+    let read = pieces_of(alloc, dump)?;
+    let pieces = read.as_slice();
+    let hidden = HiddenPieces::new(alloc, pieces)?;
     let mut namings = Listing::new(alloc);
-    let mut left = pieces.as_slice();
-    while let [piece, later @ ..] = left {
-        push_used(alloc, &mut namings, &files, later, piece)?;
-        left = later;
+    let mut place = 0;
+    while place < pieces.len() {
+        let is_hidden = hidden.has(place);
+        push_used(alloc, &mut namings, &files, &pieces[place], is_hidden)?;
+        place += 1;
     }
     Ok(namings)
 }

@@ -9,6 +9,8 @@ ghost use Rattle.std.specs.Prelude.{◌≡◌, ◌∷◌, ◌++◌, [], IfOk, If
 
 use crate::bytes::following;
 use crate::findings::{Source, Spot};
+use crate::heads::HeadedPieces;
+use crate::known_trees::PairPlaces;
 use crate::loading_order::{LoadedPiece, Renaming};
 use drv_place::LentPlaces;
 use drv_specs::SpecSet;
@@ -22,9 +24,11 @@ pub(crate) struct Files<'a> {
     /// The files.
     pub(crate) sources: &'a [Source],
     /// Their directives, in the order in which they are loaded.
-    pub(crate) pieces: &'a [LoadedPiece],
+    pub(crate) pieces: &'a HeadedPieces,
     /// The set.
     pub(crate) set: &'a SpecSet,
+    /// Where its pairs are.
+    pub(crate) places: PairPlaces,
 }
 
 /// Whether a directive puts the text of this head, or adds to it.
@@ -336,7 +340,7 @@ fn several_spots(
 /// The spots of the last bytes of a head's text, which are those of files. One directive gives most
 /// texts, and its places are lent.
 #[tactic(auto, using(crate::proofs::OwnSpots::text_of_own))]
-pub(crate) fn text_spots<'a>(
+fn text_spots<'a>(
     alloc: Global,
     sources: &[Source],
     pieces: &'a [LoadedPiece],
@@ -351,6 +355,23 @@ pub(crate) fn text_spots<'a>(
     }
     let spots = several_spots(alloc, sources, pieces, head, text)?;
     Ok(Spots::of_several(spots))
+}
+
+impl<'a> Files<'a> {
+    /// The spots of the last bytes of a head's text, which are those of files.
+    #[tactic(auto, using(crate::proofs::OwnSpots::text_of_first))]
+    pub(crate) fn spots_of(
+        &self,
+        alloc: Global,
+        head: &[u8],
+        text: &[u8],
+    ) -> Result<Spots<'a>, AllocError>
+        ensures { IfOk result
+            (λ spots. spots ≡ text_spots self.now.sources.now self.now.pieces.now head.now text.now) }
+    {
+        let first = self.pieces.up_to(alloc, head)?;
+        text_spots(alloc, self.sources, first, head, text)
+    }
 }
 
 /// The spot of the byte at this place of a text of this size, whose last bytes have these spots.

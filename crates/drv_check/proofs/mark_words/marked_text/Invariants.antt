@@ -7,7 +7,7 @@ use Rattle.std.proofs.Common.{◌≡◌, ◌-◌, ◌++◌, drop, length}
 
 abbrev pub invariant-loop-number : goal.invariant-loop-number
 invariant-loop-number l =
-    l.text ++ with_marks l.number l.at (drop l.number l.parts) l.left ≡ marked_text l.dump l.parts
+    l.text.items ++ with_marks l.number l.at (drop l.number l.parts) l.left ≡ marked_text l.dump l.parts
 
 abbrev pub decreases-loop-number : goal.decreases-loop-number
 decreases-loop-number l = length l.parts - l.number
