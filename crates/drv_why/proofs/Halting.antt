@@ -27,7 +27,8 @@ use Rattle.drv_why.specs.declared.walking.Waypoint.TheVariants.{First}
 use Rattle.std.proofs.Common.{◌≡◌, ◌∙◌, ◌<◌, ◌≤◌, ◌+◌, ◌-◌, ◌∷◌, ◌++◌, ◌||◌, Bool, Err, List, [], ap, append_assoc, arith, drop, false, length, refl, reverse, subst, sym, take, true, ℕ}
 use Rattle.std.proofs.Math.Seq.{take-length}
 use Rattle.std.proofs.lemmas.Bool.Decides.{nat_tests}
-use Rattle.std.proofs.lemmas.List.{append-nil, get_or_default, length-append, length-take-le, reverse-append, take-append-drop, take-append-le}
+use Rattle.std.proofs.lemmas.List.{append-nil, get_or_default, length-append, length-take-le, reverse-append, take-append-drop}
+use Rattle.std.proofs.lemmas.List.{take-append-le, take_all}
 use Rattle.std.specs.Prelude.{get_or, if◌then◌else◌, nat_le, nat_lt, not}
 
 -- For src/halts.rt: the way to a part goes on to a later one.
@@ -465,6 +466,10 @@ approach_next switches items tokens other c after at are short early read (so_fa
     late at start early = grind (arith, nat_tests)
 
 -- the whole way
+
+-- For `shorten`: there are none behind the first ones, if they are no more.
+pub none_more : (takers : List Taker) (count : ℕ) → length takers ≤ count → takers ≡ take count takers
+none_more takers count few = sym (take_all count takers few)
 
 -- For `go_back`: the last halt that leads to the part is that before it.
 pub gone_back : (switches : List Switch) (items : Items) (c : Course) (takers : List Taker) → takers ≡ take c.halt.count c.way.takers

@@ -2,12 +2,14 @@ use Rattle.drv_check.specs.declared.findings.Source.{Source}
 use Rattle.drv_place.specs.LinePlaces.{after_newline, line_before, line_number}
 use Rattle.drv_words.specs.Bytes.{newline}
 use Rattle.drv_words.specs.FileNames.{split_at_last}
-use Rattle.drv_why.specs.Code.LinePlaces.{IsKept, IsPlaced, bytes_of}
+use Rattle.drv_why.specs.Code.LinePlaces.{IsKept, IsPlaced, bytes_of, front_text}
+use Rattle.drv_why.specs.declared.line_places.LastPlace.{LastPlace}
 use Rattle.drv_why.specs.declared.line_places.LinePlace.{LinePlace}
 use Rattle.std.proofs.Common.{arith, ◌≡◌, ◌∙◌, ◌++◌, ◌==◌, ◌+◌, ◌-◌, ◌≤◌, Bool, List, [], ◌∷◌, None, Option, Some, ap, drop, false, filter}
 use Rattle.std.proofs.Common.{if◌then◌else◌, length, refl, subst, suc, sym, take, true, zero, ℕ}
 use Rattle.std.proofs.lemmas.List.{length-append, length-take, take_all}
 use Rattle.std.proofs.lemmas.List.Elements.{filter-append}
+use Rattle.std.proofs.lemmas.Option.{slice_get_past}
 use Rattle.std.specs.Option.{option_map}
 use Rattle.std.specs.Prelude.{slice_get}
 
@@ -206,14 +208,35 @@ pub start_is_placed : (text : List ℕ) (place : LinePlace) → place.at ≡ 0 �
 start_is_placed text place at line column =
     (line ∙ sym (ap (line_number text) at), column ∙ sym (ap (λ n. length (line_before text n)) at))
 
--- For `push_spot`: what is kept of a place in a file is right for this file.
-pub placed_there : (sources : List Source) (source : Source) (n : ℕ) (place : LinePlace) → slice_get sources n ≡ Some source → IsKept sources place
-    → place.source ≡ n → IsPlaced source.text place
-placed_there sources source n place found kept same =
-    subst (λ text. IsPlaced text place) (ap (λ m. bytes_of (slice_get sources m)) same ∙ ap bytes_of found) kept
+-- For `empty_text`: no file has a place behind all files, so nothing precedes its column.
+pub front_of_none : (sources : List Source) (last : LastPlace) → last.place.source ≡ length sources → last.front.items ≡ []
+    → last.front.items ≡ front_text (slice_get sources last.place.source) last.place.line
+front_of_none sources last behind none =
+    let no_file : slice_get sources last.place.source ≡ None = slice_get_past sources last.place.source (omega (arith, behind)) in
+    none ∙ sym (ap (λ file. front_text file last.place.line) no_file)
 
--- For `push_spot`: and a place in the file is kept.
-pub kept_there : (sources : List Source) (source : Source) (n : ℕ) (place : LinePlace) → slice_get sources n ≡ Some source → place.source ≡ n
-    → IsPlaced source.text place → IsKept sources place
-kept_there sources source n place found same placed =
-    subst (λ text. IsPlaced text place) (sym (ap (λ m. bytes_of (slice_get sources m)) same ∙ ap bytes_of found)) placed
+-- the file of a place, by its number
+file_there : (sources : List Source) (source : Source) (n : ℕ) (last : LastPlace) → slice_get sources n ≡ Some source
+    → last.place.source ≡ n → slice_get sources last.place.source ≡ Some source
+file_there sources source n last found same = ap (λ m. slice_get sources m) same ∙ found
+
+-- For `push_spot`: what is kept of a place in a file is right for this file.
+pub placed_there : (sources : List Source) (source : Source) (n : ℕ) (last : LastPlace) → slice_get sources n ≡ Some source
+    → IsKept sources last → last.place.source ≡ n → IsPlaced source.text last.place
+placed_there sources source n last found kept same =
+    subst (λ text. IsPlaced text last.place) (ap bytes_of (file_there sources source n last found same)) kept.0
+
+-- For `push_spot`: and so is what precedes its column.
+pub front_there : (sources : List Source) (source : Source) (n : ℕ) (last : LastPlace) → slice_get sources n ≡ Some source
+    → IsKept sources last → last.place.source ≡ n → last.front.items ≡ front_text (Some source) last.place.line
+front_there sources source n last found kept same =
+    kept.1 ∙ ap (λ file. front_text file last.place.line) (file_there sources source n last found same)
+
+-- For `push_spot`: and a place in the file is kept, with what precedes its column.
+pub kept_there : (sources : List Source) (source : Source) (n : ℕ) (last : LastPlace) → slice_get sources n ≡ Some source
+    → last.place.source ≡ n → IsPlaced source.text last.place → last.front.items ≡ front_text (Some source) last.place.line
+    → IsKept sources last
+kept_there sources source n last found same placed front = (
+  subst (λ text. IsPlaced text last.place) (sym (ap bytes_of (file_there sources source n last found same))) placed,
+  front ∙ sym (ap (λ file. front_text file last.place.line) (file_there sources source n last found same)),
+)

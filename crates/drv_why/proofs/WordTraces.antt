@@ -1,7 +1,7 @@
 use Rattle.drv_check.specs.MarkWords.{mark_end}
 use Rattle.drv_forms.specs.Difference.{words_of}
 use Rattle.drv_why.specs.Code.Marks.{IsNamedAt, has_mark, unmarked}
-use Rattle.drv_why.specs.Origins.{Marking, command_json, command_text, is_cut, origins_from, origins_items, shown}
+use Rattle.drv_why.specs.Origins.{Marking, command_json, command_text, origins_from, origins_items}
 use Rattle.drv_why.specs.Traces.{all_worded, are_words, at_word, before_name, is_found, read, taken, taken_by, traces_by, traces_of, with_byte, worded}
 use Rattle.drv_why.specs.declared.traces.Trace.{Trace}
 use Rattle.drv_words.specs.Bytes.{slash}
@@ -10,7 +10,7 @@ use Rattle.drv_words.specs.declared.plan.PlanLine.{PlanLine}
 use Rattle.json.specs.Token.{Token}
 use Rattle.json.specs.Tree.{items_tokens, json_tokens}
 use Rattle.std.proofs.Common.{◌≡◌, ◌∙◌, ◌<◌, ◌≤◌, ◌⊎◌, ◌+◌, ◌-◌, ◌++◌, ◌∷◌, inl, inr, Bool, List, None, Option, Some, [], ap, append_assoc}
-use Rattle.std.proofs.Common.{arith, codes, drop, false, length, refl, set, sym, take, true, ℕ}
+use Rattle.std.proofs.Common.{arith, drop, false, length, refl, set, sym, take, true, ℕ}
 use Rattle.std.proofs.lemmas.Bool.{and_parts}
 use Rattle.std.proofs.lemmas.Bool.Decides.{Decides-eqb}
 use Rattle.std.proofs.lemmas.List.{append-nil, drop-set-lt, drop_all, drop_more, take_more_set}
@@ -21,12 +21,10 @@ use Rattle.std.specs.List.{ends_with}
 use Rattle.std.specs.Option.{option_to_list, unwrap_or}
 use Rattle.std.specs.Prelude.{◌==◌, ◌&&◌, ◌||◌, get_or, if◌then◌else◌, map, nat_eq, slice_get}
 
--- For origins_report (src/origins.rt): the words of a command beside those of the plan, the bytes of a part, and the commands of a plan,
--- one after another.
+-- For origins_report (src/origins.rt): the words of a command beside those of the plan, and the commands of a plan, one after another.
 -- Names: `t` is a word with its parts, the first of `ts`, and `ts'` is the others. `word` is the first of `words`, and `words'` the others.
--- `command` is a command, and `marked` the same in the plan with marks. `part` is the bytes of a part, `byte` the one at place `n`, and
--- `room` how many may still be shown. `line` is the command at place `n` of `lines`. `before` and `after` are what is written before a step
--- and after it, and `whole` is all of it. `m` is what is known of the plan's marks. `is_cut` says that no further byte is shown.
+-- `command` is a command, and `marked` the same in the plan with marks. `line` is the command at place `n` of `lines`. `before` and `after` are
+-- what is written before a step and after it, and `whole` is all of it. `m` is what is known of the plan's marks.
 
 -- bytes without marks, outside of marks where no part is due, are those of the word
 more_read : (t : Trace) (bytes : List ℕ) → t.number ≡ None → t.due ≡ None → has_mark bytes ≡ false
@@ -60,6 +58,14 @@ unmarked_read last (b ∷ bytes) t some plain is = is ∙ sym (by (b == mark_end
     by false is plain =
         ap (λ test. read (if test then record (at_word last) { number = Some 0 } else with_byte (at_word last) b) bytes) is
         ∙ more_read (with_byte (at_word last) b) bytes refl refl plain
+
+-- For `is_same`: if the first bytes are the same, then all are exactly if the others are.
+pub same_next : (b b' : ℕ) (bs bs' bytes bytes' : List ℕ) → bytes ≡ b ∷ bs → bytes' ≡ b' ∷ bs' → nat_eq b b' ≡ true
+    → pointwise nat_eq bytes bytes' ≡ pointwise nat_eq bs bs'
+same_next b b' bs bs' bytes bytes' cut cut' is =
+    ap (λ xs. pointwise nat_eq xs bytes') cut
+    ∙ ap (λ xs. pointwise nat_eq (b ∷ bs) xs) cut'
+    ∙ ap (λ test. test && pointwise nat_eq bs bs') is
 
 -- For `are_words`: if the first word is the same, then all are exactly if the others are.
 pub are_next : (t : Trace) (word : List ℕ) (ts ts' : List Trace) (words words' : List (List ℕ)) → ts ≡ t ∷ ts' → words ≡ word ∷ words'
@@ -207,29 +213,6 @@ pub same_words : (words words' : List (List ℕ)) → pointwise (pointwise nat_e
 same_words words words' alike =
     (slice_eq-Decides (λ a b. slice_eq-Decides Decides-eqb a b (pointwise nat_eq a b) refl) words words'
     (pointwise (pointwise nat_eq) words words') refl).0 alike
-
--- For `push_shown`: if what is shown and the bytes left are the whole, then they still are after one byte more.
-pub shown_next : (n room : ℕ) (part : List ℕ) (byte : ℕ) (before after whole : List ℕ) → n < length part → byte ≡ get_or part n byte
-    → is_cut room byte ≡ false → after ≡ before ++ byte ∷ []
-    → before ++ shown room (drop n part) ≡ whole → after ++ shown (room - 1) (drop (n + 1) part) ≡ whole
-shown_next n room part byte before after whole below here goes grows is =
-    let one : shown room (byte ∷ drop (n + 1) part) ≡ byte ∷ shown (room - 1) (drop (n + 1) part) = rw goes refl in
-    ap (λ t. t ++ shown (room - 1) (drop (n + 1) part)) grows
-    ∙ append_assoc before (byte ∷ []) (shown (room - 1) (drop (n + 1) part))
-    ∙ ap (λ t. before ++ t) (sym one)
-    ∙ ap (λ b. before ++ shown room (b ∷ drop (n + 1) part)) here
-    ∙ ap (λ bs. before ++ shown room bs) (sym (drop_more part n byte below)) ∙ is
-
--- For `push_shown`: if no further byte is shown, then two periods end the part.
-pub shown_cut : (n room : ℕ) (part : List ℕ) (byte : ℕ) (before after whole : List ℕ) → n < length part → byte ≡ get_or part n byte
-    → is_cut room byte ≡ true → after ≡ before ++ codes ".."
-    → before ++ shown room (drop n part) ≡ whole → after ≡ whole
-shown_cut n room part byte before after whole below here stops grows is =
-    let one : shown room (byte ∷ drop (n + 1) part) ≡ codes ".." = rw stops refl in
-    grows
-    ∙ ap (λ t. before ++ t) (sym one)
-    ∙ ap (λ b. before ++ shown room (b ∷ drop (n + 1) part)) here
-    ∙ ap (λ bs. before ++ shown room bs) (sym (drop_more part n byte below)) ∙ is
 
 -- For `origins_text`: if the text so far and the commands left are the whole, then they still are after one command more.
 pub command_next : (m : Marking) (lines : List PlanLine) (n : ℕ) (line : PlanLine) (before after whole : List ℕ) → n < length lines

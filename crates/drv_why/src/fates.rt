@@ -1,7 +1,7 @@
 //! What becomes of the switches of a line.
 
 ghost use Rattle.drv_why.specs.Code.Beginning.{alike_to, parts_at, text_at};
-ghost use Rattle.drv_why.specs.Code.LinePlaces.{IsKept, IsPlaced};
+ghost use Rattle.drv_why.specs.Code.LinePlaces.{IsKept, IsPlaced, front_text};
 ghost use Rattle.drv_why.specs.Fates.{argument_text, cancelled_line, cancelled_text, concerns, deed_text};
 ghost use Rattle.drv_why.specs.Fates.{fates_text, naming_text, namings_text, or_unnamed, pattern_of};
 ghost use Rattle.drv_why.specs.Fates.{source_text, spot_text, switch_text, takes, text_if};
@@ -14,7 +14,7 @@ ghost use Rattle.std.specs.Prelude.{◌≡◌, ◌∷◌, ◌++◌, [], IfOk, Is
 use crate::alike::{places_alike, renew_places};
 use crate::cancelling::Cancellers;
 use crate::fates_json::fates_json;
-use crate::line_places::{LinePlace, PlacedText, column_of, empty_text, move_to};
+use crate::line_places::{LastPlace, LinePlace, PlacedText, column_of, empty_text, move_to};
 use crate::matching::is_named;
 use crate::report::Report;
 use crate::taking::option_of;
@@ -66,22 +66,63 @@ fn push_number(text: &mut Vec<u8>, number: usize) -> Result<(), AllocError>
     text.extend_from_slice(Buffer::new().format(number).as_bytes())
 }
 
-/// Adds a byte of a source, by its file, line and column. The place has these.
-fn push_source(text: &mut Vec<u8>, source: &Source, place: &LinePlace) -> Result<(), AllocError>
-    requires { IsPlaced source.now.text place.now }
-    ensures { OnOk result
-        (text.new.items ≡ text.old.items ++ source_text (Some source.now) place.now.at) }
+/// Adds what precedes the column of a place: its file and line.
+fn push_front(text: &mut Vec<u8>, source: &Source, line: usize) -> Result<(), AllocError>
+    ensures { OnOk result (text.new.items ≡ text.old.items ++ front_text (Some source.now) line) }
 {
     text.extend_from_slice(b" at ")?;
     text.extend_from_slice(source.name.as_bytes())?;
     text.push(b':')?;
-    push_number(text, place.line)?;
+    push_number(text, line)?;
     text.push(b':')?;
-    push_number(text, column_of(source.text.as_bytes(), place))
+    Ok(())
+}
+
+/// Whether a place is on this line of this file.
+fn is_on(place: &LinePlace, source: usize, line: usize) -> bool
+    ensures source { IsTrue result → place.now.source ≡ source }
+    ensures line { IsTrue result → place.now.line ≡ line }
+{
+    place.source == source && place.line == line
+}
+
+/// Makes the last place another one. What precedes its column is kept if that is on the same line.
+fn renew_last(last: &mut LastPlace, source: &Source, spot: Spot) -> Result<(), AllocError>
+    requires place { last.old.place.source ≡ spot.source → IsPlaced source.now.text last.old.place }
+    requires front { last.old.place.source ≡ spot.source
+        → last.old.front.items ≡ front_text (Some source.now) last.old.place.line }
+    ensures place { OnOk result (IsPlaced source.now.text last.new.place) }
+    ensures at { OnOk result (last.new.place.at ≡ spot.at) }
+    ensures source { OnOk result (last.new.place.source ≡ spot.source) }
+    ensures front { OnOk result (last.new.front.items ≡ front_text (Some source.now) last.new.place.line) }
+{
+    let (file, line) = (last.place.source, last.place.line);
+    move_to(
+        &mut last.place,
+        source.text.as_bytes(),
+        spot.source,
+        spot.at,
+    );
+    if !is_on(&last.place, file, line) {
+        last.front.clear();
+        push_front(&mut last.front, source, last.place.line)?;
+    }
+    Ok(())
+}
+
+/// Adds the last place, by its file, line and column.
+fn push_last(text: &mut Vec<u8>, source: &Source, last: &LastPlace) -> Result<(), AllocError>
+    requires place { IsPlaced source.now.text last.now.place }
+    requires front { last.now.front.items ≡ front_text (Some source.now) last.now.place.line }
+    ensures { OnOk result
+        (text.new.items ≡ text.old.items ++ source_text (Some source.now) last.now.place.at) }
+{
+    text.extend_from_slice(last.front.as_slice())?;
+    push_number(text, column_of(source.text.as_bytes(), &last.place))
 }
 
 /// Adds where a part is.
-#[tactic(auto, using(crate::proofs::LinePlaces::placed_there, crate::proofs::LinePlaces::kept_there))]
+#[tactic(auto, using(crate::proofs::LinePlaces::placed_there, crate::proofs::LinePlaces::front_there, crate::proofs::LinePlaces::kept_there))]
 pub(crate) fn push_spot(
     text: &mut PlacedText,
     sources: &[Source],
@@ -97,8 +138,8 @@ pub(crate) fn push_spot(
     };
     match sources.get(spot.source) {
         Some(source) => {
-            move_to(&mut text.last, source.text.as_bytes(), spot.source, spot.at);
-            push_source(&mut text.bytes, source, &text.last)
+            renew_last(&mut text.last, source, spot)?;
+            push_last(&mut text.bytes, source, &text.last)
         }
         None => Ok(()),
     }

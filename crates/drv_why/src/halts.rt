@@ -70,9 +70,13 @@ fn first_halt(until: usize) -> Halt
 }
 
 /// Takes the takers behind the first ones off.
+#[tactic(auto, using(crate::proofs::Halting::none_more))]
 fn shorten(alloc: Global, takers: &mut Listing<Taker>, count: usize)
     ensures { takers.new ≡ take count takers.old }
 {
+    if takers.len() <= count {
+        return;
+    }
     let mut all = replace(takers, Listing::new(alloc)).into_vec();
     all.truncate(count);
     *takers = Listing::from_vec(all);

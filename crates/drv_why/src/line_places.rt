@@ -8,7 +8,7 @@ use drv_check::Source;
 use drv_place::{after_first, first_of, line_before, line_number};
 use std::alloc::Global;
 
-/// The last place that was looked for.
+/// A place in a file.
 #[derive(Drop)]
 pub(crate) struct LinePlace {
     /// The file's place among the sources.
@@ -21,13 +21,22 @@ pub(crate) struct LinePlace {
     pub(crate) column: usize,
 }
 
+/// The last place that was looked for.
+#[derive(Drop)]
+pub(crate) struct LastPlace {
+    /// The place.
+    pub(crate) place: LinePlace,
+    /// What precedes its column in a text: its file and its line.
+    pub(crate) front: Vec<u8>,
+}
+
 /// A text with places in files, and the last of these.
 #[derive(Drop)]
 pub(crate) struct PlacedText {
     /// Its bytes.
     pub(crate) bytes: Vec<u8>,
     /// The last place.
-    pub(crate) last: LinePlace,
+    pub(crate) last: LastPlace,
 }
 
 /// How many of the first bytes of a text there are.
@@ -52,15 +61,18 @@ fn start_of(source: usize) -> LinePlace
     }
 }
 
-/// A text without bytes.
-#[tactic(auto, using(crate::proofs::LinePlaces::start_is_placed))]
+/// A text without bytes. Its last place is in none of the files.
+#[tactic(auto, using(crate::proofs::LinePlaces::start_is_placed, crate::proofs::LinePlaces::front_of_none))]
 pub(crate) fn empty_text(alloc: Global, sources: &[Source]) -> PlacedText
     ensures bytes { result.bytes.items ≡ [] }
     ensures kept { IsKept sources.now result.last }
 {
     PlacedText {
         bytes: Vec::new(alloc),
-        last: start_of(0),
+        last: LastPlace {
+            place: start_of(sources.len()),
+            front: Vec::new(alloc),
+        },
     }
 }
 

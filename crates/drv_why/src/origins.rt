@@ -1,7 +1,7 @@
 //! Where the words of a plan are from.
 
 ghost use Rattle.drv_why.specs.Code.LinePlaces.{IsKept};
-ghost use Rattle.drv_why.specs.Origins.{causes_text, command_text, ending_text, found_text, further_text, is_cut, more_text, most_shown};
+ghost use Rattle.drv_why.specs.Origins.{causes_text, command_text, found_text, further_text, more_text, most_shown};
 ghost use Rattle.drv_why.specs.Origins.{origins_from, origins_report, origins_text};
 ghost use Rattle.drv_why.specs.Origins.{part_text, parts_text, shown, trace_text, traces_text};
 ghost use Rattle.drv_words.specs.Bytes.{newline};
@@ -11,6 +11,7 @@ ghost use Rattle.std.specs.Prelude.{◌≡◌, ◌∷◌, ◌++◌, [], IfOk, Is
 
 use crate::cancelling::Cancellers;
 use crate::fates::push_spot;
+use crate::lending::LentLine;
 use crate::line_places::{PlacedText, empty_text};
 use crate::origins_json::origins_json;
 use crate::report::Report;
@@ -18,6 +19,7 @@ use crate::traces::Trace;
 use crate::tracing::caused_at;
 use drv_args::Line;
 use drv_check::{MarkedPart, Source};
+use drv_place::{first_of, line_after};
 use drv_words::{Listing, Plan, PlanLine, Word, plan_lines, push_quoted, render};
 use std::alloc::{AllocError, Global};
 use std::marker::Model;
@@ -25,6 +27,9 @@ use std::slice::from_ref;
 
 /// The most bytes of a part that are shown.
 const MOST_SHOWN: usize = 40;
+
+/// How many bytes precede the parts of a word in its line, behind the word: those of ` by `.
+const BY_SIZE: usize = 4;
 
 /// A line and its plan, and what the marks of the marked plan lead to.
 #[derive(Drop)]
@@ -38,7 +43,7 @@ pub struct Marking<'a> {
     /// The parts that have a mark: a mark's number is the place of its part.
     pub parts: &'a [MarkedPart],
     /// The lines of the plan with the marks.
-    pub marked: &'a [PlanLine],
+    pub marked: &'a [LentLine<'a>],
 }
 
 impl<'a> Model for Marking<'a> {
@@ -55,26 +60,15 @@ impl<'a> Model for Marking<'a> {
     } };
 }
 
-/// Whether no further byte of a part is shown, where there is room for so many.
-fn is_cut(room: usize, byte: u8) -> bool
-    ensures { result ≡ is_cut room byte }
-{
-    room == 0 || byte == b'\n'
-}
-
 /// Adds a part as it is written, as far as it is shown.
-#[tactic(auto, using(crate::proofs::WordTraces::shown_next, crate::proofs::WordTraces::shown_cut))]
+#[tactic(auto, using(crate::proofs::ShownParts::shown_whole, crate::proofs::ShownParts::shown_cut))]
 fn push_shown(text: &mut Vec<u8>, part: &[u8]) -> Result<(), AllocError>
     ensures { OnOk result (text.new.items ≡ text.old.items ++ shown most_shown part.now) }
 {
-    let mut room = MOST_SHOWN;
-    for byte in part {
-        if is_cut(room, *byte) {
-            text.extend_from_slice(b"..")?;
-            return Ok(());
-        }
-        text.push(*byte)?;
-        room = room.saturating_sub(1);
+    let front = line_after(first_of(part, MOST_SHOWN), 0);
+    text.extend_from_slice(front)?;
+    if front.len() < part.len() {
+        text.extend_from_slice(b"..")?;
     }
     Ok(())
 }
@@ -194,12 +188,12 @@ fn push_causes(text: &mut Vec<u8>, names: &[Word]) -> Result<(), AllocError>
     }
 }
 
-/// The parts of a word as text.
+/// The parts of a word.
 #[derive(Drop)]
 struct PartsText<'a> {
     /// Their numbers.
     numbers: &'a [usize],
-    /// Them as text.
+    /// Them as text, after what precedes them in a line.
     text: PlacedText,
 }
 
@@ -211,9 +205,11 @@ fn parts_of_text<'a>(
 ) -> Result<PartsText<'a>, AllocError>
     ensures { IfOk result (λ parts. (parts.numbers.now ≡ numbers.now)
         × (IsKept marking.now.sources parts.text.last)
-        × (parts.text.bytes.items ≡ parts_text marking.now.sources marking.now.parts numbers.now)) }
+        × (parts.text.bytes.items
+        ≡ codes " by " ++ parts_text marking.now.sources marking.now.parts numbers.now)) }
 {
     let mut text = empty_text(alloc, marking.sources);
+    text.bytes.extend_from_slice(b" by ")?;
     push_parts(&mut text, marking, numbers)?;
     Ok(PartsText { numbers, text })
 }
@@ -227,98 +223,92 @@ fn are_parts(parts: &PartsText<'_>, trace: &Trace) -> bool
 }
 
 /// The parts of a word as text. Those of the last one are kept if they are the same.
+#[tactic(auto, using(crate::proofs::ShownParts::by_stays))]
 fn renew_parts<'a>(
     parts: &mut PartsText<'a>,
     marking: &Marking<'_>,
     trace: &'a Trace,
 ) -> Result<(), AllocError>
     requires text { parts.old.text.bytes.items
-        ≡ parts_text marking.now.sources marking.now.parts parts.old.numbers.now }
+        ≡ codes " by " ++ parts_text marking.now.sources marking.now.parts parts.old.numbers.now }
     requires kept { IsKept marking.now.sources parts.old.text.last }
     ensures kept { OnOk result (IsKept marking.now.sources parts.new.text.last) }
     ensures numbers { OnOk result (parts.new.numbers.now ≡ trace.now.parts) }
     ensures text { OnOk result (parts.new.text.bytes.items
-        ≡ parts_text marking.now.sources marking.now.parts trace.now.parts) }
+        ≡ codes " by " ++ parts_text marking.now.sources marking.now.parts trace.now.parts) }
 {
     if !are_parts(parts, trace) {
-        parts.text.bytes.clear();
+        parts.text.bytes.truncate(BY_SIZE);
         push_parts(&mut parts.text, marking, trace.parts.as_slice())?;
         parts.numbers = trace.parts.as_slice();
     }
     Ok(())
 }
 
-/// What follows a word in its line: its parts, and what it is for.
+/// What a word is for.
 #[derive(Drop)]
-struct Ending<'a> {
-    /// The parts.
-    parts: PartsText<'a>,
-    /// What it is for.
-    causes: &'a [Word],
-    /// These as text.
+struct CausesText<'a> {
+    /// The options and inputs.
+    names: &'a [Word],
+    /// These as text, with the end of the line.
     text: Vec<u8>,
 }
 
-/// Adds what follows a word with parts of this text that is for these.
-fn push_ending(text: &mut Vec<u8>, parts: &[u8], causes: &[Word]) -> Result<(), AllocError>
-    ensures { OnOk result (text.new.items
-        ≡ text.old.items ++ codes " by " ++ parts.now ++ causes_text causes.now ++ newline ∷ []) }
+/// Adds what a word is for, and ends its line.
+fn push_ending(text: &mut Vec<u8>, names: &[Word]) -> Result<(), AllocError>
+    ensures { OnOk result (text.new.items ≡ text.old.items ++ causes_text names.now ++ newline ∷ []) }
 {
-    text.extend_from_slice(b" by ")?;
-    text.extend_from_slice(parts)?;
-    push_causes(text, causes)?;
+    push_causes(text, names)?;
     text.push(b'\n')?;
     Ok(())
 }
 
-/// Whether this follows a word.
-#[tactic(auto, using(crate::proofs::WordTraces::same_words))]
-fn is_ending(ending: &Ending<'_>, trace: &Trace) -> bool
-    ensures { IsTrue result → (ending.now.parts.numbers.now ≡ trace.now.parts) × (ending.now.causes.now ≡ trace.now.causes) }
+/// What a word is for, as text.
+fn causes_of_text<'a>(alloc: Global, names: &'a [Word]) -> Result<CausesText<'a>, AllocError>
+    ensures { IfOk result (λ causes. (causes.names.now ≡ names.now)
+        × (causes.text.items ≡ causes_text names.now ++ newline ∷ [])) }
 {
-    are_parts(&ending.parts, trace) && ending.causes == trace.causes.as_slice()
+    let mut text = Vec::new(alloc);
+    push_ending(&mut text, names)?;
+    Ok(CausesText { names, text })
 }
 
-/// What follows a word. What followed the last one is kept if it is the same, and else the text of
-/// its parts if these are.
-fn renew_ending<'a>(
-    ending: &mut Ending<'a>,
-    marking: &Marking<'_>,
-    trace: &'a Trace,
-) -> Result<(), AllocError>
-    requires last { IsKept marking.now.sources ending.old.parts.text.last }
-    requires parts { ending.old.parts.text.bytes.items
-        ≡ parts_text marking.now.sources marking.now.parts ending.old.parts.numbers.now }
-    requires text { ending.old.text.items
-        ≡ ending_text marking.now.sources marking.now.parts ending.old.parts.numbers.now ending.old.causes.now }
-    ensures last { OnOk result (IsKept marking.now.sources ending.new.parts.text.last) }
-    ensures parts { OnOk result (ending.new.parts.text.bytes.items
-        ≡ parts_text marking.now.sources marking.now.parts ending.new.parts.numbers.now) }
-    ensures kept { OnOk result (ending.new.text.items
-        ≡ ending_text marking.now.sources marking.now.parts ending.new.parts.numbers.now ending.new.causes.now) }
-    ensures of { OnOk result (ending.new.text.items
-        ≡ ending_text marking.now.sources marking.now.parts trace.now.parts trace.now.causes) }
+/// Whether a word is for these.
+#[tactic(auto, using(crate::proofs::WordTraces::same_words))]
+fn are_causes(causes: &CausesText<'_>, trace: &Trace) -> bool
+    ensures { IsTrue result → causes.now.names.now ≡ trace.now.causes }
 {
-    if !is_ending(ending, trace) {
-        renew_parts(&mut ending.parts, marking, trace)?;
-        ending.causes = trace.causes.as_slice();
-        ending.text.clear();
-        push_ending(
-            &mut ending.text,
-            ending.parts.text.bytes.as_slice(),
-            ending.causes,
-        )?;
+    causes.names == trace.causes.as_slice()
+}
+
+/// What a word is for, as text. That of the last one is kept if it is the same.
+fn renew_causes<'a>(causes: &mut CausesText<'a>, trace: &'a Trace) -> Result<(), AllocError>
+    requires { causes.old.text.items ≡ causes_text causes.old.names.now ++ newline ∷ [] }
+    ensures names { OnOk result (causes.new.names.now ≡ trace.now.causes) }
+    ensures text { OnOk result (causes.new.text.items ≡ causes_text trace.now.causes ++ newline ∷ []) }
+{
+    if !are_causes(causes, trace) {
+        causes.text.clear();
+        push_ending(&mut causes.text, trace.causes.as_slice())?;
+        causes.names = trace.causes.as_slice();
     }
     Ok(())
 }
 
-/// Adds the line of a word, which ends so.
-fn push_trace(text: &mut Vec<u8>, word: &Word, ending: &[u8]) -> Result<(), AllocError>
-    ensures { OnOk result (text.new.items ≡ text.old.items ++ codes "  " ++ quoted word.now ++ ending.now) }
+/// Adds the line of a word, which ends with its parts and what it is for.
+fn push_trace(
+    text: &mut Vec<u8>,
+    word: &Word,
+    parts: &PartsText<'_>,
+    causes: &CausesText<'_>,
+) -> Result<(), AllocError>
+    ensures { OnOk result (text.new.items
+        ≡ text.old.items ++ codes "  " ++ quoted word.now ++ parts.now.text.bytes.items ++ causes.now.text.items) }
 {
     text.extend_from_slice(b"  ")?;
     push_quoted(text, word)?;
-    text.extend_from_slice(ending)
+    text.extend_from_slice(parts.text.bytes.as_slice())?;
+    text.extend_from_slice(causes.text.as_slice())
 }
 
 /// Adds the lines of words.
@@ -332,17 +322,12 @@ fn push_all_traces(
         (text.new.items ≡ text.old.items
         ++ flat_map (trace_text marking.now.sources marking.now.parts) traces.now) }
 {
-    let parts = parts_of_text(alloc, marking, &[])?;
-    let mut first = Vec::new(alloc);
-    push_ending(&mut first, parts.text.bytes.as_slice(), &[])?;
-    let mut ending = Ending {
-        parts,
-        causes: &[],
-        text: first,
-    };
+    let mut parts = parts_of_text(alloc, marking, &[])?;
+    let mut causes = causes_of_text(alloc, &[])?;
     for trace in traces {
-        renew_ending(&mut ending, marking, trace)?;
-        push_trace(text, &trace.word, ending.text.as_slice())?;
+        renew_parts(&mut parts, marking, trace)?;
+        renew_causes(&mut causes, trace)?;
+        push_trace(text, &trace.word, &parts, &causes)?;
     }
     Ok(())
 }

@@ -10,12 +10,13 @@ ghost use Rattle.std.specs.Prelude.{◌≡◌, ◌++◌, IfOk, OnOk, codes};
 
 use crate::cancelling::Cancellers;
 use crate::fates_json::put_spot;
+use crate::lending::{LentLine, lent_lines};
 use crate::origins::Marking;
 use crate::traces::Trace;
 use crate::tracing::caused_at;
 use drv_check::{MarkedPart, Source};
 use drv_forms::{put_word, put_words};
-use drv_words::{Command, Listing, PlanLine, Word, plan_lines};
+use drv_words::{Command, Listing, Word};
 use json::{Pretty, Token};
 use std::alloc::{AllocError, Global};
 
@@ -188,7 +189,7 @@ pub(crate) fn put_origins<'x>(
     out: &mut Pretty,
     marking: &'x Marking<'x>,
     switches: &'x Cancellers<'x>,
-    lines: &[PlanLine],
+    lines: &[LentLine<'_>],
 ) -> Result<(), AllocError>
     requires { switches.now ≡ marking.now.line.switches }
     ensures { OnOk result
@@ -197,9 +198,9 @@ pub(crate) fn put_origins<'x>(
     out.token(Token::BeginArray)?;
     let mut place = 0;
     while place < lines.len() {
-        let command = &lines[place].command;
-        let traces = caused_at(alloc, marking, switches, place, command)?;
-        put_traces(out, marking, command, &traces)?;
+        let line = &lines[place];
+        let traces = caused_at(alloc, marking, switches, place, line.command)?;
+        put_traces(out, marking, line.command, &traces)?;
         place += 1;
     }
     out.token(Token::EndArray)
@@ -210,7 +211,7 @@ pub(crate) fn put_origins<'x>(
 pub(crate) fn origins_json(alloc: Global, marking: &Marking<'_>) -> Result<Word, AllocError>
     ensures { IfOk result (λ text. text ≡ origins_json marking.now) }
 {
-    let lines = plan_lines(alloc, marking.plan)?;
+    let lines = lent_lines(alloc, marking.plan)?;
     let switches = Cancellers::new(alloc, marking.line.switches.as_slice())?;
     let mut out = Pretty::new(alloc);
     put_origins(alloc, &mut out, marking, &switches, lines.as_slice())?;

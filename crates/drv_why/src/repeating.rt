@@ -8,10 +8,11 @@ ghost use Rattle.std.specs.Prelude.{◌≡◌, IsTrue, MatchOption, OnOk, drop, 
 use crate::cancelling::Cancellers;
 use crate::causes::Case;
 use crate::matching::is_named;
+use crate::names::Names;
 use crate::taking::{add_name, is_hit, is_this};
 use drv_args::Switch;
 use drv_match::Pattern;
-use drv_words::{Listing, Word};
+use drv_words::Word;
 use std::alloc::{AllocError, Global};
 
 /// Whether a switch has this argument, if one is asked for.
@@ -149,7 +150,7 @@ fn find_repeated(
 pub(crate) fn add_repeated(
     alloc: Global,
     case: &Case<'_>,
-    names: &mut Listing<Word>,
+    names: &mut Names,
     near: &mut usize,
     pattern: &Pattern<'_>,
 ) -> Result<(), AllocError>

@@ -9,7 +9,7 @@ ghost use Rattle.std.specs.Prelude.{◌≡◌, ◌<◌, IfOk, OnOk, drop, length
 
 use crate::cancelling::Cancellers;
 use crate::causes::{asked_options, is_true};
-use crate::walking::{Walk, after_token, gives, is_behind, is_passed, reach};
+use crate::walking::{Walk, after_token, gives, is_idle, is_over, is_passed, reach};
 use drv_syntax::{Leaf, SpecTree, TestKind, Token, TokenKind};
 use drv_words::{Listing, Word};
 use std::alloc::{AllocError, Global};
@@ -149,7 +149,7 @@ impl Way {
     }
 
     /// Takes the tokens of a tree from a place on.
-    #[tactic(auto, using(crate::proofs::PartTakers::token_next, crate::proofs::PartTakers::token_behind))]
+    #[tactic(auto, using(crate::proofs::WayEnds::token_met_next))]
     pub(crate) fn take_from(
         &mut self,
         alloc: Global,
@@ -165,8 +165,12 @@ impl Way {
         let mut place = first;
         while place < tokens.len() {
             let token = tokens[place];
-            if is_behind(self.walk, token) {
+            if is_over(self.walk, token) {
                 return Ok(());
+            }
+            if is_idle(self.walk, token) {
+                place += 1;
+                continue;
             }
             self.take_token(alloc, switches, &Met { tree, place, token })?;
             place += 1;

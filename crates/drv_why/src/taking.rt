@@ -12,6 +12,7 @@ ghost use Rattle.std.specs.Prelude.{◌≡◌, ◌∷◌, ◌<◌, IfOk, OnOk, l
 use crate::cancelling::Cancellers;
 use crate::fates::is_live;
 use crate::matching::is_named;
+use crate::names::Names;
 use drv_args::Switch;
 use drv_match::Pattern;
 use drv_words::{Listing, Word};
@@ -25,11 +26,7 @@ fn is_among(names: &[Word], name: &[u8]) -> bool
 }
 
 /// Adds a name, unless it is there.
-pub(crate) fn add_name(
-    alloc: Global,
-    names: &mut Listing<Word>,
-    name: &[u8],
-) -> Result<(), AllocError>
+pub(crate) fn add_name(alloc: Global, names: &mut Names, name: &[u8]) -> Result<(), AllocError>
     ensures { OnOk result (names.new ≡ with_name names.old name.now) }
 {
     if is_among(names.as_slice(), name) {
@@ -41,11 +38,7 @@ pub(crate) fn add_name(
 
 /// Adds several names, each unless it is there.
 #[tactic(auto, using(crate::proofs::LineCauses::name_next))]
-pub(crate) fn add_names(
-    alloc: Global,
-    names: &mut Listing<Word>,
-    others: &[Word],
-) -> Result<(), AllocError>
+pub(crate) fn add_names(alloc: Global, names: &mut Names, others: &[Word]) -> Result<(), AllocError>
     ensures { OnOk result (names.new ≡ with_names names.old others.now) }
 {
     for name in others {

@@ -11,11 +11,11 @@ ghost use Rattle.std.specs.Prelude.{◌≡◌, [], IfOk, IsTrue, List, None, OnO
 
 use crate::causes::{Case, leaf_takes};
 use crate::halts::Trail;
+use crate::names::Names;
 use crate::repeating::add_repeated;
 use crate::takers::Taker;
 use crate::taking::add_names;
 use drv_match::Pattern;
-use drv_words::{Listing, Word};
 use std::alloc::{AllocError, Global};
 
 /// Where the switch and the input mostly are that the next word repeats.
@@ -137,7 +137,7 @@ impl Kept {
 fn add_taken(
     alloc: Global,
     case: &Case<'_>,
-    names: &mut Listing<Word>,
+    names: &mut Names,
     near: &mut Near,
     taker: &Taker,
 ) -> Result<(), AllocError>
@@ -164,7 +164,7 @@ fn add_taken(
 fn add_all_taken(
     alloc: Global,
     case: &Case<'_>,
-    names: &mut Listing<Word>,
+    names: &mut Names,
     near: &mut Near,
     takers: &[Taker],
 ) -> Result<(), AllocError>
@@ -184,7 +184,7 @@ pub(crate) fn causes_of(
     kept: &mut Kept,
     case: &Case<'_>,
     numbers: &[usize],
-) -> Result<Listing<Word>, AllocError>
+) -> Result<Names, AllocError>
     requires kept { kept.old.trail.course.way.takers
         ≡ last_takers case.now.line.switches case.now.parts case.now.outers kept.old.number }
     requires on { IsOn case.now.line.switches case.now.parts kept.old.trail }
@@ -193,7 +193,7 @@ pub(crate) fn causes_of(
     ensures on { OnOk result (IsOn case.now.line.switches case.now.parts kept.new.trail) }
     ensures causes { IfOk result (λ names. names ≡ causes_of case.now numbers.now) }
 {
-    let mut names = Listing::new(alloc);
+    let mut names = Names::new(alloc);
     for number in numbers {
         kept.renew(alloc, case, *number)?;
         add_all_taken(alloc, case, &mut names, &mut kept.near, kept.trail.takers())?;

@@ -1,15 +1,18 @@
 //! The parts of texts that each word of a command has its bytes from, by marks.
 
 ghost use Rattle.drv_forms.specs.Difference.{words_of};
-ghost use Rattle.drv_why.specs.Code.Marks.{IsNamedAt, has_mark, unmarked};
+ghost use Rattle.drv_why.specs.Code.Marks.{IsNamedAt, behind_mark, has_mark, unmarked};
 ghost use Rattle.drv_why.specs.Traces.{are_words, at_word, before_name, in_mark, is_found, is_marks, no_traces, outside_marks, read, taken};
 ghost use Rattle.drv_why.specs.Traces.{command_traces, traces_by, traces_of, with_byte, with_digit};
 ghost use Rattle.drv_why.specs.Traces.{all_worded, with_trace, with_word, worded, words_read};
+ghost use Rattle.std.specs.Cmp.Lexicographic.{pointwise};
 ghost use Rattle.std.specs.Option.{option_map};
-ghost use Rattle.std.specs.Prelude.{◌≡◌, IfOk, OnOk, slice_get, true};
+ghost use Rattle.std.specs.Prelude.{◌≡◌, ◌<◌, IfOk, IfSome, IsSome, OnOk, Option, length, nat_eq, slice_get, true, ℕ};
 
+use crate::lending::LentLine;
+use crate::names::Names;
 use crate::numbers::Numbers;
-use drv_words::{Command, Listing, PlanLine, Word};
+use drv_words::{Command, Listing, Word};
 use std::alloc::{AllocError, Global};
 
 /// The byte that a mark begins and ends with.
@@ -26,7 +29,7 @@ pub(crate) struct Trace {
     /// The numbers of the parts that those are of.
     pub(crate) parts: Numbers,
     /// The options and inputs of the line that it is for.
-    pub(crate) causes: Listing<Word>,
+    pub(crate) causes: Names,
     /// The last mark of the command.
     last: Option<usize>,
     /// That mark, if no byte follows it yet.
@@ -61,7 +64,7 @@ impl Trace {
         Trace {
             word: Word::empty(alloc),
             parts: Numbers::new(alloc),
-            causes: Listing::new(alloc),
+            causes: Names::new(alloc),
             last,
             due: last,
             number: None,
@@ -142,7 +145,7 @@ fn unmarked(alloc: Global, last: Option<usize>, bytes: &[u8]) -> Result<Trace, A
     Ok(Trace {
         word: Word::from_bytes(alloc, bytes)?,
         parts,
-        causes: Listing::new(alloc),
+        causes: Names::new(alloc),
         last,
         due: None,
         number: None,
@@ -162,6 +165,32 @@ fn read(alloc: Global, last: Option<usize>, bytes: &[u8]) -> Result<Trace, Alloc
         trace.take(*byte)?;
     }
     Ok(trace)
+}
+
+/// The number of the mark that a word is, if it is one mark and nothing else.
+fn mark_number(bytes: &[u8]) -> Option<usize>
+    ensures some { IsSome result → 0 < length bytes.now }
+    ensures read { IfSome result (λ number. (last : Option ℕ) → read (at_word last) bytes.now ≡ behind_mark last number) }
+{
+    let [first, rest @ ..] = bytes else {
+        return None;
+    };
+    if *first != MARK_END {
+        return None;
+    }
+    let mut number = 0;
+    let mut left = rest;
+    while let [byte, after @ ..] = left {
+        if *byte == MARK_END {
+            return match after {
+                [] => Some(number),
+                [_, ..] => None,
+            };
+        }
+        number = with_digit(number, *byte);
+        left = after;
+    }
+    None
 }
 
 /// Whether bytes are marks alone.
@@ -193,10 +222,15 @@ impl Traces {
         Ok(())
     }
 
-    /// Takes one more word.
+    /// Takes one more word. Most words of a marked command are marks or have none.
+    #[tactic(auto, using(crate::proofs::LoneMarks::mark_taken))]
     fn take(&mut self, alloc: Global, bytes: &[u8]) -> Result<(), AllocError>
         ensures { OnOk result (self.new ≡ with_word self.old bytes.now) }
     {
+        if let Some(number) = mark_number(bytes) {
+            self.last = Some(number);
+            return Ok(());
+        }
         let trace = read(alloc, self.last, bytes)?;
         self.push(bytes, trace)
     }
@@ -230,11 +264,31 @@ fn before_name<'a>(word: &'a [u8], name: &[u8]) -> &'a [u8]
     word.get(..size).unwrap_or(word)
 }
 
+/// Whether bytes are the same. Words are short, so a plain loop costs less than `==`.
+#[tactic(auto, using(crate::proofs::WordTraces::same_next))]
+fn is_same(bytes: &[u8], others: &[u8]) -> bool
+    ensures { result ≡ pointwise nat_eq bytes.now others.now }
+{
+    let mut left = bytes;
+    let mut others_left = others;
+    while let [byte, rest @ ..] = left {
+        let [other, others_rest @ ..] = others_left else {
+            return false;
+        };
+        if *byte != *other {
+            return false;
+        }
+        left = rest;
+        others_left = others_rest;
+    }
+    matches!(others_left, [])
+}
+
 /// Whether a word is a name, or the path of a file with that name in a folder.
 fn is_found(word: &[u8], name: &[u8]) -> bool
     ensures { result ≡ is_found word.now name.now }
 {
-    word == name || (word.ends_with(name) && before_name(word, name).ends_with(b"/"))
+    is_same(word, name) || (word.ends_with(name) && before_name(word, name).ends_with(b"/"))
 }
 
 /// Whether a word is what a trace names.
@@ -335,14 +389,14 @@ fn command_traces(
 pub(crate) fn traces_at(
     alloc: Global,
     command: &Command,
-    lines: &[PlanLine],
+    lines: &[LentLine<'_>],
     place: usize,
 ) -> Result<Option<Listing<Trace>>, AllocError>
     ensures { IfOk result
         (λ traces. traces ≡ traces_by command.now (slice_get lines.now place)) }
 {
     match lines.get(place) {
-        Some(line) => command_traces(traces_of(alloc, &line.command)?, command),
+        Some(line) => command_traces(traces_of(alloc, line.command)?, command),
         None => Ok(None),
     }
 }

@@ -1,8 +1,11 @@
 //! The way through the tokens of a text to the words that a part of it gives.
 
+ghost use Rattle.drv_syntax.specs.declared.token.TokenKind.TheVariants.{Plain};
+ghost use Rattle.drv_why.specs.Code.Takers.{has_ended, is_over};
 ghost use Rattle.drv_why.specs.Walks.{after_test, after_token, around, at_item, behind, behind_by, blank_by, end_way, gives, inside};
 ghost use Rattle.drv_why.specs.Walks.{is_passed, is_run, last_by, opened_by, past, reach, runs, tested_by, untold_by, way_to};
-ghost use Rattle.std.specs.Prelude.{◌≡◌, nat_le};
+ghost use Rattle.drv_why.specs.declared.walking.Waypoint.TheVariants.{Behind};
+ghost use Rattle.std.specs.Prelude.{◌≡◌, IsTrue};
 
 use drv_syntax::{TestKind, Token, TokenKind};
 
@@ -71,11 +74,32 @@ pub(crate) fn reach(walk: Walk, token: Token) -> Walk
     }
 }
 
-/// Whether a token is behind the part.
-pub(crate) fn is_behind(walk: Walk, token: Token) -> bool
-    ensures { result ≡ nat_le walk.last token.start }
+/// Whether the way has ended.
+fn has_ended(walk: Walk) -> bool
+    ensures { result ≡ has_ended walk.waypoint walk.to }
 {
-    walk.last <= token.start as usize
+    match walk.waypoint {
+        Waypoint::Around => false,
+        Waypoint::First | Waypoint::Behind | Waypoint::Before | Waypoint::Failed => walk.to == 0,
+    }
+}
+
+/// Whether the way goes on to no token from this one on.
+pub(crate) fn is_over(walk: Walk, token: Token) -> bool
+    ensures { result ≡ is_over walk token }
+{
+    walk.last <= token.start as usize || has_ended(walk)
+}
+
+/// Whether a token is a plain one behind another item, which changes nothing.
+pub(crate) fn is_idle(walk: Walk, token: Token) -> bool
+    ensures behind { IsTrue result → walk.waypoint ≡ Behind }
+    ensures plain { IsTrue result → token.kind ≡ Plain }
+{
+    match walk.waypoint {
+        Waypoint::Behind => matches!(token.kind, TokenKind::Plain),
+        Waypoint::Around | Waypoint::First | Waypoint::Before | Waypoint::Failed => false,
+    }
 }
 
 /// Whether a token is not on the way, by its place.

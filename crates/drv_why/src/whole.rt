@@ -11,11 +11,12 @@ ghost use Rattle.std.specs.Prelude.{◌≡◌, ◌++◌, IfOk, OnOk};
 use crate::cancelling::Cancellers;
 use crate::fates::{Parts, fates_text};
 use crate::fates_json::put_fates;
+use crate::lending::lent_lines;
 use crate::origins::{Marking, origins_text};
 use crate::origins_json::put_origins;
 use crate::report::Report;
 use drv_check::Naming;
-use drv_words::{Word, plan_lines};
+use drv_words::Word;
 use json::{Pretty, Token};
 use std::alloc::{AllocError, Global};
 
@@ -93,7 +94,7 @@ fn put_commands<'x>(
     requires { switches.now ≡ marking.now.line.switches }
     ensures { OnOk result (out.new ≡ out.old ++ json_tokens (origins_value marking.now)) }
 {
-    let lines = plan_lines(alloc, marking.plan)?;
+    let lines = lent_lines(alloc, marking.plan)?;
     put_origins(alloc, out, marking, switches, lines.as_slice())
 }
 

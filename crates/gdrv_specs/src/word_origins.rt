@@ -36,8 +36,8 @@ use drv_run::{Ending, Work};
 use drv_search::Prefixes;
 use drv_specs::{SpecSet, SpecsFault};
 use drv_system::{FactTable, Outside, System};
-use drv_why::Marking;
-use drv_words::{Listing, Plan, PlanLine, Word, plan_lines};
+use drv_why::{LentLine, Marking, lent_lines};
+use drv_words::{Listing, Plan, Word};
 use std::alloc::{AllocError, Global};
 
 /// A line that was read, and what the answer about it has.
@@ -157,15 +157,15 @@ fn marked_work<S: System>(
 }
 
 /// The lines of a plan, none where there is no plan.
-fn lines_in(alloc: Global, work: &Option<Work>) -> Result<Listing<PlanLine>, AllocError>
-    ensures { IfOk result (λ lines. lines ≡ lines_in work.now) }
+fn lines_in<'a>(alloc: Global, work: &'a Option<Work>) -> Result<Vec<LentLine<'a>>, AllocError>
+    ensures { IfOk result (λ lines. lines.items ≡ lines_in work.now) }
 {
     let Some(work) = work else {
-        return Ok(Listing::new(alloc));
+        return Ok(Vec::new(alloc));
     };
     match plan_of(work) {
-        Some(plan) => plan_lines(alloc, plan),
-        None => Ok(Listing::new(alloc)),
+        Some(plan) => lent_lines(alloc, plan),
+        None => Ok(Vec::new(alloc)),
     }
 }
 

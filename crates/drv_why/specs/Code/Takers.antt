@@ -15,12 +15,16 @@ use Rattle.drv_why.specs.Walks.{after_token, gives, is_passed, reach, way_to}
 use Rattle.drv_why.specs.declared.takers.Taker.TheVariants.{Known, Repeats, Takes}
 use Rattle.drv_why.specs.declared.takers.Taker.{Taker}
 use Rattle.drv_why.specs.declared.takers.Way.{Way}
-use Rattle.std.specs.Prelude.{◌+◌, ◌-◌, Bool, List, [], ◌∷◌, ◌++◌, None, Option, Some, false, if◌then◌else◌, length, nat_le, slice_get, ℕ}
+use Rattle.drv_why.specs.declared.walking.Walk.{Walk}
+use Rattle.drv_why.specs.declared.walking.Waypoint.TheVariants.{Around}
+use Rattle.drv_why.specs.declared.walking.Waypoint.{Waypoint}
+use Rattle.std.specs.Prelude.{◌==◌, ◌||◌, ◌+◌, ◌-◌, Bool, List, [], ◌∷◌, ◌++◌, None, Option, Some, false, if◌then◌else◌, length, nat_le}
+use Rattle.std.specs.Prelude.{slice_get, ℕ}
 
 -- The tokens on the way to a part for whose takings its words are: they are the same for each word of the part. Only private clauses of
--- src/takers.rt and src/telling.rt cite these.
--- Names: `w` is the way to a part and the takers on it so far, `items` the tree of a text, and `n` the place of a token or the number of a
--- part.
+-- src/takers.rt, src/telling.rt and src/walking.rt cite these.
+-- Names: `w` is the way to a part, also with the takers on it so far, `items` the tree of a text, and `n` the place of a token or the
+-- number of a part.
 
 -- what a taker takes for a word
 
@@ -46,6 +50,15 @@ asked_options switches asks label = []
 -- takers with one more, if the words are for what it takes
 abbrev pub with_taker : Bool → List Taker → Taker → List Taker
 with_taker given takers taker = if given then takers ++ taker ∷ [] else takers
+
+-- whether a way with this waypoint has ended, on which tokens are passed over from this byte on
+abbrev pub has_ended : Waypoint → ℕ → Bool
+has_ended Around to = false
+has_ended waypoint to = to == 0
+
+-- whether it goes on to no token from this one on
+abbrev pub is_over : Walk → Token → Bool
+is_over w token = nat_le w.last token.start || has_ended w.waypoint w.to
 
 -- behind a test, which takes these
 abbrev pub test_met : Token → Label → List (List ℕ) → Way → Way
