@@ -1,3 +1,4 @@
+mod Checked
 pub mod Counting
 pub mod LastOfAKind
 mod Ordered

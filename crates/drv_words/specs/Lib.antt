@@ -1,4 +1,5 @@
 pub mod Bytes
+pub mod Checksums
 pub mod Code
 pub mod Counts
 pub mod FileNames

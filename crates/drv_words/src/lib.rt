@@ -13,6 +13,7 @@ mod quoting;
 mod reading_back;
 mod response;
 mod steps;
+mod sums;
 mod word;
 
 pub use answers::{Answer, ClaimAnswer, NotStarted, RemoveAnswer, StartAnswer, WaitAnswer};
@@ -26,4 +27,5 @@ pub use quoting::{push_quoted, quote};
 pub use reading_back::{one_list_of_lines, read_back};
 pub use response::{one_list_of_words, push_marked, respond_text, split, split_onto, split_within};
 pub use steps::{Note, Place, RunEvent, Step};
+pub use sums::checksum;
 pub use word::Word;
