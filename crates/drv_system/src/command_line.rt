@@ -32,14 +32,15 @@ fn argument_length(rt: &HostRuntime, place: usize, room: &mut Vec<u8>) -> io::Re
     Err(io::Error::from(ErrorKind::OutOfMemory))
 }
 
-/// An argument as a word, with all its bytes.
-fn word_of(alloc: Global, bytes: &[u8]) -> io::Result<Word>
+/// The argument at a place as a word, with all its bytes.
+fn word_of(alloc: Global, place: usize, bytes: &[u8]) -> io::Result<Word>
     ensures { IfOk result (λ word. word ≡ bytes.now) }
 {
     let is_plain = bytes.iter().all(|byte| byte.is_ascii());
     // ASCII is UTF-8, and is tested faster.
     if !is_plain && from_utf8(bytes).is_err() {
-        return Err(io::Error::from(ErrorKind::InvalidData));
+        let text = format!(in alloc; "argument {place} is not UTF-8")?;
+        return Err(io::Error::new(ErrorKind::InvalidData, text.as_str()));
     }
     Ok(Word::from_bytes(alloc, bytes)?)
 }
@@ -55,7 +56,7 @@ fn add_arguments(
         let Some(length) = argument_length(rt, place, room)? else {
             break;
         };
-        words.push(word_of(rt.alloc(), &room[..length])?)?;
+        words.push(word_of(rt.alloc(), place, &room[..length])?)?;
     }
     Ok(())
 }
@@ -64,7 +65,7 @@ fn add_arguments(
 /// kit doesn't specify what its runtime returns for an argument, so no clause says which these are.
 ///
 /// # Errors
-/// `OutOfMemory`, or another kind if an argument is not UTF-8.
+/// `OutOfMemory`, or one that says which argument is not UTF-8.
 pub fn arguments(rt: &HostRuntime) -> io::Result<Listing<Word>> {
     let alloc = rt.alloc();
     let mut words = Listing::from_vec(Vec::with_capacity(alloc, ARGUMENTS)?);
@@ -77,12 +78,12 @@ pub fn arguments(rt: &HostRuntime) -> io::Result<Listing<Word>> {
 /// there is no name.
 ///
 /// # Errors
-/// `OutOfMemory`, or another kind if the name is not UTF-8.
+/// `OutOfMemory`, or one that says that argument 0 is not UTF-8.
 pub fn called_as(rt: &HostRuntime) -> io::Result<Word> {
     let alloc = rt.alloc();
     let mut room = vec![in alloc; 0u8; ROOM]?;
     match argument_length(rt, 0, &mut room)? {
-        Some(length) => word_of(alloc, &room[..length]),
+        Some(length) => word_of(alloc, 0, &room[..length]),
         None => Ok(Word::empty(alloc)),
     }
 }

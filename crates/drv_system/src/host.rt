@@ -81,6 +81,12 @@ impl HostSystem {
         }
     }
 
+    /// Whether a command crashed: a signal ended it that no user sends to end a command. gcc's exit
+    /// status is 4 then (GCC manual, "Invoking GCC": an internal compiler error).
+    pub fn has_crashed(&self) -> bool {
+        self.reports.has_crashed()
+    }
+
     /// Sets a variable for later children, but not for this process.
     pub fn set_for_children(&mut self, name: Word, value: Word) -> Result<(), AllocError>
         ensures { self.new.journal ≡ self.old.journal }
@@ -208,6 +214,7 @@ impl System for HostSystem {
             }
             Err(e) => {
                 let answer = StartAnswer::NotStarted(reason_of(&e));
+                self.reports.note_refusal(e);
                 self.journal.push_reserved(Event::Run(RunEvent {
                     step,
                     answer: Answer::Start(answer),

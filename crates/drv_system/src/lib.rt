@@ -18,6 +18,7 @@ mod reporting;
 mod reports;
 mod script;
 mod seed;
+mod signals;
 mod system;
 
 pub use command_line::{arguments, called_as, complain};

@@ -11,9 +11,6 @@ use std::io::{self, Error, ErrorKind, PipeReader};
 use std::os::unix::process::ExitStatusExt;
 use std::process::{self, Child, ExitStatus};
 
-/// The signal that ends a process which writes into a pipe without a reader.
-const SIGPIPE: i32 = 13;
-
 /// The destination of a command's standard output.
 #[derive(Clone, Copy)]
 pub enum Output {
@@ -122,7 +119,7 @@ pub fn call(rt: &HostRuntime, command: &Command) -> Result<WaitAnswer, NotStarte
 
 /// The text of a word, or an error if it is not text.
 fn text(word: &[u8]) -> io::Result<&str> {
-    as_text(word).ok_or(Error::from(ErrorKind::InvalidInput))
+    as_text(word).ok_or(Error::new(ErrorKind::InvalidInput, "a word is not UTF-8"))
 }
 
 /// Why a program was not started.
@@ -183,10 +180,7 @@ pub fn answer_of(status: Option<ExitStatus>) -> WaitAnswer {
     }
 }
 
-/// Whether a child of this status ended since nothing read its pipe any more.
-pub fn is_without_reader(status: Option<ExitStatus>) -> bool {
-    match status {
-        Some(status) => status.signal() == Some(SIGPIPE),
-        None => false,
-    }
+/// The signal that ended a child of this status, if one did.
+pub fn signal_of(status: Option<ExitStatus>) -> Option<i32> {
+    status?.signal()
 }
