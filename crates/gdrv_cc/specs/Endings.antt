@@ -8,3 +8,9 @@ abbrev pub status_of : Outcome → ℕ
 status_of (Done status) = status
 status_of (Unnoted status) = status
 status_of OutOfMemory = 1
+
+-- the outcome of a call in which a command of the compiler crashed: gcc's status is 4 (`ICE_EXIT_CODE` of gcc's driver)
+abbrev pub after_crash : Outcome → Outcome
+after_crash (Done status) = Done 4
+after_crash (Unnoted status) = Unnoted 4
+after_crash OutOfMemory = OutOfMemory

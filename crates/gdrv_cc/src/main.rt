@@ -2,7 +2,7 @@
 //! commands carried out by the driver with the spec file beside the program.
 #![tactic(auto)]
 
-ghost use Rattle.gdrv_cc.specs.Endings.{status_of};
+ghost use Rattle.gdrv_cc.specs.Endings.{after_crash, status_of};
 ghost use Rattle.std.specs.Prelude.{◌≡◌};
 
 mod completion;
@@ -21,7 +21,8 @@ use std::process::ExitCode;
 
 const OUT_OF_MEMORY: &[u8] = b"gdrv-cc: error: out of memory\n";
 
-const BAD_ARGUMENT: &[u8] = b"gdrv-cc: error: bad argument\n";
+/// The exit status of a call in which a command of the compiler crashed (`ICE_EXIT_CODE` of gcc).
+const CRASHED: u8 = 4;
 
 /// The exit status of an outcome. Where memory lacked, it says so.
 fn finish(rt: &HostRuntime, outcome: &Outcome) -> ExitCode
@@ -44,12 +45,22 @@ fn finish(rt: &HostRuntime, outcome: &Outcome) -> ExitCode
 fn without_arguments(rt: &HostRuntime, error: &io::Error) -> ExitCode
     ensures { result.status ≡ 1 }
 {
-    if error.kind() == ErrorKind::OutOfMemory {
-        complain(rt, OUT_OF_MEMORY);
-    } else {
-        complain(rt, BAD_ARGUMENT);
+    match format!(in rt.alloc(); "gdrv-cc: error: {error}\n") {
+        Ok(text) if error.kind() != ErrorKind::OutOfMemory => complain(rt, text.as_bytes()),
+        _ => complain(rt, OUT_OF_MEMORY),
     }
     ExitCode::from(1)
+}
+
+/// The outcome of a call in which a command of the compiler crashed, with gcc's status for that.
+fn after_crash(outcome: Outcome) -> Outcome
+    ensures { result ≡ after_crash outcome }
+{
+    match outcome {
+        Outcome::Done(_) => Outcome::Done(CRASHED),
+        Outcome::Unnoted(_) => Outcome::Unnoted(CRASHED),
+        Outcome::OutOfMemory => Outcome::OutOfMemory,
+    }
 }
 
 /// The path of the spec file beside this program; none where the system doesn't say where the
@@ -89,10 +100,15 @@ fn call(rt: &HostRuntime) -> io::Result<Outcome> {
         seed,
     };
     let outcome = compile(rt.alloc(), &request, &mut sys, &mut host);
+    let has_crashed = sys.has_crashed();
     // The process ends: what dropping them takes is saved.
     forget(sys);
     forget(host);
-    Ok(outcome)
+    Ok(if has_crashed {
+        after_crash(outcome)
+    } else {
+        outcome
+    })
 }
 
 fn main(rt: HostRuntime) -> ExitCode {
