@@ -23,6 +23,7 @@ pub mod ParsedGrammar
 pub mod PlainTokens
 pub mod Progress
 pub mod Refusals
+pub mod SaidRuns
 pub mod Shorter
 pub mod Swaps
 pub mod TestsRead

@@ -21,6 +21,12 @@ stops lists.InArguments = ascii.backslash ∷ ascii.percent ∷ ascii.bar ∷ as
 abbrev pub runs : ListKind → ℕ → Bool
 runs kind b = not (is_of (stops kind) b)
 
+-- the bytes that end a text for the user in a list of this kind, and the one that escapes the next
+abbrev pub said_stops : ListKind → List ℕ
+said_stops lists.Top = ascii.backslash ∷ ascii.newline ∷ []
+said_stops lists.InX = ascii.backslash ∷ ascii.newline ∷ ascii.semicolon ∷ ascii.closing_brace ∷ []
+said_stops lists.InArguments = ascii.backslash ∷ ascii.newline ∷ []
+
 -- the byte is one of a run of this kind
 abbrev pub in_run : RunKind → ℕ → Bool
 in_run kinds.White = is_white
