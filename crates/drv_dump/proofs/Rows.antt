@@ -71,7 +71,7 @@ no_negation_of_several : ours_of (codes "%{!%:dwarf-version-gt(3):-g}") ≡ Err 
 no_negation_of_several = refl
 
 -- two forms of several pieces beside one another
-whole_forms_in_a_row : ours_of (codes "%{c:%W{o*}%{!o*:-o %w%b%O}}%{!c:-o %d%w%u%O} %{o*}") ≡ Ok (codes "%(object) %W{o*}")
+whole_forms_in_a_row : ours_of (codes "%{c:%W{o*}%{!o*:-o %w%b%O}}%{!c:-o %d%w%u%O} %{m*}") ≡ Ok (codes "%(object) %(machine_options)")
 whole_forms_in_a_row = refl
 
 -- a function that this driver lacks is refused where it would be called

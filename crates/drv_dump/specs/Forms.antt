@@ -22,7 +22,6 @@ of_gcc form.ExtractDwo = codes "objcopy --extract-dwo"
 of_gcc form.StripDwo = codes "objcopy --strip-dwo"
 of_gcc form.LinkTimeOptions = codes "%{flto} %{fno-lto} %{flto=*}"
 of_gcc form.LinkerChoice = codes "%{fuse-ld=*:-fuse-ld=%*}"
-of_gcc form.LinkOutput = codes "%{o*}"
 of_gcc form.MachineOptions = codes "%{m*}"
 
 -- what it is in this driver's language
@@ -39,7 +38,6 @@ ours form.ExtractDwo = codes "%(objcopy_cmd) --extract-dwo"
 ours form.StripDwo = codes "%(objcopy_cmd) --strip-dwo"
 ours form.LinkTimeOptions = []
 ours form.LinkerChoice = []
-ours form.LinkOutput = codes "%W{o*}"
 ours form.MachineOptions = codes "%(machine_options)"
 
 -- its bytes after the first one
@@ -50,8 +48,7 @@ others form = length (of_gcc form) - 1
 abbrev pub whole_forms : List WholeForm
 whole_forms =
     form.Object ∷ form.OlderObject ∷ form.SplitObject ∷ form.OlderSplitObject ∷ form.Dependencies ∷ form.OlderDwoName ∷ form.DwoName
-    ∷ form.Preprocessor ∷ form.ExtractDwo ∷ form.StripDwo ∷ form.LinkTimeOptions ∷ form.LinkerChoice ∷ form.LinkOutput ∷ form.MachineOptions
-    ∷ []
+    ∷ form.Preprocessor ∷ form.ExtractDwo ∷ form.StripDwo ∷ form.LinkTimeOptions ∷ form.LinkerChoice ∷ form.MachineOptions ∷ []
 
 -- the first of these forms that a text begins with
 abbrev pub first_at : List WholeForm → List ℕ → Option WholeForm

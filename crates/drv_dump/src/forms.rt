@@ -34,8 +34,6 @@ pub(crate) enum WholeForm {
     LinkTimeOptions,
     /// The choice of a linker, which the name of the linker has made.
     LinkerChoice,
-    /// The output of the link, which is removed where the link fails.
-    LinkOutput,
     /// The options of the line for the machine, which gcc adds those to that it was built for.
     MachineOptions,
 }
@@ -60,7 +58,6 @@ impl WholeForm {
             WholeForm::StripDwo => b"objcopy --strip-dwo",
             WholeForm::LinkTimeOptions => b"%{flto} %{fno-lto} %{flto=*}",
             WholeForm::LinkerChoice => b"%{fuse-ld=*:-fuse-ld=%*}",
-            WholeForm::LinkOutput => b"%{o*}",
             WholeForm::MachineOptions => b"%{m*}",
         }
     }
@@ -78,7 +75,6 @@ impl WholeForm {
             WholeForm::ExtractDwo => b"%(objcopy_cmd) --extract-dwo",
             WholeForm::StripDwo => b"%(objcopy_cmd) --strip-dwo",
             WholeForm::LinkTimeOptions | WholeForm::LinkerChoice => b"",
-            WholeForm::LinkOutput => b"%W{o*}",
             WholeForm::MachineOptions => b"%(machine_options)",
         }
     }
@@ -126,8 +122,6 @@ pub(crate) fn form_at(text: &[u8]) -> Option<WholeForm>
         Some(WholeForm::LinkTimeOptions)
     } else if WholeForm::LinkerChoice.begins(text) {
         Some(WholeForm::LinkerChoice)
-    } else if WholeForm::LinkOutput.begins(text) {
-        Some(WholeForm::LinkOutput)
     } else if WholeForm::MachineOptions.begins(text) {
         Some(WholeForm::MachineOptions)
     } else {
