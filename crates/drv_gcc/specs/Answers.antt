@@ -1,4 +1,5 @@
 use Rattle.drv_words.specs.Bytes as byte
+use Rattle.drv_words.specs.Checksums.{checksum}
 use Rattle.std.specs.Cmp.Lexicographic.{pointwise}
 use Rattle.std.specs.Fmt.{decimal}
 use Rattle.std.specs.List.{flat_map, list_any, slice_split, starts_with}
@@ -73,11 +74,11 @@ known_by all word = if list_any (pointwise nat_eq (head word)) all then head wor
 abbrev pub option_lines : List (List ℕ) → List ℕ
 option_lines all = flat_map (λ word. known_by all word ++ byte.newline ∷ []) all
 
--- A written file ends in a mark, which says how many bytes precede it.
+-- A written file ends in a mark, which says how many bytes precede it, and their sum.
 
 -- a written file: the front takes a file only if its mark fits
 abbrev pub with_mark : List ℕ → List ℕ
-with_mark text = text ++ codes "# whole " ++ decimal (length text) ++ codes "\n"
+with_mark text = text ++ codes "# whole " ++ decimal (length text) ++ codes " " ++ decimal (checksum text) ++ codes "\n"
 
 -- what gdrv-cc reads of the gcc itself: its path, its folders, and what it says of itself where commands are shown
 abbrev pub line_of : List ℕ → List ℕ → List ℕ

@@ -7,7 +7,7 @@ ghost use Rattle.std.specs.Cmp.Lexicographic.{pointwise};
 ghost use Rattle.std.specs.List.{flat_map, list_any};
 ghost use Rattle.std.specs.Prelude.{◌≡◌, ◌++◌, [], IfOk, OnOk, nat_eq};
 
-use drv_words::{Listing, Word};
+use drv_words::{Listing, Word, checksum};
 use itoa::Buffer;
 use std::alloc::{AllocError, Global};
 
@@ -106,13 +106,15 @@ pub fn values(alloc: Global, key: &[u8], text: &[u8]) -> Result<Listing<Word>, A
     Ok(found)
 }
 
-/// Adds a text and this mark at its end: how many bytes precede it.
+/// Adds a text and this mark at its end: how many bytes precede it, and their sum.
 pub fn with_mark(text: &Word) -> Result<Word, AllocError>
     ensures { IfOk result (λ file. file ≡ with_mark text.now) }
 {
     let mut file = text.clone()?;
     file.extend_from_slice(b"# whole ")?;
     file.extend_from_slice(Buffer::new().format(text.len()).as_bytes())?;
+    file.extend_from_slice(b" ")?;
+    file.extend_from_slice(Buffer::new().format(checksum(text.as_bytes())).as_bytes())?;
     file.extend_from_slice(b"\n")?;
     Ok(file)
 }
