@@ -1,4 +1,1 @@
-pub mod Code
-pub mod Meant
-pub mod Notes
 pub mod Questions

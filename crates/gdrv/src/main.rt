@@ -2,25 +2,20 @@
 //! and the specs to standard output.
 #![tactic(auto)]
 
-ghost use Rattle.drv_run.specs.Exits.{exit_status_of};
-ghost use Rattle.std.specs.Prelude.{◌≡◌};
+ghost use Rattle.drv_run.specs.Exits.{exit_status_of, told_of};
+ghost use Rattle.std.specs.Io.KnownBytes.{Appends};
+ghost use Rattle.std.specs.Prelude.{◌≡◌, OnOk};
 
-mod meant;
-mod noting;
 mod question;
 mod records;
 
-use drv_run::{EndedCall, Ending, Refusal, drive_over, ending_text};
-use drv_system::{
-    FactTable, HostSystem, Reporter, ScriptSystem, System, arguments, clock_seed, complain,
-};
+use drv_run::{Ending, drive_over, ending_text};
+use drv_system::{FactTable, HostSystem, Reporter, System, arguments, clock_seed, complain};
 use drv_words::{Listing, Word};
-use meant::hints;
-use noting::place_noted;
 use question::{Question, question_of};
 use records::tell_of_records;
 use std::alloc::{AllocError, Global};
-use std::io::{self, ErrorKind};
+use std::io::{self, ErrorKind, Write};
 use std::process::ExitCode;
 
 /// The message where there is no memory for another one.
@@ -29,13 +24,28 @@ const OUT_OF_MEMORY: &[u8] = b"gdrv: out of memory\n";
 /// The message on an argument that is not UTF-8.
 const BAD_ARGUMENT: &[u8] = b"gdrv: bad argument\n";
 
+/// Writes what the user gets of an ending, and no byte more: one line, or nothing where the work was
+/// done.
+///
+/// # Errors
+/// Lack of memory, or why it could not be written.
+fn tell<W: Write>(alloc: Global, to: &mut W, ending: &Ending) -> io::Result<()>
+    ensures { OnOk result
+        (Appends (W.contents to.old) (W.contents to.new) (told_of ending.now)) }
+{
+    let text = ending_text(alloc, ending)?;
+    to.write_all(text.as_bytes())
+}
+
 /// Reports an ending to the user, and returns its exit status.
 fn finish(rt: &HostRuntime, ending: &Ending) -> ExitCode
     ensures { result.status ≡ exit_status_of ending.now }
 {
-    match ending_text(rt.alloc(), ending) {
-        Ok(text) => complain(rt, text.as_bytes()),
-        Err(_) => complain(rt, OUT_OF_MEMORY),
+    let stream = rt.stderr();
+    if let Err(e) = tell(rt.alloc(), &mut io::writer(&stream), ending) {
+        if e.kind() == ErrorKind::OutOfMemory {
+            complain(rt, OUT_OF_MEMORY);
+        }
     }
     ExitCode::from(ending.exit_status())
 }
@@ -62,33 +72,6 @@ fn answer(rt: &HostRuntime, asked: Question) -> ExitCode {
     }
 }
 
-/// What is said of a call after it ended: where a refused spec file has its fault, or which option a
-/// word may have been. Only answers of the call count, and what it did not ask is not there, so no
-/// file is read again.
-fn more_text(alloc: Global, call: &EndedCall, facts: &mut FactTable) -> Word {
-    let Some(line) = &call.line else {
-        return Word::empty(alloc);
-    };
-    let nothing = &mut ScriptSystem::new(
-        alloc,
-        Listing::new(alloc),
-        Listing::new(alloc),
-        Listing::new(alloc),
-        Listing::new(alloc),
-    );
-    let text = match &call.ending {
-        Ending::Refused(Refusal::Specs(_)) => {
-            place_noted(alloc, &line.settings, nothing, facts).ok()
-        }
-        Ending::Done(_) | Ending::Refused(_) => hints(alloc, line, nothing, facts).ok(),
-        Ending::OutOfMemory => return Word::empty(alloc),
-    };
-    match text {
-        Some(text) => text,
-        None => Word::empty(alloc),
-    }
-}
-
 /// Runs the driver for this process. On a terminal it adds a line if built-in specs were used,
 /// since then nothing was compiled.
 fn call(rt: &HostRuntime, args: Listing<Word>) -> Result<ExitCode, AllocError> {
@@ -97,7 +80,6 @@ fn call(rt: &HostRuntime, args: Listing<Word>) -> Result<ExitCode, AllocError> {
     let facts = &mut FactTable::new(rt.alloc());
     let call = drive_over(rt.alloc(), &mut sys, args, seed, facts);
     let status = finish(rt, &call.ending);
-    complain(rt, more_text(rt.alloc(), &call, facts).as_bytes());
     if let Some(line) = &call.line {
         tell_of_records(rt, line, sys.journal());
     }

@@ -1,3 +1,0 @@
-mod Doubts
-mod Nearness
-mod Noted
