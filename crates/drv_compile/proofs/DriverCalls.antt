@@ -55,18 +55,18 @@ use Rattle.std.specs.Prelude.{MatchResult}
 pub answer_told : (F : Facts) (line : GccLine) (name : List ℕ) (first : Driven) (ending : Ending) (stop : Stop)
     → name ≡ line.request.now.calling.now.name
     → (ending ≡ OutOfMemory) ⊎ (answer_of F line.chain line.given first ≡ Is (Err ending))
-    → IfTold stop (IsEndSaid F name first.line ending)
+    → IfTold stop (IsEndSaid name ending)
     → IfTold stop (IsUnanswered F line.request.now.calling.now.name line.chain line.given first)
 answer_told F line name first ending stop named stops tells =
-    told_as stop (IsEndSaid F line.request.now.calling.now.name first.line ending)
+    told_as stop (IsEndSaid line.request.now.calling.now.name ending)
     (IsUnanswered F line.request.now.calling.now.name line.chain line.given first)
-    (by ending stops) (subst (λ n. IfTold stop (IsEndSaid F n first.line ending)) named tells)
+    (by ending stops) (subst (λ n. IfTold stop (IsEndSaid n ending)) named tells)
   where
     -- Plan: `by` goes by the ending: a refusal has its text, and the other endings have none.
     by : (ending : Ending) → (ending ≡ OutOfMemory) ⊎ (answer_of F line.chain line.given first ≡ Is (Err ending)) → (text : List ℕ)
-        → IsEndSaid F line.request.now.calling.now.name first.line ending text
+        → IsEndSaid line.request.now.calling.now.name ending text
         → IsUnanswered F line.request.now.calling.now.name line.chain line.given first text
-    by ending (inl memory) text said = absurd (subst (λ e. IsEndSaid F line.request.now.calling.now.name first.line e text) memory said)
+    by ending (inl memory) text said = absurd (subst (λ e. IsEndSaid line.request.now.calling.now.name e text) memory said)
     by (Refused refusal) (inr gives) text said = (refusal, gives, said)
     by (Done status) (inr gives) text said = absurd said
     by OutOfMemory (inr gives) text said = absurd said

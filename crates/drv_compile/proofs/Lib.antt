@@ -12,7 +12,6 @@ pub mod LinkLibraries
 pub mod MachineRows
 pub mod Names
 pub mod Noting
-pub mod PlacesNoted
 pub mod Prepared
 pub mod Ran
 pub mod RowsAsked

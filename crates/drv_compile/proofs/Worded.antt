@@ -141,12 +141,12 @@ c99_told calling expanded fault stop is given = subst (λ s. IfTold s (IsUnfront
 
 -- For `work_or_stop`: if a line of the driver ends, and the stop's text says how, then that text is its failure.
 pub driver_told : (F : Facts) (name : List ℕ) (own : DriverLine) (seed : ℕ) (ending : Ending) (stop : Stop) → Stops F own seed ending
-    → IfTold stop (IsEndSaid F name own ending) → IfTold stop (IsFailure F name own seed)
+    → IfTold stop (IsEndSaid name ending) → IfTold stop (IsFailure F name own seed)
 driver_told F name own seed ending stop stops tells =
-    told_as stop (IsEndSaid F name own ending) (IsFailure F name own seed) (by ending stops) tells
+    told_as stop (IsEndSaid name ending) (IsFailure F name own seed) (by ending stops) tells
   where
     -- Plan: `by` goes by the ending: a refusal has its text, and the other endings have none.
-    by : (ending : Ending) → Stops F own seed ending → (text : List ℕ) → IsEndSaid F name own ending text → IsFailure F name own seed text
+    by : (ending : Ending) → Stops F own seed ending → (text : List ℕ) → IsEndSaid name ending text → IsFailure F name own seed text
     by (Refused refusal) stops text said = (refusal, stops, said)
     by (Done status) stops text said = absurd said
     by OutOfMemory stops text said = absurd said

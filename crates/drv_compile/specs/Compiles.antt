@@ -4,13 +4,12 @@ use Rattle.drv_cc.specs.declared.answer.Variable.{Variable}
 use Rattle.drv_compile.specs.Decides.{decide}
 use Rattle.drv_compile.specs.Driven.{IsWorker, Undriven}
 use Rattle.drv_compile.specs.Inputs.{Overwrites, objection}
-use Rattle.drv_compile.specs.Notes.{IsSaid}
 use Rattle.drv_compile.specs.Opening.{opening}
 use Rattle.drv_compile.specs.Runs.{Stops, Works}
 use Rattle.drv_compile.specs.Tasks.{Declines, Leads}
 use Rattle.drv_compile.specs.TempFolder.{Chooses, IsSettled, Tries, folder_names}
 use Rattle.drv_compile.specs.Texts.{gone_text, help_text, overwritten_text, unworded_text, version_text}
-use Rattle.drv_compile.specs.Words.{RefusesWords, Words}
+use Rattle.drv_compile.specs.Words.{RefusesWords, Words, told_refusal}
 use Rattle.drv_compile.specs.Wrapper.{wrapper_of}
 use Rattle.drv_compile.specs.declared.calling.Calling.{Calling}
 use Rattle.drv_compile.specs.declared.compiling.Outcome.TheVariants.{Done, OutOfMemory, Unnoted}
@@ -108,7 +107,7 @@ pub data Fails (F : Facts) (calling : Calling) (chain : Toolchain) (call : Call)
   stopped : {read asked : List HostEvent} {driven : Driven} {refusal : Refusal} {text : List ℕ}
       → objection F calling.name call.inputs ≡ Is [] → Overwrites call.inputs call.output read false
       → IsWorker F chain call given asked (Driver driven) → Stops F driven.line seed (Refused refusal)
-      → IsSaid F calling.name driven.line refusal text → Fails F calling chain call given seed (read ++ asked) text
+      → text ≡ told_refusal calling.name refusal → Fails F calling chain call given seed (read ++ asked) text
 
 -- What arguments ask for, with what the host was asked: a question to the compiler, a line that is carried out, or a refusal. `own` is
 -- where the spec file of this program lies, if that is known.

@@ -11,12 +11,12 @@ use Rattle.drv_compile.specs.Beside.{written_beside}
 use Rattle.drv_compile.specs.Compilers.{values}
 use Rattle.drv_compile.specs.Machines.{RowAsked, items_by}
 use Rattle.drv_compile.specs.Near.{AreTold}
-use Rattle.drv_compile.specs.Notes.{IsSaid}
 use Rattle.drv_compile.specs.Parts.{texts_of}
 use Rattle.drv_compile.specs.Passed.{line_passed}
 use Rattle.drv_compile.specs.SelfSpecs.{Ended, answer_given}
 use Rattle.drv_compile.specs.Suffixes.{suffixed_by}
 use Rattle.drv_compile.specs.Texts.{damaged_text}
+use Rattle.drv_compile.specs.Words.{told_refusal}
 use Rattle.drv_compile.specs.declared.calling.Calling.{Calling}
 use Rattle.drv_compile.specs.declared.driving.Driven.{Driven}
 use Rattle.drv_compile.specs.declared.driving.LineFiles.{LineFiles}
@@ -96,7 +96,7 @@ answer_of F chain given first = answer_given F chain.specs chain.around chain.kn
 -- the spec files of a line end the call by a refusal, and this text says it
 abbrev pub IsUnanswered : Facts → List ℕ → Toolchain → Expanded → Driven → List ℕ → Type 0
 IsUnanswered F name chain given first text =
-    (refusal : driver.Refusal) × (answer_of F chain given first ≡ Is (Err (Refused refusal))) × IsSaid F name first.line refusal text
+    (refusal : driver.Refusal) × (answer_of F chain given first ≡ Is (Err (Refused refusal))) × (text ≡ told_refusal name refusal)
 
 -- a line that the driver would be called with so, after its spec files: the line in its place, or itself
 pub data IsWorkerAfter (F : Facts) (chain : Toolchain) (given : Expanded) (first : Driven) : List HostEvent → Worker → Type 0 where

@@ -8,7 +8,6 @@ pub mod Driven
 pub mod Inputs
 pub mod Machines
 pub mod Near
-pub mod Notes
 pub mod Opening
 pub mod Parts
 pub mod Passed

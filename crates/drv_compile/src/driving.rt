@@ -177,7 +177,7 @@ fn driver_of_call<S: System, H: Host<S>>(
 /// What the spec files of a line give it.
 ///
 /// # Errors
-/// The text of the refusal of one of them, with the note about it.
+/// The text of the refusal of one of them.
 #[tactic(auto, using(drv_system::proofs::AskedCalls::asked_further))]
 fn answer<S: System>(
     alloc: Global,
@@ -195,7 +195,7 @@ fn answer<S: System>(
     let name = line.request.calling.name.as_bytes();
     match answer_given(alloc, line, &first.line, outside) {
         Ok(answer) => Ok(answer),
-        Err(ending) => Err(stop_after(alloc, name, &first.line, &ending, outside)),
+        Err(ending) => Err(stop_after(alloc, name, &ending)),
     }
 }
 

@@ -100,7 +100,7 @@ fn question(alloc: Global, compiler: Word, args: &Listing<Word>) -> Result<Work,
 /// The work of a line of the driver.
 ///
 /// # Errors
-/// The text of its refusal, with the note about a spec file.
+/// The text of its refusal.
 #[tactic(auto, using(drv_system::proofs::AskedCalls::asked_further))]
 fn work_or_stop<S: System>(
     alloc: Global,
@@ -116,7 +116,7 @@ fn work_or_stop<S: System>(
 {
     match work_of_items(alloc, line, seed, outside) {
         Ok(work) => Ok(work),
-        Err(ending) => Err(stop_after(alloc, name, line, &ending, outside)),
+        Err(ending) => Err(stop_after(alloc, name, &ending)),
     }
 }
 

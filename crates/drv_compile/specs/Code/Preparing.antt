@@ -2,9 +2,9 @@ use Rattle.drv_cc.specs.declared.answer.Call.{Call}
 use Rattle.drv_compile.specs.Compiles.{Fails, IsPlanned, Performs, question}
 use Rattle.drv_compile.specs.Driven.{IsWorker, Undriven}
 use Rattle.drv_compile.specs.Inputs.{Overwrites}
-use Rattle.drv_compile.specs.Notes.{IsSaid}
 use Rattle.drv_compile.specs.Runs.{Stops}
 use Rattle.drv_compile.specs.Texts.{gone_text, help_text, overwritten_text, unworded_text, version_text}
+use Rattle.drv_compile.specs.Words.{told_refusal}
 use Rattle.drv_compile.specs.declared.calling.Calling.{Calling}
 use Rattle.drv_compile.specs.declared.driving.Driven.{Driven}
 use Rattle.drv_compile.specs.declared.driving.Worker.TheVariants.{Driver, Nobody}
@@ -20,12 +20,12 @@ use Rattle.std.specs.Prelude.{◌≡◌, ◌⊎◌, List, [], Some, true, ℕ}
 -- The steps of a line that is carried out. Only private clauses of src/preparing.rt cite them.
 -- Names: `F` is what is known of the outside. `line` is the line of gcc, with what the call is given, its words and its chain (spec file,
 -- compiler, known names). `call` is what the front made of it. `events` is what the host was asked. `driven` is what the driver is called
--- with. `prepared` is what the call has to do. `text` is the text of a refusal. `IsSaid` is a refusal's text (specs/Notes), `Stops` how a
+-- with. `prepared` is what the call has to do. `text` is the text of a refusal. `Stops` is how a
 -- line of the driver ends (specs/Runs), and `IsWorker` who carries a line out (specs/Driven).
 
 -- a line of the driver is refused
 abbrev pub IsFailure : Facts → List ℕ → DriverLine → ℕ → List ℕ → Type 0
-IsFailure F name line seed text = (refusal : Refusal) × Stops F line seed (Refused refusal) × IsSaid F name line refusal text
+IsFailure F name line seed text = (refusal : Refusal) × Stops F line seed (Refused refusal) × (text ≡ told_refusal name refusal)
 
 -- its output is an input
 abbrev pub IsOverwriting : List ℕ → Call → List HostEvent → List ℕ → Type 0
