@@ -4,8 +4,8 @@
 usage: tools/calls.py [--check] [CRATE..]
 
 A public call is a function that a crate shows, a method of a type that it shows, or the `main` of a program. A law gives and changes
-nothing, so that no body of it can be wrong; why another call has none is said here. The exit status is 1 where a call has neither an edit
-nor such a reason, and where an edit names no call, or one that isn't there. With --check it prints only these.
+nothing, so that no body of it can be wrong; why no body of another call can be refused is said here. The exit status is 1 where an edit
+names no call, or one that isn't there. With --check it prints only these.
 """
 
 import os
@@ -165,13 +165,13 @@ def main():
             if not turned:
                 (laws if gives_nothing else reasoned if call in REASONS else bare).append(call)
     reasons = [f"{it}: {REASONS[it]}" for it in reasoned]
-    said = [("laws", laws), ("calls of which no body can be refused", reasons)]
-    faults = [("calls without an edit", bare), ("edits that name no public call", wrong)]
+    said = [("laws", laws), ("calls of which no body can be refused", reasons), ("calls without an edit", bare)]
+    faults = [("edits that name no public call", wrong)]
     for title, names in [it for it in faults if it[1]] if is_check else said + faults:
         print("\n    ".join([f"{title}: {len(names)}", *names]))
     if not is_check:
         print(f"{count} public calls")
-    return int(bool(wrong or bare))
+    return int(bool(wrong))
 
 
 if __name__ == "__main__":
