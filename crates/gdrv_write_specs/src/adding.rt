@@ -10,7 +10,6 @@ use crate::natives::with_natives;
 use crate::placing::{driver_at, stem_of};
 use crate::row_texts::Ways;
 use crate::rows::{Row, naming_in, push_names, push_row, row_of};
-use crate::temporary::{remove_folders_left, remove_left};
 use crate::work_folder::{WorkFolder, join, try_place, write};
 use drv_gcc::values;
 use drv_words::{Listing, Word};
@@ -185,7 +184,6 @@ pub fn add_words(rt: &HostRuntime, specs: &Word, options: &[Word]) -> Result<(),
         key,
     } = question_of(rt, specs, options)?;
     try_place(rt, &stem)?;
-    remove_left(rt, &stem)?;
     let work = WorkFolder::new(rt, &driver_at(rt)?)?;
     let pair = Pair {
         rt,
@@ -206,7 +204,6 @@ pub fn row_text(rt: &HostRuntime, specs: &Word, options: &[Word]) -> Result<Word
         gcc,
         key,
     } = question_of(rt, specs, options)?;
-    remove_folders_left(rt)?;
     let work = WorkFolder::new(rt, &driver_at(rt)?)?;
     let pair = Pair {
         rt,

@@ -55,7 +55,7 @@ impl<'a> Asked<'a> {
     /// Asks with the words of a line.
     pub fn ask(self, line: &[u8]) -> Result<Said, Fault> {
         let whole = self.with_option(line)?;
-        Ok(ask(self.rt, &self.work.lines, self.gcc, whole.as_bytes())?)
+        ask(self.rt, &self.work.lines, self.gcc, whole.as_bytes())
     }
 
     /// The answer to a question about a name.

@@ -1,5 +1,6 @@
 //! Programs are asked.
 
+use crate::bounded::output_of;
 use crate::fault::Fault;
 use drv_gcc::values;
 use drv_words::{Listing, Word, split};
@@ -65,15 +66,53 @@ fn said_of(output: Output) -> Said {
     }
 }
 
-/// Asks a program, in a folder, with these words.
-pub fn ask_words(rt: &HostRuntime, at: &Word, program: &Word, words: &[Word]) -> io::Result<Said> {
+/// Runs a program, in a folder, with these words.
+fn run(rt: &HostRuntime, at: &Word, program: &Word, words: &[Word]) -> io::Result<Said> {
     let mut made = Command::new(rt.alloc(), text(program.as_bytes())?)?;
     prepare(&mut made, at, words)?;
-    Ok(said_of(made.output(rt)?))
+    Ok(said_of(output_of(rt, made)?))
+}
+
+/// How many words of a question a message shows.
+const SHOWN: usize = 8;
+
+/// A question as a message shows it: the program and its first words.
+fn question_of(alloc: Global, program: &Word, words: &[Word]) -> Result<Word, Fault> {
+    let mut question = Word::from_bytes(alloc, program.as_bytes())?;
+    for word in words.iter().take(SHOWN) {
+        question.push(b' ')?;
+        question.extend_from_slice(word.as_bytes())?;
+    }
+    if SHOWN < words.len() {
+        question.extend_from_slice(b" ..")?;
+    }
+    Ok(question)
+}
+
+/// Asks a program, in a folder, with these words.
+///
+/// # Errors
+/// Lack of memory; the answer breaks a bound; the program can't be started.
+pub fn ask_words(
+    rt: &HostRuntime,
+    at: &Word,
+    program: &Word,
+    words: &[Word],
+) -> Result<Said, Fault> {
+    let error = match run(rt, at, program, words) {
+        Ok(said) => return Ok(said),
+        Err(error) => error.kind(),
+    };
+    Err(match error {
+        ErrorKind::OutOfMemory => Fault::Memory,
+        ErrorKind::FileTooLarge => Fault::TooMuch(question_of(rt.alloc(), program, words)?),
+        ErrorKind::TimedOut => Fault::TooSlow(question_of(rt.alloc(), program, words)?),
+        _ => Fault::NoGcc(program.clone()?),
+    })
 }
 
 /// Asks a program, in a folder, with the words of a line.
-pub fn ask(rt: &HostRuntime, at: &Word, program: &Word, line: &[u8]) -> io::Result<Said> {
+pub fn ask(rt: &HostRuntime, at: &Word, program: &Word, line: &[u8]) -> Result<Said, Fault> {
     let words = split(rt.alloc(), line)?;
     ask_words(rt, at, program, words.as_slice())
 }

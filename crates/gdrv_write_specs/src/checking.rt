@@ -9,7 +9,6 @@ use crate::work_folder::WorkFolder;
 use drv_gcc::{options, same_commands};
 use drv_words::{Listing, Word};
 use std::alloc::Global;
-use std::io::ErrorKind;
 
 /// The lines that must have gcc's plan: each way to compile, to assemble and to link.
 const LINES: [&[u8]; 31] = [
@@ -188,11 +187,7 @@ fn has_pipe(shown: &[u8]) -> bool {
 impl<'a> Pair<'a> {
     /// What a program shows for a line.
     fn show(self, program: &Word, line: &Word) -> Result<Said, Fault> {
-        match ask(self.rt, &self.work.lines, program, line.as_bytes()) {
-            Ok(said) => Ok(said),
-            Err(error) if error.kind() == ErrorKind::OutOfMemory => Err(Fault::Memory),
-            Err(_) => Err(Fault::NoGcc(program.clone()?)),
-        }
+        ask(self.rt, &self.work.lines, program, line.as_bytes())
     }
 
     /// How the two drivers take a line with an option. This driver adds `-pipe` by itself.

@@ -82,9 +82,7 @@ fn guard(alloc: Global, dump: Word) -> Result<Word, Fault> {
 impl<'a> Asked<'a> {
     /// The spec files that it reads for a line without options.
     pub fn files_read(self) -> Result<Listing<Word>, Fault> {
-        let Ok(said) = ask(self.rt, &self.work.lines, self.gcc, b"-v") else {
-            return Err(Fault::NoGcc(self.gcc.clone()?));
-        };
+        let said = ask(self.rt, &self.work.lines, self.gcc, b"-v")?;
         Ok(values(self.alloc(), b"Reading specs from ", said.err.as_bytes())?)
     }
 

@@ -39,9 +39,7 @@ const IF_EXISTS: &[u8] = b"%:if-exists(";
 impl<'a> Asked<'a> {
     /// What the gcc dumps.
     fn dump(self) -> Result<Word, Fault> {
-        let Ok(said) = ask(self.rt, &self.work.lines, self.gcc, b"-dumpspecs") else {
-            return Err(Fault::NoGcc(self.gcc.clone()?));
-        };
+        let said = ask(self.rt, &self.work.lines, self.gcc, b"-dumpspecs")?;
         if !said.is_done || said.out.is_empty() {
             return Err(Fault::NoDump(self.gcc.clone()?));
         }

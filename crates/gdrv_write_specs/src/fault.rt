@@ -1,7 +1,7 @@
 //! Why no spec file is written.
 
 use crate::calling::CallFault;
-use drv_words::Word;
+use drv_words::{Listing, Word};
 use std::alloc::{AllocError, AllocFailed, Global};
 use std::io;
 use std::io::ErrorKind;
@@ -35,8 +35,12 @@ pub enum Fault {
     NotMachine(Word),
     /// This gcc refuses these options.
     Refuses(Word, Word),
-    /// The plans differ; what they are is in the text.
-    Differs(Word),
+    /// This gcc has other plans for these lines.
+    Differs(Word, Listing<Word>),
+    /// The answer to this question is too long.
+    TooMuch(Word),
+    /// The answer to this question takes too long.
+    TooSlow(Word),
     /// The system refused something else.
     Other,
 }
@@ -63,12 +67,31 @@ impl From<io::Error> for Fault {
     }
 }
 
+/// The hexadecimal digit of a number below 16.
+fn hexadecimal(number: u8) -> u8 {
+    b"0123456789abcdef"[usize::from(number % 16)]
+}
+
+/// Adds a text as people are shown it: each control byte by its number, as `\x1b`.
+pub fn push_shown(shown: &mut Word, text: &[u8]) -> Result<(), AllocError> {
+    for byte in text {
+        if byte.is_ascii_control() {
+            shown.extend_from_slice(b"\\x")?;
+            shown.push(hexadecimal(byte / 16))?;
+            shown.push(hexadecimal(*byte))?;
+        } else {
+            shown.push(*byte)?;
+        }
+    }
+    Ok(())
+}
+
 /// A line of the program: its name, and this with a word between.
 fn line(alloc: Global, before: &[u8], word: &[u8], after: &[u8]) -> Result<Word, AllocError> {
     let mut line = Word::from_bytes(alloc, b"gdrv-write-specs: ")?;
-    line.extend_from_slice(before)?;
-    line.extend_from_slice(word)?;
-    line.extend_from_slice(after)?;
+    for part in [before, word, after] {
+        push_shown(&mut line, part)?;
+    }
     line.push(b'\n')?;
     Ok(line)
 }
@@ -76,6 +99,19 @@ fn line(alloc: Global, before: &[u8], word: &[u8], after: &[u8]) -> Result<Word,
 /// A line about a gcc.
 fn gcc_line(alloc: Global, gcc: &Word, after: &[u8]) -> Result<Word, AllocError> {
     line(alloc, b"'", gcc.as_bytes(), after)
+}
+
+/// The lines about a gcc that has other plans for lines.
+fn differing_lines(alloc: Global, gcc: &Word, lines: &[Word]) -> Result<Word, AllocError> {
+    let before = b"no spec file for '".as_slice();
+    let after = b"': with it these lines would not have gcc's plan".as_slice();
+    let mut text = line(alloc, before, gcc.as_bytes(), after)?;
+    for line in lines {
+        text.extend_from_slice(b"    ")?;
+        push_shown(&mut text, line.as_bytes())?;
+        text.push(b'\n')?;
+    }
+    Ok(text)
 }
 
 impl Fault {
@@ -127,7 +163,11 @@ impl Fault {
                 rest.push(b'\'')?;
                 gcc_line(alloc, gcc, rest.as_bytes())
             }
-            Fault::Differs(text) => line(alloc, text.as_bytes(), b"", b""),
+            Fault::Differs(gcc, lines) => differing_lines(alloc, gcc, lines.as_slice()),
+            Fault::TooMuch(question) => gcc_line(alloc, question, b"' prints more than 1 MiB"),
+            Fault::TooSlow(question) => {
+                gcc_line(alloc, question, b"' doesn't answer within 60 seconds")
+            }
             Fault::Other => line(alloc, b"the system refused a call", b"", b""),
         }
     }

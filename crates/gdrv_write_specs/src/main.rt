@@ -8,6 +8,7 @@ mod adding;
 mod alike;
 mod asked;
 mod asking;
+mod bounded;
 mod calling;
 mod checking;
 mod choosing;

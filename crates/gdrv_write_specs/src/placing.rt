@@ -5,7 +5,7 @@ use crate::calling::{Manner, Order};
 use crate::checking::Pair;
 use crate::choosing::{options_text, push_choosers};
 use crate::devices::has_devices;
-use crate::fault::Fault;
+use crate::fault::{Fault, push_shown};
 use crate::gathering::{Gathered, gather};
 use crate::machines::{add_test, test_of};
 use crate::names::{names_of, sort_lines};
@@ -14,13 +14,12 @@ use crate::parts::{PARTS, part_of, whole_of};
 use crate::programs::{is_file, program_at};
 use crate::row_texts::Ways;
 use crate::rows::{multilibs, push_names, push_rows, suffix_of};
-use crate::temporary::remove_left;
 use crate::vendors::COPIES;
 use crate::wording::{with_refused, without_dropped};
 use crate::work_folder::{WorkFolder, absolute, join, try_place};
 use drv_gcc::{gcc_file, spec_file, values};
 use drv_system::complain;
-use drv_words::{Listing, Word, split_at_last};
+use drv_words::{Listing, Word, copy_words, split_at_last};
 use std::alloc::Global;
 use std::env::current_exe;
 
@@ -158,7 +157,7 @@ fn note(notes: &mut Word, before: &[u8], names: &[Word]) -> Result<(), Fault> {
     notes.extend_from_slice(before)?;
     for name in names {
         notes.push(b' ')?;
-        notes.extend_from_slice(name.as_bytes())?;
+        push_shown(notes, name.as_bytes())?;
     }
     Ok(notes.push(b'\n')?)
 }
@@ -168,17 +167,6 @@ fn show_notes(rt: &HostRuntime, gathered: &Gathered) {
     if !gathered.notes.is_empty() {
         complain(rt, gathered.notes.as_bytes());
     }
-}
-
-/// The refusal for lines whose plans differ.
-fn differ(rt: &HostRuntime, gcc: &Word, lines: &[Word]) -> Result<Fault, Fault> {
-    let mut text = question_about(rt.alloc(), b"no spec file for '", gcc.as_bytes())?;
-    text.extend_from_slice(b"': with it these lines would not have gcc's plan")?;
-    for line in lines {
-        text.extend_from_slice(b"\n    ")?;
-        text.extend_from_slice(line.as_bytes())?;
-    }
-    Ok(Fault::Differs(text))
 }
 
 /// Writes the spec file in the folder of work.
@@ -202,7 +190,10 @@ const MACHINES: usize = 16;
 /// The lines whose plans differ, whatever the user said of them.
 fn judge(pair: Pair<'_>, manner: Manner, lines: &[Word], notes: &mut Word) -> Result<(), Fault> {
     match manner {
-        Manner::Compared if !lines.is_empty() => Err(differ(pair.rt, pair.gcc, lines)?),
+        Manner::Compared if !lines.is_empty() => {
+            let lines = copy_words(pair.rt.alloc(), lines)?;
+            Err(Fault::Differs(pair.gcc.clone()?, lines))
+        }
         _ => note(notes, b"lines that have another plan than gcc's:", lines),
     }
 }
@@ -448,7 +439,7 @@ fn put_whole(pair: Pair<'_>, order: &Order) -> Result<(), Fault> {
     let options = options_text(pair.rt.alloc(), order.options.as_slice())?;
     let mut gathered = gather(pair, Ways::Texts)?;
     match put_gathered(pair, Manner::Compared, &options, &mut gathered) {
-        Err(Fault::Differs(_)) => put_with_rows(pair, order),
+        Err(Fault::Differs(..)) => put_with_rows(pair, order),
         done => {
             show_notes(pair.rt, &gathered);
             done
@@ -478,7 +469,6 @@ pub fn write_file(rt: &HostRuntime, order: &Order) -> Result<(), Fault> {
     };
     let stem = stem_of(rt, &order.output)?;
     try_place(rt, &stem)?;
-    remove_left(rt, &stem)?;
     let work = WorkFolder::new(rt, &driver_at(rt)?)?;
     let pair = Pair {
         rt,

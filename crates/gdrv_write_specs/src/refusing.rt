@@ -28,7 +28,7 @@ fn try_words(pair: Pair<'_>, words: &[Word]) -> Result<Said, Fault> {
         line.push(word.clone()?)?;
         line.push(Word::from_bytes(alloc, b"-Wl,x")?)?;
     }
-    Ok(ask_words(pair.rt, &pair.work.lines, pair.gcc, line.as_slice())?)
+    ask_words(pair.rt, &pair.work.lines, pair.gcc, line.as_slice())
 }
 
 /// What a gcc makes of a word.

@@ -4,11 +4,13 @@ use crate::asking::{question_about, text};
 use crate::fault::Fault;
 use crate::gathering::PROBE;
 use crate::programs::is_folder;
-use crate::temporary::{new_path, work_path};
+use crate::temporary::{new_folder, new_path};
 use crate::vendors::{COPIES, VendorsFile};
 use drv_gcc::with_mark;
 use drv_words::Word;
 use std::alloc::Global;
+use std::fs::File;
+use std::io::Write;
 use std::{env, fs};
 
 /// A folder of temporary files. Its own files are those that gcc-like drivers are tried with.
@@ -84,12 +86,14 @@ pub fn make_all(rt: &HostRuntime, path: &[u8]) -> Result<(), Fault> {
     Ok(fs::create_dir_all(rt, text(path)?)?)
 }
 
-/// Writes a file beside its place, and renames it. `stem` is the spec file without its ending.
+/// Writes a new file beside its place, and renames it. `stem` is the spec file without its ending.
 fn put_in_place(rt: &HostRuntime, stem: &Word, to: &Word, content: &[u8]) -> Result<(), Fault> {
     let new = new_path(rt, stem)?;
     let (from, path) = (text(new.as_bytes())?, text(to.as_bytes())?);
-    let is_done = fs::write(rt, from, content).is_ok() && fs::rename(rt, from, path).is_ok();
-    if is_done {
+    let Ok(mut file) = File::create_new(rt, from) else {
+        return Err(Fault::NoPlace(to.clone()?));
+    };
+    if file.write_all(content).is_ok() && fs::rename(rt, from, path).is_ok() {
         return Ok(());
     }
     let _ = fs::remove_file(rt, from);
@@ -100,14 +104,14 @@ fn put_in_place(rt: &HostRuntime, stem: &Word, to: &Word, content: &[u8]) -> Res
 pub fn try_place(rt: &HostRuntime, stem: &Word) -> Result<(), Fault> {
     let new = new_path(rt, stem)?;
     let path = text(new.as_bytes())?;
-    if fs::write(rt, path, b"").is_err() {
+    if File::create_new(rt, path).is_err() {
         return Err(Fault::NoPlace(join(rt.alloc(), stem, b".specs")?));
     }
     Ok(fs::remove_file(rt, path)?)
 }
 
 impl WorkFolder {
-    /// The folder at a path, of which nothing is made yet.
+    /// The folder at a path, in which nothing is made yet.
     fn at(alloc: Global, path: Word) -> Result<WorkFolder, Fault> {
         Ok(WorkFolder {
             lines: join(alloc, &path, b"/lines")?,
@@ -118,9 +122,8 @@ impl WorkFolder {
         })
     }
 
-    /// Makes its folder, and those in it.
+    /// Makes the folders in it.
     fn make_folders(&self, rt: &HostRuntime) -> Result<(), Fault> {
-        make_folder(rt, &self.path)?;
         for folder in FOLDERS {
             make_folder(rt, &join(rt.alloc(), &self.path, folder)?)?;
         }
@@ -149,19 +152,17 @@ impl WorkFolder {
         Ok(())
     }
 
-    /// Makes it, with the copy of a driver in it. One that a killed process of the same number left
-    /// goes first.
-    fn make(&self, rt: &HostRuntime, driver: &Word) -> Result<(), Fault> {
-        self.remove(rt);
+    /// Fills it, with the copy of a driver in it.
+    fn fill(&self, rt: &HostRuntime, driver: &Word) -> Result<(), Fault> {
         self.make_folders(rt)?;
         self.copy_driver(rt, driver)?;
         self.write_line_files(rt)
     }
 
-    /// The folder for this process, with the copy of a driver in it.
+    /// A new folder, with the copy of a driver in it.
     pub fn new(rt: &HostRuntime, driver: &Word) -> Result<WorkFolder, Fault> {
-        let work = WorkFolder::at(rt.alloc(), work_path(rt)?)?;
-        match work.make(rt, driver) {
+        let work = WorkFolder::at(rt.alloc(), new_folder(rt)?)?;
+        match work.fill(rt, driver) {
             Ok(()) => Ok(work),
             Err(fault) => {
                 work.remove(rt);
