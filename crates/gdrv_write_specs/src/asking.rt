@@ -77,7 +77,7 @@ fn run(rt: &HostRuntime, at: &Word, program: &Word, words: &[Word]) -> io::Resul
 const SHOWN: usize = 8;
 
 /// A question as a message shows it: the program and its first words.
-fn question_of(alloc: Global, program: &Word, words: &[Word]) -> Result<Word, Fault> {
+fn shown_question(alloc: Global, program: &Word, words: &[Word]) -> Result<Word, Fault> {
     let mut question = Word::from_bytes(alloc, program.as_bytes())?;
     for word in words.iter().take(SHOWN) {
         question.push(b' ')?;
@@ -105,8 +105,8 @@ pub fn ask_words(
     };
     Err(match error {
         ErrorKind::OutOfMemory => Fault::Memory,
-        ErrorKind::FileTooLarge => Fault::TooMuch(question_of(rt.alloc(), program, words)?),
-        ErrorKind::TimedOut => Fault::TooSlow(question_of(rt.alloc(), program, words)?),
+        ErrorKind::FileTooLarge => Fault::TooMuch(shown_question(rt.alloc(), program, words)?),
+        ErrorKind::TimedOut => Fault::TooSlow(shown_question(rt.alloc(), program, words)?),
         _ => Fault::NoGcc(program.clone()?),
     })
 }

@@ -26,8 +26,8 @@ struct Stream {
 }
 
 impl Stream {
-    /// A new stream, and the end that the program writes. No read waits: a socket's mode is that of
-    /// any descriptor, and all descriptors of this end share it.
+    /// A new stream, and the end that the program writes. No read of it waits: all descriptors of an
+    /// end share that mode, which the standard library sets only through a socket.
     fn new(rt: &HostRuntime) -> io::Result<(Stream, PipeWriter)> {
         let (end, theirs) = io::pipe(rt)?;
         UnixStream::from(OwnedFd::from(end.try_clone()?)).set_nonblocking(true)?;
@@ -87,6 +87,23 @@ impl Running {
         }
         Err(Error::from(ErrorKind::TimedOut))
     }
+
+    /// Ends it.
+    fn kill(&mut self) {
+        if self.child.kill().is_ok() {
+            let _ = self.child.wait();
+        }
+    }
+
+    /// What it said before it ended with this status.
+    fn into_output(self, status: ExitStatus) -> Output {
+        let Running { out, err, .. } = self;
+        Output {
+            status,
+            stdout: out.text,
+            stderr: err.text,
+        }
+    }
 }
 
 /// Runs a command, and gives what it says. If it breaks a bound, it is killed.
@@ -97,15 +114,9 @@ impl Running {
 pub fn output_of(rt: &HostRuntime, made: Command) -> io::Result<Output> {
     let mut running = start(rt, made)?;
     match running.watch(rt) {
-        Ok(status) => Ok(Output {
-            status,
-            stdout: running.out.text,
-            stderr: running.err.text,
-        }),
+        Ok(status) => Ok(running.into_output(status)),
         Err(error) => {
-            if running.child.kill().is_ok() {
-                let _ = running.child.wait();
-            }
+            running.kill();
             Err(error)
         }
     }

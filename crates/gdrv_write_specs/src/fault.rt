@@ -67,7 +67,7 @@ impl From<io::Error> for Fault {
     }
 }
 
-/// The hexadecimal digit of a number below 16.
+/// The last hexadecimal digit of a number.
 fn hexadecimal(number: u8) -> u8 {
     b"0123456789abcdef"[usize::from(number % 16)]
 }
