@@ -1,6 +1,6 @@
 //! A spec file is written, tried and put in place.
 
-use crate::asking::{ask, question_about};
+use crate::asking::{ask, question_about, text};
 use crate::calling::{Manner, Order};
 use crate::checking::Pair;
 use crate::choosing::{options_text, push_choosers};
@@ -20,8 +20,11 @@ use crate::work_folder::{WorkFolder, absolute, join, try_place};
 use drv_gcc::{gcc_file, spec_file, values};
 use drv_system::complain;
 use drv_words::{Listing, Word, copy_words, split_at_last};
+use itoa::Buffer;
 use std::alloc::Global;
 use std::env::current_exe;
+use std::fs;
+use std::os::unix::fs::MetadataExt;
 
 /// The path of a gcc: of this name or at this path, of `gcc` for `host`, or of TARGET-gcc for the
 /// name of a target.
@@ -122,6 +125,47 @@ fn put_beside(pair: Pair<'_>, gathered: &Gathered) -> Result<(), Fault> {
     put_gcc(pair, gathered)
 }
 
+/// What tells a file from one that takes its place: its size in bytes and the second of its last
+/// change; a minus where it is missing. The size of a folder depends on its disk, so it is 0 here.
+fn stamp_of(rt: &HostRuntime, path: &[u8]) -> Result<Word, Fault> {
+    let Ok(found) = fs::metadata(rt, text(path)?) else {
+        return Ok(Word::from_bytes(rt.alloc(), b"-")?);
+    };
+    let size = if found.is_dir() { 0 } else { found.len() };
+    let mut stamp = Word::from_bytes(rt.alloc(), Buffer::new().format(size).as_bytes())?;
+    stamp.push(b':')?;
+    stamp.extend_from_slice(Buffer::new().format(found.mtime()).as_bytes())?;
+    Ok(stamp)
+}
+
+/// Adds a line `stamp PATH STAMP`, by which gdrv-cc sees that a file was changed.
+fn push_stamp(rt: &HostRuntime, lines: &mut Word, path: &[u8]) -> Result<(), Fault> {
+    if path.starts_with(b"/") {
+        lines.extend_from_slice(b"stamp ")?;
+        lines.extend_from_slice(path)?;
+        lines.push(b' ')?;
+        lines.extend_from_slice(stamp_of(rt, path)?.as_bytes())?;
+        lines.push(b'\n')?;
+    }
+    Ok(())
+}
+
+/// Adds the stamps of the gcc, of its cc1, of its folder, and of the spec file that it would read
+/// there.
+fn push_stamps(pair: Pair<'_>, cc1: &Word, lines: &mut Word) -> Result<(), Fault> {
+    push_stamp(pair.rt, lines, pair.gcc.as_bytes())?;
+    push_stamp(pair.rt, lines, cc1.as_bytes())?;
+    let headers = pair
+        .gcc_with(&Word::empty(pair.rt.alloc()))
+        .path_of(b"include")?;
+    if let Some(folder) = headers.as_bytes().strip_suffix(b"/include".as_slice()) {
+        push_stamp(pair.rt, lines, folder)?;
+        let specs = question_about(pair.rt.alloc(), folder, b"/specs")?;
+        push_stamp(pair.rt, lines, specs.as_bytes())?;
+    }
+    Ok(())
+}
+
 /// Writes the file beside the spec file that names the gcc, and has its rows.
 fn put_gcc(pair: Pair<'_>, gathered: &Gathered) -> Result<(), Fault> {
     let lines = say_of_itself(pair)?;
@@ -132,6 +176,7 @@ fn put_gcc(pair: Pair<'_>, gathered: &Gathered) -> Result<(), Fault> {
         folders,
         lines.as_slice(),
     )?;
+    push_stamps(pair, &gathered.toolchain.programs.compiler.path, &mut text)?;
     let suffix = suffix_of(pair)?;
     if !suffix.is_empty() {
         text.extend_from_slice(b"suffix ")?;
