@@ -2,14 +2,15 @@ use Rattle.bstr.specs.Bytes.{is_in}
 use Rattle.bstr.specs.Find.{IsFirstByte, is_byte}
 use Rattle.drv_specs.proofs.Bodies.{joined_lines}
 use Rattle.drv_specs.proofs.Booleans.{and_first, and_second, not_true}
-use Rattle.drv_specs.proofs.Found.{clean_all, clean_front, fails_of, found_below, found_passes}
+use Rattle.drv_specs.proofs.Found.{clean_all, clean_front, fails_of, found_below, found_passes, line_alone, line_clean}
+use Rattle.drv_specs.proofs.Found.{line_found}
 use Rattle.drv_specs.proofs.Lining.{inside_next, one_piece, pieces_then}
 use Rattle.drv_specs.specs.Blanks.{has_byte, is_blank}
 use Rattle.drv_specs.specs.Directives.{Alone, Directive, Passed, Start, WithBody, body_lines, by_colon, by_keyword, directive_in}
 use Rattle.drv_specs.specs.Directives.{first_line, is_colon, opens_body, read_lines, start_of}
 use Rattle.drv_specs.specs.Lines.{ends_line, is_empty_line, lines_of, pieces_from, without_front, words_of}
 use Rattle.drv_specs.specs.Code.Slices.{Ends, bytes_from, is_keyword, is_passed, lines_from}
-use Rattle.drv_words.specs.Bytes.{colon, newline, space, tab}
+use Rattle.drv_words.specs.Bytes.{newline, space, tab}
 use Rattle.std.proofs.Common.{◌≡◌, ◌<◌, ◌≤◌, ◌+◌, ◌-◌, ◌∙◌, ◌==◌, ◌&&◌, ◌||◌, Bool, List, [], ◌∷◌, ◌++◌, ap, append_assoc, arith, cond}
 use Rattle.std.proofs.Common.{drop, false, filter, flat_map, if◌then◌else◌, length, length-append, nat_lt, not, refl, suc, sym, take, true}
 use Rattle.std.proofs.Common.{zero, ℕ}
@@ -39,9 +40,19 @@ lines_cut line None is = ap lines_of (append-nil line) ∙ one_piece line [] is
 lines_cut line (Some text) is = pieces_then line [] text ∙ ap (λ ls. ls ++ lines_of text) (one_piece line [] is)
 
 -- a text that begins with this line has it as its first line
-pub lines_are : (text line : List ℕ) (following : Option (List ℕ)) → text ≡ line ++ bytes_from following
+lines_are : (text line : List ℕ) (following : Option (List ℕ)) → text ≡ line ++ bytes_from following
     → list_all (λ b. not (ends_line b)) line ≡ true → lines_of text ≡ line ∷ lines_from following
 lines_are text line following whole is = ap lines_of whole ∙ lines_cut line following is
+
+-- the line up to the first newline is the first line of a text
+pub line_first : (text : List ℕ) (found : Option ℕ) (at : ℕ) → IsFirstByte (is_byte newline) text found → found ≡ Some at
+    → lines_of text ≡ take at text ∷ lines_of (drop (at + 1) text)
+line_first text found at h is =
+    lines_are text (take at text) (Some (drop (at + 1) text)) (line_found text found at h is) (line_clean text found at h is)
+
+-- a text without a newline is one line
+pub line_only : (text : List ℕ) (found : Option ℕ) → IsFirstByte (is_byte newline) text found → found ≡ None → lines_of text ≡ text ∷ []
+line_only text found h is = one_piece text [] (line_alone text found h is)
 
 -- at an empty line a body ends
 pub body_over : (line : List ℕ) (lines : List (List ℕ)) → is_empty_line line ≡ true → body_lines (line ∷ lines) ≡ []
@@ -250,16 +261,15 @@ same_not n = grind (arith, nat_tests)
 below_is : (k n : ℕ) → k < n → nat_lt k n ≡ true
 below_is k n below = grind (arith, nat_tests, below)
 
--- the code's search finds the first colon
-pub colon_place : (text : List ℕ) (found : Option ℕ) → IsFirstByte (is_byte colon) text found → position is_colon text ≡ found
-colon_place text None h =
-    let all : position_or_len is_colon text ≡ length text =
-    position_or_len_is is_colon text (length text) 0 (omega arith)
-    (λ k low. fails_of (is_colon (get_or text k 0)) (h k (omega arith) low)) (λ l. absurd (omega (arith, l))) in
+-- the code's search finds the place of the first byte that passes
+pub place_found : (test : ℕ → Bool) (text : List ℕ) (found : Option ℕ) → IsFirstByte test text found → position test text ≡ found
+place_found test text None h =
+    let all : position_or_len test text ≡ length text = position_or_len_is test text (length text) 0 (omega arith)
+    (λ k low. fails_of (test (get_or text k 0)) (h k (omega arith) low)) (λ l. absurd (omega (arith, l))) in
     ap (λ n. cond (nat_lt n (length text)) (Some n) None) all ∙ ap (λ t. cond t (Some (length text)) None) (same_not (length text))
-colon_place text (Some at) h =
-    let place : position_or_len is_colon text ≡ at = position_or_len_is is_colon text at 0 (omega (arith, h.0.high))
-    (λ k low. fails_of (is_colon (get_or text k 0)) (h.0.before k (omega arith) low)) (λ l. h.1) in
+place_found test text (Some at) h =
+    let place : position_or_len test text ≡ at = position_or_len_is test text at 0 (omega (arith, h.0.high))
+    (λ k low. fails_of (test (get_or text k 0)) (h.0.before k (omega arith) low)) (λ l. h.1) in
     ap (λ n. cond (nat_lt n (length text)) (Some n) None) place ∙ ap (λ t. cond t (Some at) None) (below_is at (length text) h.0.high)
 
 -- the blanks that the code's search for the end of a word looks for

@@ -3,38 +3,38 @@
 ghost use Rattle.drv_specs.specs.Blanks.{has_byte, is_blank, is_white};
 ghost use Rattle.drv_specs.specs.Lines.{is_empty_line, trim, without_end, without_front};
 ghost use Rattle.std.specs.List.{position};
-ghost use Rattle.std.specs.Prelude.{◌≡◌, ◌≤◌, ◌-◌, drop, length, not, take};
+ghost use Rattle.std.specs.Prelude.{◌≡◌, ◌<◌, ◌≤◌, ◌-◌, IfSome, drop, length, not, take};
 
 /// Whether a byte is a space or a tab.
-pub(crate) fn is_blank(byte: u8) -> bool
+pub fn is_blank(byte: u8) -> bool
     ensures { result ≡ is_blank byte }
 {
     byte == b' ' || byte == b'\t'
 }
 
 /// Whether a byte is a blank or a newline.
-pub(crate) fn is_white(byte: u8) -> bool
+pub fn is_white(byte: u8) -> bool
     ensures { result ≡ is_white byte }
 {
     is_blank(byte) || byte == b'\n'
 }
 
 /// Whether a text has any byte.
-pub(crate) fn has_byte(text: &[u8]) -> bool
+pub fn has_byte(text: &[u8]) -> bool
     ensures { result ≡ has_byte text.now }
 {
     !matches!(text, [])
 }
 
 /// Whether a line is empty or has blanks alone.
-pub(crate) fn is_empty_line(line: &[u8]) -> bool
+pub fn is_empty_line(line: &[u8]) -> bool
     ensures { result ≡ is_empty_line line.now }
 {
     line.iter().all(|byte| is_blank(*byte))
 }
 
 /// A text without its last byte.
-pub(crate) fn without_last(text: &[u8]) -> &[u8]
+pub fn without_last(text: &[u8]) -> &[u8]
     ensures { result.now ≡ take (length text.now - 1) text.now }
 {
     match text {
@@ -44,21 +44,23 @@ pub(crate) fn without_last(text: &[u8]) -> &[u8]
 }
 
 /// The place of the first byte of a text that is no blank.
-fn first_solid(text: &[u8]) -> Option<usize>
-    ensures { result ≡ position (λ b. not (is_blank b)) text.now }
+pub fn first_solid(text: &[u8]) -> Option<usize>
+    ensures is { result ≡ position (λ b. not (is_blank b)) text.now }
+    ensures within { IfSome result (λ at. at < length text.now) }
 {
     text.iter().position(|byte| !is_blank(*byte))
 }
 
 /// The place of the first byte of a text that is no white space.
-fn first_black(text: &[u8]) -> Option<usize>
-    ensures { result ≡ position (λ b. not (is_white b)) text.now }
+pub fn first_black(text: &[u8]) -> Option<usize>
+    ensures is { result ≡ position (λ b. not (is_white b)) text.now }
+    ensures within { IfSome result (λ at. at < length text.now) }
 {
     text.iter().position(|byte| !is_white(*byte))
 }
 
 /// A text without the blanks at its front.
-pub(crate) fn without_blanks(text: &[u8]) -> &[u8]
+pub fn without_blanks(text: &[u8]) -> &[u8]
     ensures bytes { result.now ≡ without_front is_blank text.now }
     ensures within { length result.now ≤ length text.now }
 {
@@ -126,7 +128,7 @@ pub(crate) fn without_end_white(text: &[u8]) -> &[u8]
 }
 
 /// A text without the blanks around it.
-pub(crate) fn trim(text: &[u8]) -> &[u8]
+pub fn trim(text: &[u8]) -> &[u8]
     ensures { result.now ≡ trim text.now }
 {
     without_end_blanks(without_blanks(text))

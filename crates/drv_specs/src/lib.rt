@@ -3,14 +3,14 @@
 
 mod builtin_specs;
 mod builtin_trees;
-mod bytes;
+pub mod bytes;
 mod changing;
 mod directive;
 mod dumping;
 mod entries;
 mod fault;
 mod laws;
-mod lines;
+pub mod lines;
 mod loading;
 mod named_texts;
 mod places;

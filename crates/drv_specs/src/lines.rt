@@ -5,9 +5,9 @@
 // directives of lines, the first of which has number n. `words_of` is the words of a text from here
 // on. `text_left` is the text that is left.
 ghost use Rattle.drv_specs.specs.Directives.{body_lines, read_lines};
-ghost use Rattle.drv_specs.specs.Lines.{ends_line, is_empty_line, words_of};
-ghost use Rattle.drv_specs.specs.Code.Slices.{bytes_from, directives_left, lines_left, size_left};
-ghost use Rattle.drv_specs.specs.Code.Slices.{text_left};
+ghost use Rattle.drv_specs.specs.Lines.{ends_line, is_empty_line, lines_of, words_of};
+ghost use Rattle.drv_specs.specs.Code.Slices.{bytes_from, directives_left, lines_from, lines_left};
+ghost use Rattle.drv_specs.specs.Code.Slices.{size_left, text_left};
 ghost use Rattle.drv_words.specs.Bytes.{newline};
 ghost use Rattle.std.specs.List.{join_with_byte, list_all};
 ghost use Rattle.std.specs.Option.{option_map};
@@ -32,11 +32,13 @@ pub(crate) struct Body<'a> {
 }
 
 /// A text's first line, and what follows its newline, if it has one.
-#[tactic(auto, using(crate::proofs::Found::line_found, crate::proofs::Found::line_clean, crate::proofs::Found::line_alone))]
-pub(crate) fn cut_line(text: &[u8]) -> (&[u8], Option<&[u8]>)
+#[tactic(auto, using(crate::proofs::Found::line_found, crate::proofs::Found::line_clean, crate::proofs::Found::line_alone, crate::proofs::Sliced::line_only))]
+pub fn cut_line(text: &[u8]) -> (&[u8], Option<&[u8]>)
     ensures whole { text.now
         ≡ result.0.now ++ bytes_from (option_map (λ following. following.now) result.1) }
     ensures line { list_all (λ b. not (ends_line b)) result.0.now ≡ true }
+    ensures lines { lines_of text.now
+        ≡ result.0.now ∷ lines_from (option_map (λ following. following.now) result.1) }
 {
     match text.find_byte(b'\n') {
         Some(at) => (&text[..at], Some(&text[at + 1..])),
@@ -111,7 +113,7 @@ pub(crate) fn cut_body<'a>(lines: Lines<'a>) -> Body<'a>
 }
 
 /// A text's first word, cut at blanks, and what follows it.
-pub(crate) fn next_word(text: &[u8]) -> Option<(&[u8], &[u8])>
+pub fn next_word(text: &[u8]) -> Option<(&[u8], &[u8])>
     ensures none { IfNone result (words_of text.now ≡ []) }
     ensures some { IfSome result (λ found. words_of text.now ≡ found.0.now ∷ words_of found.1.now) }
 {

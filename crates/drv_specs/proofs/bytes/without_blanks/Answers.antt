@@ -9,10 +9,10 @@ use Rattle.std.proofs.Common.{length, refl}
 
 pub returns-clause-bytes : goal.returns-clause-bytes
 returns-clause-bytes c = front_by is_blank c.args.text.now c.following.result.now c.first_solid.result
-    (length c.args.text.now) c.unwrap_or-stays.result c.first_solid.ensures refl c.unwrap_or-stays.ensures c.following.ensures
+    (length c.args.text.now) c.unwrap_or-stays.result c.first_solid.ensures.is refl c.unwrap_or-stays.ensures c.following.ensures
 
 pub returns-clause-within : goal.returns-clause-within
 returns-clause-within c =
     front_within is_blank c.args.text.now c.following.result.now
     (front_by is_blank c.args.text.now c.following.result.now c.first_solid.result
-    (length c.args.text.now) c.unwrap_or-stays.result c.first_solid.ensures refl c.unwrap_or-stays.ensures c.following.ensures)
+    (length c.args.text.now) c.unwrap_or-stays.result c.first_solid.ensures.is refl c.unwrap_or-stays.ensures c.following.ensures)

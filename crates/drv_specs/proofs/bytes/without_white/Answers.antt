@@ -7,4 +7,4 @@ use Rattle.std.proofs.Common.{length, refl}
 
 pub returns : goal.returns
 returns c = front_by is_white c.args.text.now c.following.result.now c.first_black.result
-    (length c.args.text.now) c.unwrap_or-stays.result c.first_black.ensures refl c.unwrap_or-stays.ensures c.following.ensures
+    (length c.args.text.now) c.unwrap_or-stays.result c.first_black.ensures.is refl c.unwrap_or-stays.ensures c.following.ensures

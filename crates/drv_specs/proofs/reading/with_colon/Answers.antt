@@ -1,6 +1,6 @@
-use Rattle.drv_specs.proofs.Sliced.{colon_place, ends_at, ends_then}
+use Rattle.drv_specs.proofs.Sliced.{ends_at, ends_then, place_found}
 use Rattle.drv_specs.proofs.reading.with_colon.Goals as goal
-use Rattle.drv_specs.specs.Directives.{body_lines, by_colon, by_key, first_line}
+use Rattle.drv_specs.specs.Directives.{body_lines, by_colon, by_key, first_line, is_colon}
 use Rattle.drv_specs.specs.Code.Slices.{lines_left}
 use Rattle.drv_words.specs.Bytes.{newline}
 use Rattle.std.proofs.Common.{◌+◌, ◌-◌, [], ◌∷◌, ◌++◌, ◌∙◌, ap, sym, take}
@@ -8,13 +8,13 @@ use Rattle.std.specs.List.{join_with_byte}
 
 -- with_colon (src/reading.rt). What a line begins that may have a colon: `start` is the line without the blanks at its front.
 
--- Names: `lines_left`: the lines that are left. `colon_place`: the code's search finds the first colon. `by_colon`: the directive of a line
+-- Names: `lines_left`: the lines that are left. `place_found`: the code's search finds the first colon. `by_colon`: the directive of a line
 -- by its first colon.
 
 pub returns-in_default-clause-directive : goal.returns-in_default-clause-directive
 returns-in_default-clause-directive c =
     ap (λ d. d ∷ []) (sym (ap (by_colon (c.args.lines.number - 1) c.args.start.now (lines_left c.args.lines))
-    (colon_place c.args.start.now c.find_byte.result c.find_byte.ensures ∙ c.in_default.is)))
+    (place_found is_colon c.args.start.now c.find_byte.result c.find_byte.ensures ∙ c.in_default.is)))
 
 pub body_start-requires-clause-value : goal.body_start-requires-clause-value
 body_start-requires-clause-value c =
@@ -29,4 +29,4 @@ returns-clause-directive c =
     (c.cut_body-body.ensures.body ∙ ap (join_with_byte newline)
     (c.body_start.ensures.body ∙ ap (λ v. first_line v ++ body_lines (lines_left c.args.lines)) c.following-value.ensures))
     ∙ sym (ap (by_colon (c.args.lines.number - 1) c.args.start.now (lines_left c.args.lines))
-    (colon_place c.args.start.now c.find_byte.result c.find_byte.ensures ∙ c.in-Some.is)))
+    (place_found is_colon c.args.start.now c.find_byte.result c.find_byte.ensures ∙ c.in-Some.is)))
