@@ -60,87 +60,60 @@ line text = words_given (front text)
 abbrev pub gives : List ℕ → Option (List (List ℕ))
 gives text = Some (texts text)
 
--- The compiler gets the source's name for its side files, and a pipe is added.
-one_source : line (codes "-c a.c") ≡ gives (codes "-c a.c --gdrv-base=a.c --gdrv-ext=.c -pipe")
+-- The compiler gets the source's name for its side files.
+one_source : line (codes "-c a.c") ≡ gives (codes "-c a.c --gdrv-base=a.c --gdrv-ext=.c")
 unfolding sections ignored unpaired debugged_by
 one_source = refl
 
 -- With -c the side files are named after the output and lie in its folder.
-output : line (codes "-c a.c -o d/x.o") ≡ gives (codes "-c a.c -o d/x.o --gdrv-dir=d/ --gdrv-base=x.c --gdrv-ext=.c -pipe")
+output : line (codes "-c a.c -o d/x.o") ≡ gives (codes "-c a.c -o d/x.o --gdrv-dir=d/ --gdrv-base=x.c --gdrv-ext=.c")
 unfolding sections ignored unpaired debugged_by
 output = refl
 
 -- A link with an output of another name puts that name before those of the side files.
-linked : line (codes "a.c -o foo") ≡ gives (codes "a.c -o foo --gdrv-dir=foo- --gdrv-base=a.c --gdrv-ext=.c -pipe")
+linked : line (codes "a.c -o foo") ≡ gives (codes "a.c -o foo --gdrv-dir=foo- --gdrv-base=a.c --gdrv-ext=.c")
 unfolding sections ignored unpaired debugged_by
 linked = refl
 
-named_as_source : line (codes "a.c -o a") ≡ gives (codes "a.c -o a --gdrv-base=a.c --gdrv-ext=.c -pipe")
+named_as_source : line (codes "a.c -o a") ≡ gives (codes "a.c -o a --gdrv-base=a.c --gdrv-ext=.c")
 unfolding sections ignored unpaired debugged_by
 named_as_source = refl
 
 -- -no-canonical-prefixes is for gcc's driver alone, and goes.
-own_folders_stay : line (codes "-no-canonical-prefixes -c a.c") ≡ gives (codes "-c a.c --gdrv-base=a.c --gdrv-ext=.c -pipe")
+own_folders_stay : line (codes "-no-canonical-prefixes -c a.c") ≡ gives (codes "-c a.c --gdrv-base=a.c --gdrv-ext=.c")
 unfolding sections ignored unpaired debugged_by
 own_folders_stay = refl
 
 -- -fno-compare-debug is -fcompare-debug= without an argument.
-nothing_compared : line (codes "-c a.c -fno-compare-debug") ≡ gives (codes "-c a.c -fcompare-debug= --gdrv-base=a.c --gdrv-ext=.c -pipe")
+nothing_compared : line (codes "-c a.c -fno-compare-debug") ≡ gives (codes "-c a.c -fcompare-debug= --gdrv-base=a.c --gdrv-ext=.c")
 unfolding sections ignored unpaired debugged_by
 nothing_compared = refl
 
-compared_with_nothing : line (codes "-fcompare-debug= -c a.c") ≡ gives (codes "-fcompare-debug= -c a.c --gdrv-base=a.c --gdrv-ext=.c -pipe")
+compared_with_nothing : line (codes "-fcompare-debug= -c a.c") ≡ gives (codes "-fcompare-debug= -c a.c --gdrv-base=a.c --gdrv-ext=.c")
 unfolding sections ignored unpaired debugged_by
 compared_with_nothing = refl
 
--- Dependencies on standard output would mix with a pipe, so none is added.
-dependencies_printed : line (codes "-c a.c -MD -MF -") ≡ gives (codes "-c a.c -MD -MF - --gdrv-base=a.c --gdrv-ext=.c")
-unfolding sections ignored unpaired debugged_by
-dependencies_printed = refl
-
-dependencies_in_a_piece : line (codes "-c a.c -Wp,-MMD,-") ≡ gives (codes "-c a.c -Wp,-MMD,- --gdrv-base=a.c --gdrv-ext=.c")
-unfolding sections ignored unpaired debugged_by
-dependencies_in_a_piece = refl
-
-dependencies_in_a_file : line (codes "-c a.c -MD -MF d") ≡ gives (codes "-c a.c -MD -MF d --gdrv-base=a.c --gdrv-ext=.c -pipe")
-unfolding sections ignored unpaired debugged_by
-dependencies_in_a_file = refl
-
-dump_printed : line (codes "-c a.c -fdump-tree-optimized=stdout")
-    ≡ gives (codes "-c a.c -fdump-tree-optimized=stdout --gdrv-base=a.c --gdrv-ext=.c")
-unfolding sections ignored unpaired debugged_by
-dump_printed = refl
-
--- The assembler's listing names its input, which a pipe doesn't have.
-listing : line (codes "-c a.c -Wa,-W,-alh=l") ≡ gives (codes "-c a.c -Wa,-W,-alh=l --gdrv-base=a.c --gdrv-ext=.c")
-unfolding sections ignored unpaired debugged_by
-listing = refl
-
-no_listing : line (codes "-c a.c -Wa,-W,--al") ≡ gives (codes "-c a.c -Wa,-W,--al --gdrv-base=a.c --gdrv-ext=.c -pipe")
-unfolding sections ignored unpaired debugged_by
-no_listing = refl
-
 -- Two sources are named each after itself, behind the name of the program, which is a.
-two_sources : line (codes "a.c b.c") ≡ gives (codes "a.c b.c --gdrv-dir=a- -pipe")
+two_sources : line (codes "a.c b.c") ≡ gives (codes "a.c b.c --gdrv-dir=a-")
 unfolding sections ignored unpaired debugged_by
 two_sources = refl
 
-two_dependencies : line (codes "a.c b.c -o d/foo -MD") ≡ gives (codes "a.c b.c -o d/foo -MD --gdrv-dir=d/foo- --gdrv-dep=d/foo.d -pipe")
+two_dependencies : line (codes "a.c b.c -o d/foo -MD") ≡ gives (codes "a.c b.c -o d/foo -MD --gdrv-dir=d/foo- --gdrv-dep=d/foo.d")
 unfolding sections ignored unpaired debugged_by
 two_dependencies = refl
 
 dependencies : line (codes "-c a.c -MD -o d/x.y.o")
-    ≡ gives (codes "-c a.c -MD -o d/x.y.o --gdrv-dir=d/ --gdrv-base=x.y.c --gdrv-ext=.c --gdrv-dep=d/x.y.d -pipe")
+    ≡ gives (codes "-c a.c -MD -o d/x.y.o --gdrv-dir=d/ --gdrv-base=x.y.c --gdrv-ext=.c --gdrv-dep=d/x.y.d")
 unfolding sections ignored unpaired debugged_by
 dependencies = refl
 
 -- -MF names the file itself, so the front adds no name.
-dependencies_named : line (codes "-c a.c -MMD -MF f -MT t") ≡ gives (codes "-c a.c -MMD -MF f -MT t --gdrv-base=a.c --gdrv-ext=.c -pipe")
+dependencies_named : line (codes "-c a.c -MMD -MF f -MT t") ≡ gives (codes "-c a.c -MMD -MF f -MT t --gdrv-base=a.c --gdrv-ext=.c")
 unfolding sections ignored unpaired debugged_by
 dependencies_named = refl
 
 -- -dumpdir takes the place of the output's name; it is no word of the line any more.
-dump_folder : line (codes "a.c -dumpdir p- -o foo") ≡ gives (codes "a.c -o foo --gdrv-dir=p- --gdrv-base=a.c --gdrv-ext=.c -pipe")
+dump_folder : line (codes "a.c -dumpdir p- -o foo") ≡ gives (codes "a.c -o foo --gdrv-dir=p- --gdrv-base=a.c --gdrv-ext=.c")
 unfolding sections ignored unpaired debugged_by
 dump_folder = refl
 
@@ -152,11 +125,11 @@ saved = refl
 
 -- Options by their long names, with an argument in the word or behind it.
 long_names : line (codes "--compile a.c --output=x.o --define-macro A=1 --include-directory d")
-    ≡ gives (codes "-c a.c -o x.o -D A=1 -I d --gdrv-base=x.c --gdrv-ext=.c -pipe")
+    ≡ gives (codes "-c a.c -o x.o -D A=1 -I d --gdrv-base=x.c --gdrv-ext=.c")
 unfolding sections ignored unpaired debugged_by
 long_names = refl
 
--- -E writes on standard output, so there is no pipe.
+-- Options of the preprocessor by their long names.
 preprocessed : line (codes "--preprocess --no-line-commands a.c") ≡ gives (codes "-E -P a.c --gdrv-base=a.c --gdrv-ext=.c")
 unfolding sections ignored unpaired debugged_by
 preprocessed = refl
@@ -168,38 +141,38 @@ static_link = refl
 
 -- --warn-, --machine- and -- before a name mean -W, -m and -f, also beyond the table.
 renamed_options : line (codes "-c a.c --std=c99 --warn-no-unused --no-inline --machine-sse3")
-    ≡ gives (codes "-c a.c -std=c99 -Wno-unused -fno-inline -msse3 --gdrv-base=a.c --gdrv-ext=.c -pipe")
+    ≡ gives (codes "-c a.c -std=c99 -Wno-unused -fno-inline -msse3 --gdrv-base=a.c --gdrv-ext=.c")
 unfolding sections ignored unpaired debugged_by
 renamed_options = refl
 
 parameter : line (codes "-c --param ssp-buffer-size=4 a.c")
-    ≡ gives (codes "-c --param=ssp-buffer-size=4 a.c --gdrv-base=a.c --gdrv-ext=.c -pipe")
+    ≡ gives (codes "-c --param=ssp-buffer-size=4 a.c --gdrv-base=a.c --gdrv-ext=.c")
 unfolding sections ignored unpaired debugged_by
 parameter = refl
 
 -- -W is -Wextra, and of one class with -Wno-extra: the last stays.
-extra_warnings : line (codes "-c a.c -W -Wno-extra -Wextra") ≡ gives (codes "-c a.c -Wextra --gdrv-base=a.c --gdrv-ext=.c -pipe")
+extra_warnings : line (codes "-c a.c -W -Wno-extra -Wextra") ≡ gives (codes "-c a.c -Wextra --gdrv-base=a.c --gdrv-ext=.c")
 unfolding sections ignored unpaired debugged_by
 extra_warnings = refl
 
 -- -Wformat and -Wno-format are levels of one option, and both stay.
-formats : line (codes "-c a.c -Wformat -Wno-format") ≡ gives (codes "-c a.c -Wformat=1 -Wformat=0 --gdrv-base=a.c --gdrv-ext=.c -pipe")
+formats : line (codes "-c a.c -Wformat -Wno-format") ≡ gives (codes "-c a.c -Wformat=1 -Wformat=0 --gdrv-base=a.c --gdrv-ext=.c")
 unfolding sections ignored unpaired debugged_by
 formats = refl
 
 -- -pedantic and -std=c9x are called by their newer names.
-old_standard : line (codes "-c a.c -pedantic -std=c9x") ≡ gives (codes "-c a.c -Wpedantic -std=c99 --gdrv-base=a.c --gdrv-ext=.c -pipe")
+old_standard : line (codes "-c a.c -pedantic -std=c9x") ≡ gives (codes "-c a.c -Wpedantic -std=c99 --gdrv-base=a.c --gdrv-ext=.c")
 unfolding sections ignored unpaired debugged_by
 old_standard = refl
 
 -- Where the compiler calls -mcpu= so, it is -mtune=.
 tuned : line_by (codes "-mcpu=\n-mcpu=>-mtune=") (codes "-c a.c -mtune=nocona -mcpu=k8")
-    ≡ gives (codes "-c a.c -mtune=k8 --gdrv-base=a.c --gdrv-ext=.c -pipe")
+    ≡ gives (codes "-c a.c -mtune=k8 --gdrv-base=a.c --gdrv-ext=.c")
 unfolding sections ignored unpaired debugged_by
 tuned = refl
 
 own_machine : line_by (codes "-mcpu=") (codes "-c a.c -mcpu=a53 -mtune=a72")
-    ≡ gives (codes "-c a.c -mcpu=a53 -mtune=a72 --gdrv-base=a.c --gdrv-ext=.c -pipe")
+    ≡ gives (codes "-c a.c -mcpu=a53 -mtune=a72 --gdrv-base=a.c --gdrv-ext=.c")
 unfolding sections ignored unpaired debugged_by
 own_machine = refl
 
@@ -225,55 +198,55 @@ unfolding sections ignored unpaired debugged_by
 static_twice = refl
 
 -- -fPIC, -fpie and their negatives are one ring.
-code_models : line (codes "-c a.c -fPIC -fpie -fno-pic") ≡ gives (codes "-c a.c -fno-pic --gdrv-base=a.c --gdrv-ext=.c -pipe")
+code_models : line (codes "-c a.c -fPIC -fpie -fno-pic") ≡ gives (codes "-c a.c -fno-pic --gdrv-base=a.c --gdrv-ext=.c")
 unfolding sections ignored unpaired debugged_by
 code_models = refl
 
-widths : line (codes "-c a.c -m32 -mx32 -m64") ≡ gives (codes "-c a.c -m64 --gdrv-base=a.c --gdrv-ext=.c -pipe")
+widths : line (codes "-c a.c -m32 -mx32 -m64") ≡ gives (codes "-c a.c -m64 --gdrv-base=a.c --gdrv-ext=.c")
 unfolding sections ignored unpaired debugged_by
 widths = refl
 
-machines : line (codes "-c a.c -march=k8 -march=nocona") ≡ gives (codes "-c a.c -march=nocona --gdrv-base=a.c --gdrv-ext=.c -pipe")
+machines : line (codes "-c a.c -march=k8 -march=nocona") ≡ gives (codes "-c a.c -march=nocona --gdrv-base=a.c --gdrv-ext=.c")
 unfolding sections ignored unpaired debugged_by
 machines = refl
 
 -- All -O stay, since the last one counts anyhow; -flto goes with its negative.
-levels_and_lto : line (codes "-c a.c -O3 -O0 -flto -fno-lto") ≡ gives (codes "-c a.c -O3 -O0 -fno-lto --gdrv-base=a.c --gdrv-ext=.c -pipe")
+levels_and_lto : line (codes "-c a.c -O3 -O0 -flto -fno-lto") ≡ gives (codes "-c a.c -O3 -O0 -fno-lto --gdrv-base=a.c --gdrv-ext=.c")
 unfolding sections ignored unpaired debugged_by
 levels_and_lto = refl
 
 -- After -g0 a plain -g asks for level 2, in the version that gcc has by itself.
-debug_again : line (codes "-c a.c -g0 -g") ≡ gives (codes "-c a.c -g0 -g --gdrv-base=a.c --gdrv-ext=.c --gdrv-level=2 --gdrv-dwarf=5 -pipe")
+debug_again : line (codes "-c a.c -g0 -g") ≡ gives (codes "-c a.c -g0 -g --gdrv-base=a.c --gdrv-ext=.c --gdrv-level=2 --gdrv-dwarf=5")
 unfolding sections ignored unpaired debugged_by
 debug_again = refl
 
 assembler_versions : line (codes "-c s.s -gdwarf-2 -gdwarf-5")
-    ≡ gives (codes "-c s.s -gdwarf-2 -gdwarf-5 --gdrv-level=2 --gdrv-dwarf=5 -pipe")
+    ≡ gives (codes "-c s.s -gdwarf-2 -gdwarf-5 --gdrv-level=2 --gdrv-dwarf=5")
 unfolding sections ignored unpaired debugged_by
 assembler_versions = refl
 
-strict_alone : line (codes "-c s.s -gstrict-dwarf") ≡ gives (codes "-c s.s -gstrict-dwarf -pipe")
+strict_alone : line (codes "-c s.s -gstrict-dwarf") ≡ gives (codes "-c s.s -gstrict-dwarf")
 unfolding sections ignored unpaired debugged_by
 strict_alone = refl
 
-level_set : line (codes "-c a.c -g3 -g1") ≡ gives (codes "-c a.c -g3 -g1 --gdrv-base=a.c --gdrv-ext=.c --gdrv-level=1 --gdrv-dwarf=5 -pipe")
+level_set : line (codes "-c a.c -g3 -g1") ≡ gives (codes "-c a.c -g3 -g1 --gdrv-base=a.c --gdrv-ext=.c --gdrv-level=1 --gdrv-dwarf=5")
 unfolding sections ignored unpaired debugged_by
 level_set = refl
 
 -- -gtoggle turns what -g asks for off.
-toggled_off : line (codes "-c a.c -g -gtoggle") ≡ gives (codes "-c a.c -g -gtoggle --gdrv-base=a.c --gdrv-ext=.c -pipe")
+toggled_off : line (codes "-c a.c -g -gtoggle") ≡ gives (codes "-c a.c -g -gtoggle --gdrv-base=a.c --gdrv-ext=.c")
 unfolding sections ignored unpaired debugged_by
 toggled_off = refl
 
 -- The link gets no library of a check that was taken back.
 checks_taken_back : line (codes "a.c -fsanitize=address,undefined -fno-sanitize=address")
-    ≡ gives (codes "a.c -fsanitize=address,undefined -fno-sanitize=address --gdrv-base=a.c --gdrv-ext=.c --gdrv-san=ubsan -pipe")
+    ≡ gives (codes "a.c -fsanitize=address,undefined -fno-sanitize=address --gdrv-base=a.c --gdrv-ext=.c --gdrv-san=ubsan")
 unfolding sections ignored unpaired debugged_by
 checks_taken_back = refl
 
 -- The library for threads finds leaks too, so the one for leaks is not added.
 leaks_and_threads : line (codes "a.c -fsanitize=leak -fsanitize=thread")
-    ≡ gives (codes "a.c -fsanitize=leak -fsanitize=thread --gdrv-base=a.c --gdrv-ext=.c --gdrv-san=tsan -pipe")
+    ≡ gives (codes "a.c -fsanitize=leak -fsanitize=thread --gdrv-base=a.c --gdrv-ext=.c --gdrv-san=tsan")
 unfolding sections ignored unpaired debugged_by
 leaks_and_threads = refl
 
@@ -289,7 +262,7 @@ unfolding sections ignored unpaired debugged_by
 trapping = refl
 
 -- -fopenmp needs threads, and --coverage is -coverage.
-threads : line (codes "-c a.c -fopenmp --coverage") ≡ gives (codes "-c a.c -fopenmp -coverage -pthread --gdrv-base=a.c --gdrv-ext=.c -pipe")
+threads : line (codes "-c a.c -fopenmp --coverage") ≡ gives (codes "-c a.c -fopenmp -coverage -pthread --gdrv-base=a.c --gdrv-ext=.c")
 unfolding sections ignored unpaired debugged_by
 threads = refl
 
@@ -321,25 +294,25 @@ parameter_of_a_link : front (codes "o.o --param x=1") ≡ Ask
 unfolding sections ignored unpaired debugged_by
 parameter_of_a_link = refl
 
-parameter_of_a_source : line (codes "-c a.c --param x=1") ≡ gives (codes "-c a.c --param=x=1 --gdrv-base=a.c --gdrv-ext=.c -pipe")
+parameter_of_a_source : line (codes "-c a.c --param x=1") ≡ gives (codes "-c a.c --param=x=1 --gdrv-base=a.c --gdrv-ext=.c")
 unfolding sections ignored unpaired debugged_by
 parameter_of_a_source = refl
 
 -- More than one thread for loops needs threads.
 parallel_loops : line (codes "a.c -ftree-parallelize-loops=4")
-    ≡ gives (codes "a.c -ftree-parallelize-loops=4 -pthread --gdrv-base=a.c --gdrv-ext=.c -pipe")
+    ≡ gives (codes "a.c -ftree-parallelize-loops=4 -pthread --gdrv-base=a.c --gdrv-ext=.c")
 unfolding sections ignored unpaired debugged_by
 parallel_loops = refl
 
 -- The ring of colours has options with and without an argument.
 colours : line (codes "-c a.c -fdiagnostics-color=always -Wall -fno-diagnostics-color")
-    ≡ gives (codes "-c a.c -Wall -fdiagnostics-color=never --gdrv-base=a.c --gdrv-ext=.c -pipe")
+    ≡ gives (codes "-c a.c -Wall -fdiagnostics-color=never --gdrv-base=a.c --gdrv-ext=.c")
 unfolding sections ignored unpaired debugged_by
 colours = refl
 
 -- An option that takes an argument is of no class, so both stay.
 visibilities : line (codes "-c a.c -fvisibility=hidden -fvisibility=default")
-    ≡ gives (codes "-c a.c -fvisibility=hidden -fvisibility=default --gdrv-base=a.c --gdrv-ext=.c -pipe")
+    ≡ gives (codes "-c a.c -fvisibility=hidden -fvisibility=default --gdrv-base=a.c --gdrv-ext=.c")
 unfolding sections ignored unpaired debugged_by
 visibilities = refl
 
@@ -348,24 +321,24 @@ standard_input : line (codes "-E - -x c") ≡ gives (codes "-E - -x c")
 unfolding sections ignored unpaired debugged_by
 standard_input = refl
 
--- -fsyntax-only writes no output, so no pipe is added.
+-- -fsyntax-only writes no output, but side files.
 syntax_only : line (codes "-fsyntax-only a.c") ≡ gives (codes "-fsyntax-only a.c --gdrv-base=a.c --gdrv-ext=.c")
 unfolding sections ignored unpaired debugged_by
 syntax_only = refl
 
 -- -Wno- with any name is left to the compiler, which speaks of it only beside other messages.
 unknown_warning : line (codes "-c a.c -Wno-such-thing -fstack-usage -o x.o")
-    ≡ gives (codes "-c a.c -Wno-such-thing -fstack-usage -o x.o --gdrv-base=x.c --gdrv-ext=.c -pipe")
+    ≡ gives (codes "-c a.c -Wno-such-thing -fstack-usage -o x.o --gdrv-base=x.c --gdrv-ext=.c")
 unfolding sections ignored unpaired debugged_by
 unknown_warning = refl
 
 -- A file that -x makes a source of C has no suffix, so the compiler gets none.
-language_given : line (codes "-x c foo -c -o x.o") ≡ gives (codes "-x c foo -c -o x.o --gdrv-base=x -pipe")
+language_given : line (codes "-x c foo -c -o x.o") ≡ gives (codes "-x c foo -c -o x.o --gdrv-base=x")
 unfolding sections ignored unpaired debugged_by
 language_given = refl
 
 -- Options that gcc passes over go, with their arguments.
-ignored_names : line (codes "-c a.c -fforce-addr -fno-zee -R d") ≡ gives (codes "-c a.c --gdrv-base=a.c --gdrv-ext=.c -pipe")
+ignored_names : line (codes "-c a.c -fforce-addr -fno-zee -R d") ≡ gives (codes "-c a.c --gdrv-base=a.c --gdrv-ext=.c")
 unfolding sections ignored unpaired debugged_by
 ignored_names = refl
 
@@ -378,7 +351,7 @@ vendors = refl
 -- -gsplit-dwarf keeps a file beside the object, so the compiler gets its name.
 split : line (codes "-c a.c -gsplit-dwarf -g -o d/x.o")
     ≡ gives (codes "-c a.c -gsplit-dwarf -g -o d/x.o --gdrv-dir=d/ --gdrv-base=x.c --gdrv-ext=.c"
-    ++ codes " --gdrv-aux=d/x --gdrv-level=2 --gdrv-dwarf=5 -pipe")
+    ++ codes " --gdrv-aux=d/x --gdrv-level=2 --gdrv-dwarf=5")
 unfolding sections ignored unpaired debugged_by
 split = refl
 
@@ -498,7 +471,7 @@ unfolding sections ignored unpaired debugged_by
 given_folder = refl
 
 -- names of side files that the line gives, as gcc folds them
-base_alone : line (codes "-c a.c -dumpbase n.c") ≡ gives (codes "-c a.c --gdrv-base=n.c -pipe")
+base_alone : line (codes "-c a.c -dumpbase n.c") ≡ gives (codes "-c a.c --gdrv-base=n.c")
 unfolding sections ignored unpaired debugged_by
 base_alone = refl
 
@@ -509,29 +482,29 @@ base_with_end = refl
 
 -- In a link the base, without the end that the last -dumpbase-ext names, precedes the names of side files.
 base_leads : line (codes "a.c -dumpbase n.c -dumpbase-ext .c -dumpbase-ext c")
-    ≡ gives (codes "a.c --gdrv-dir=n.- --gdrv-base=a.c --gdrv-ext=.c -pipe")
+    ≡ gives (codes "a.c --gdrv-dir=n.- --gdrv-base=a.c --gdrv-ext=.c")
 unfolding sections ignored unpaired debugged_by
 base_leads = refl
 
 -- So it does with several sources, behind the folder of -dumpdir.
-base_of_several : line (codes "a.c b.c -c -dumpdir p- -dumpbase n.c") ≡ gives (codes "a.c b.c -c --gdrv-dir=p-n.c- -pipe")
+base_of_several : line (codes "a.c b.c -c -dumpdir p- -dumpbase n.c") ≡ gives (codes "a.c b.c -c --gdrv-dir=p-n.c-")
 unfolding sections ignored unpaired debugged_by
 base_of_several = refl
 
 -- A base with a folder takes no other one.
-base_with_a_folder : line (codes "a.c -dumpdir p- -dumpbase e/n.c -MD") ≡ gives (codes "a.c -MD --gdrv-base=e/n.c --gdrv-dep=e/n.c.d -pipe")
+base_with_a_folder : line (codes "a.c -dumpdir p- -dumpbase e/n.c -MD") ≡ gives (codes "a.c -MD --gdrv-base=e/n.c --gdrv-dep=e/n.c.d")
 unfolding sections ignored unpaired debugged_by
 base_with_a_folder = refl
 
 -- An empty base gives the names that the sources have, in the output's folder.
 base_of_nothing : line (codes "-c a.c -dumpbase  -o d/q.o")
-    ≡ gives (codes "-c a.c -o d/q.o --gdrv-dir=d/ --gdrv-base=a.c --gdrv-ext=.c -pipe")
+    ≡ gives (codes "-c a.c -o d/q.o --gdrv-dir=d/ --gdrv-base=a.c --gdrv-ext=.c")
 unfolding sections ignored unpaired debugged_by
 base_of_nothing = refl
 
 -- -dumpbase-ext without a base is the end of the program's name.
 end_of_the_program : line (codes "a.c --dumpbase-ext .q -o d/x.q")
-    ≡ gives (codes "a.c -o d/x.q --gdrv-dir=d/x- --gdrv-base=a.c --gdrv-ext=.c -pipe")
+    ≡ gives (codes "a.c -o d/x.q --gdrv-dir=d/x- --gdrv-base=a.c --gdrv-ext=.c")
 unfolding sections ignored unpaired debugged_by
 end_of_the_program = refl
 
@@ -541,7 +514,7 @@ no_place_of_no_file : line (codes "a.c -dumpdir p- -save-temps=obj -o /dev/null"
 unfolding sections ignored unpaired debugged_by
 no_place_of_no_file = refl
 
--- words before each command: a pipe would hide the second of two
+-- The words of the last -wrapper precede each command.
 wrapped : line (codes "-c a.c -wrapper x -wrapper a,,b")
     ≡ gives (codes "-c a.c --gdrv-wrapper=a --gdrv-wrapper=b --gdrv-base=a.c --gdrv-ext=.c")
 unfolding sections ignored unpaired debugged_by

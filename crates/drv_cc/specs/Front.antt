@@ -1,12 +1,11 @@
 use Rattle.drv_args.specs.declared.items.Item.{Item as LineItem}
 use Rattle.drv_args.specs.declared.option_table.Effect.TheVariants as effect
-use Rattle.drv_args.specs.declared.option_table.Setting.TheVariants as setting
 use Rattle.drv_cc.specs.Asked.{is_asked}
-use Rattle.drv_cc.specs.Items.{begins, is_among, items_of, same, words_of}
+use Rattle.drv_cc.specs.Items.{is_among, items_of, same, words_of}
 use Rattle.drv_cc.specs.Kept.{effective_items, has, is_file_role, is_vendors, last_argument, refusals}
 use Rattle.drv_cc.specs.Levels.{check_words, debug_words}
 use Rattle.drv_cc.specs.LineItems.{alone, item_of, line_item}
-use Rattle.drv_cc.specs.SideFiles.{inputs, is_some, link_beginning, side_words, sources, stops, with_value, worked}
+use Rattle.drv_cc.specs.SideFiles.{inputs, link_beginning, side_words, stops, with_value}
 use Rattle.drv_cc.specs.Table.{texts}
 use Rattle.drv_cc.specs.declared.answer.Answer.TheVariants.{Ask, Refuse, Run}
 use Rattle.drv_cc.specs.declared.answer.Answer.{Answer}
@@ -26,8 +25,8 @@ use Rattle.std.specs.Prelude.{map, nat_eq, nat_lt, not, true, ℕ}
 -- A line of gcc as a line of the driver: a question for the compiler, refusals, or the items of what stays of the line and of what gcc's
 -- driver adds to it (GCC manual, "Invoking GCC"). No words are made of them: an empty argument is one, and what is added is a switch of its
 -- name.
--- For clauses of src/quoting.rt, src/line_adding.rt, src/piping.rt and others. drv_compile cites it too. The texts of drv_gcc
--- (specs/SpecFile.antt, specs/Fixed.antt) read its words --gdrv-..: a word that changes here changes there too.
+-- For clauses of src/quoting.rt, src/line_adding.rt and others. drv_compile cites it too. The texts of drv_gcc (specs/SpecFile.antt,
+-- specs/Fixed.antt) read its words --gdrv-..: a word that changes here changes there too.
 
 -- Added: threads, where an option needs them ("C Dialect Options", -fopenmp; "Optimize Options", -ftree-parallelize-loops).
 
@@ -131,50 +130,7 @@ macro_word i = if same i.name (codes "-D") then (codes "--gdrv-define=" ++ i.arg
 abbrev pub macro_words : List Item → List (List ℕ)
 macro_words items = if is_vendors items then flat_map macro_word items else []
 
--- Added: pipes, where a source is compiled or assembled and nothing speaks against them ("Overall Options", -pipe).
-
--- the options that speak against pipes: they stop early, keep files, or run their own commands
-abbrev pub unpiped : List (List ℕ)
-unpiped = texts (codes "-pipe -save-temps -save-temps=cwd -save-temps=obj -S -E -M -MM -fsyntax-only -no-integrated-cpp -wrapper")
-
--- what may write on standard output, which is the pipe then ("Preprocessor Options", -MF, -Wp,; "C Dialect Options", -aux-info;
--- "Developer Options", -fdump-, -fopt-info; "Instrumentation Options", -fprofile-note=; "Overall Options", -fplugin=)
-
--- whether an argument names standard output
-abbrev pub is_output : List ℕ → Bool
-is_output name = same name (codes "-") || same name (codes "/dev/stdout")
-
--- whether an item names standard output as its file: -MF, -aux-info, or a piece for the preprocessor
-abbrev pub names_output : Item → Bool
-names_output i =
-    ((same i.name (codes "-MF") || same i.name (codes "-aux-info") || same i.name (codes "-Xpreprocessor")) && is_output i.argument)
-    || (same i.name (codes "-Wp,") && list_any is_output (pieces i.argument))
-
--- whether an item may write on standard output: then commands must not be joined by a pipe
-abbrev pub prints : Item → Bool
-prints i =
-    begins (codes "-fplugin=") i.name || begins (codes "-fdump-") i.name || begins (codes "-fopt-info") i.name
-    || begins (codes "-fprofile-note=") i.name || names_output i
-
--- a listing names the assembler's input ("Assembler Options", and -a of the assembler's manual)
-abbrev pub lists : Item → Bool
-lists i =
-    (same i.name (codes "-Xassembler") && begins (codes "-a") i.argument)
-    || (same i.name (codes "-Wa,") && list_any (begins (codes "-a")) (pieces i.argument))
-
--- whether an item speaks against pipes
-abbrev pub is_unpiped : Item → Bool
-is_unpiped i = is_among unpiped i.name || prints i || lists i
-
--- whether the commands of a line are joined by pipes: it has a source, and no item speaks against them
-abbrev pub is_piped : List Item → Bool
-is_piped items = is_some (sources worked items) && not (list_any is_unpiped items)
-
--- the switch -pipe, where commands are joined: files between them would be slower and mean the same
-abbrev pub pipe_words : List Item → List (List ℕ)
-pipe_words items = if is_piped items then codes "-pipe" ∷ [] else []
-
--- All that is added: each word is a switch, and the pipe a setting too.
+-- All that is added: each word is a switch.
 
 -- the words for folders, libraries, the wrapper and macros, which precede the other words that are added
 abbrev pub first_words : Surroundings → List Item → List (List ℕ)
@@ -185,15 +141,10 @@ first_words around items =
 abbrev pub added_switches : Surroundings → List Item → List (List ℕ)
 added_switches around items = first_words around items ++ side_words items ++ debug_words items ++ check_words items
 
--- the setting of the driver that joins commands by pipes
-abbrev pub added_pipe : List Item → List LineItem
-added_pipe items = map (alone (effect.TurnsOn setting.Pipe)) (pipe_words items)
-
 -- all items that gcc's driver would add to a line, or add in effect
 abbrev pub added_items : Surroundings → List Item → List LineItem
 added_items around items =
     map (alone effect.Switch) (thread_words items) ++ program_items around items ++ map (alone effect.Switch) (added_switches around items)
-    ++ added_pipe items
 
 -- For the children of a link: the linker's plugin calls the compiler again, with the switches of the line (GCC Internals, "LTO",
 -- "lto-wrapper"). Each word is between single quotes.

@@ -2,7 +2,7 @@ use Rattle.drv_args.specs.declared.items.Item.{Item as LineItem}
 use Rattle.drv_args.specs.declared.option_table.Effect.TheVariants as effect
 use Rattle.drv_args.specs.declared.option_table.Effect.{Effect}
 use Rattle.drv_args.specs.declared.option_table.Setting.TheVariants as setting
-use Rattle.drv_cc.specs.Front.{added_pipe, assembler_variables, dump_words, first_words, program_items, switch_words, thread_words}
+use Rattle.drv_cc.specs.Front.{assembler_variables, dump_words, first_words, program_items, switch_words, thread_words}
 use Rattle.drv_cc.specs.Front.{variables_by}
 use Rattle.drv_cc.specs.Items.{is_among, item, items_of, same}
 use Rattle.drv_cc.specs.Kept.{effective_items, has, last_argument, refused_role}
@@ -122,7 +122,7 @@ switches_with around items given all = first_words around all ++ side_words item
 -- what is added to a line that the text gave items
 abbrev pub added_with : Surroundings → List Item → List Item → List Item → List LineItem
 added_with around items given all =
-    program_items around all ++ map (alone effect.Switch) (switches_with around items given all) ++ added_pipe all
+    program_items around all ++ map (alone effect.Switch) (switches_with around items given all)
 
 -- all items of the driver's line then: `left` are those that the text left, and `given` those that it gives
 abbrev pub items_with : Surroundings → List Item → List Item → List Item → List LineItem

@@ -18,7 +18,7 @@ use crate::item::Item;
 use crate::judging::refuse;
 use crate::keeping::effective_items;
 use crate::levels::add_levels_with;
-use crate::line_adding::{add_first_words, add_pipe, add_program_items, add_switches};
+use crate::line_adding::{add_first_words, add_program_items, add_switches};
 use crate::line_items::add_kept;
 use crate::reading::items_of;
 use crate::sides::add_side_words;
@@ -211,7 +211,6 @@ fn added_with(
     add_program_items(alloc, around, all, &mut added)?;
     let words = switches_with(alloc, around, items, given, all)?;
     add_switches(alloc, words.as_slice(), &mut added)?;
-    add_pipe(alloc, all, &mut added)?;
     Ok(added)
 }
 

@@ -28,7 +28,6 @@ mod macros;
 mod name_groups;
 mod names;
 mod parted_beginnings;
-mod piping;
 mod places;
 mod placing;
 mod quoting;

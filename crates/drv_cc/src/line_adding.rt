@@ -1,7 +1,7 @@
 //! What is added to a line, as items of the driver's line.
 
 ghost use Rattle.drv_args.specs.declared.option_table.Effect.TheVariants as added;
-ghost use Rattle.drv_cc.specs.Front.{added_items, added_pipe, added_switches, first_words};
+ghost use Rattle.drv_cc.specs.Front.{added_items, added_switches, first_words};
 ghost use Rattle.drv_cc.specs.Front.{folder_words, folders, has_folders, prefixes, program_items};
 ghost use Rattle.drv_cc.specs.Front.{thread_words};
 ghost use Rattle.drv_cc.specs.LineItems.{alone, item_of};
@@ -15,11 +15,10 @@ use crate::judging::is_vendors;
 use crate::keeping::has;
 use crate::levels::add_debug_words;
 use crate::macros::add_macro_words;
-use crate::piping::add_pipe_words;
 use crate::sides::add_side_words;
 use crate::words::add_word;
 use crate::wrapping::add_wrapper_words;
-use drv_args::{Effect, Setting};
+use drv_args::Effect;
 use drv_words::{Listing, Word};
 use std::alloc::{AllocError, Global};
 
@@ -44,21 +43,6 @@ fn add_one(
     Ok(())
 }
 
-/// Adds an item without an argument for each word.
-fn add_alone(
-    alloc: Global,
-    effect: Effect,
-    words: &[Word],
-    given: &mut Listing<drv_args::Item>,
-) -> Result<(), AllocError>
-    ensures { OnOk result (given.new ≡ given.old ++ map (alone effect) words.now) }
-{
-    for word in words {
-        add_one(alloc, effect, word.as_bytes(), b"", given)?;
-    }
-    Ok(())
-}
-
 /// Adds each word as a switch.
 pub(crate) fn add_switches(
     alloc: Global,
@@ -67,7 +51,10 @@ pub(crate) fn add_switches(
 ) -> Result<(), AllocError>
     ensures { OnOk result (given.new ≡ given.old ++ map (alone added.Switch) words.now) }
 {
-    add_alone(alloc, Effect::Switch, words, given)
+    for word in words {
+        add_one(alloc, Effect::Switch, word.as_bytes(), b"", given)?;
+    }
+    Ok(())
 }
 
 /// Adds each folder as a prefix of this option.
@@ -206,24 +193,6 @@ fn add_thread_switches(
     add_switches(alloc, words.as_slice(), given)
 }
 
-/// Adds the pipe, where there is one.
-pub(crate) fn add_pipe(
-    alloc: Global,
-    items: &[Item],
-    given: &mut Listing<drv_args::Item>,
-) -> Result<(), AllocError>
-    ensures { OnOk result (given.new ≡ given.old ++ added_pipe items.now) }
-{
-    let mut words = Listing::new(alloc);
-    add_pipe_words(alloc, items, &mut words)?;
-    add_alone(
-        alloc,
-        Effect::TurnsOn(Setting::Pipe),
-        words.as_slice(),
-        given,
-    )
-}
-
 /// Adds all that gcc's driver adds.
 pub(crate) fn add_items(
     alloc: Global,
@@ -235,6 +204,5 @@ pub(crate) fn add_items(
 {
     add_thread_switches(alloc, items, given)?;
     add_program_items(alloc, around, items, given)?;
-    add_added_switches(alloc, around, items, given)?;
-    add_pipe(alloc, items, given)
+    add_added_switches(alloc, around, items, given)
 }
