@@ -9,13 +9,6 @@ use crate::slices::{after_first, first_of};
 use bstr::ByteSlice;
 use drv_words::split_at_last;
 
-/// Whether a byte ends a line.
-fn ends_line(byte: u8) -> bool
-    ensures { result ≡ ends_line byte }
-{
-    byte == b'\n'
-}
-
 /// What follows the first newline.
 #[tactic(auto, using(crate::proofs::Newlines::one_more, crate::proofs::Newlines::none_left))]
 fn behind_newline(bytes: &[u8]) -> Option<&[u8]>
@@ -45,11 +38,12 @@ fn count_newlines(bytes: &[u8]) -> usize
 }
 
 /// The place of the first newline.
+#[tactic(auto, using(drv_specs::proofs::Sliced::place_found))]
 fn newline_in(bytes: &[u8]) -> Option<usize>
     ensures is { result ≡ position ends_line bytes.now }
     ensures within { IfSome result (λ at. at < length bytes.now) }
 {
-    bytes.iter().position(|byte| ends_line(*byte))
+    bytes.find_byte(b'\n')
 }
 
 /// The number of the line that has a byte, from 1; for a place after the end, of the last line.
