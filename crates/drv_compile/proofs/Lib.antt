@@ -1,4 +1,5 @@
 pub mod Absent
+pub mod Begun
 pub mod ChildTexts
 pub mod CutLines
 pub mod Decided
