@@ -17,6 +17,7 @@ pub mod Prepared
 pub mod Ran
 pub mod RowsAsked
 pub mod Settled
+pub mod Stamped
 pub mod Told
 pub mod Values
 pub mod Worded

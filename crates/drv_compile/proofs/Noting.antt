@@ -1,4 +1,4 @@
-use Rattle.drv_compile.proofs.Worded.{memory_stops}
+use Rattle.drv_compile.proofs.Worded.{memory_stops, stop_stays}
 use Rattle.drv_compile.specs.Inputs.{Noted}
 use Rattle.drv_compile.specs.Tasks.{IfTold}
 use Rattle.drv_compile.specs.declared.host.HostEvent.{HostEvent}
@@ -7,7 +7,7 @@ use Rattle.drv_compile.specs.declared.stop.Stop.{Stop}
 use Rattle.drv_system.specs.Facts.{Facts}
 use Rattle.std.proofs.Common.{◌≡◌, ◌∙◌, ◌++◌, [], IsErrAnd, List, Result, ap, append_assoc, sym, ℕ}
 use Rattle.std.proofs.lemmas.List.{append-nil}
-use Rattle.std.specs.Prelude.{MatchResult}
+use Rattle.std.specs.Prelude.{MatchResult, ⊤}
 
 -- For the functions that ask the host (src/row_asking.rt, src/driving.rt, src/preparing.rt): what was noted, from step to step.
 -- Names: `before`, `mid` and `after` are the host's events before a step, after it, and after the next. `events` is what was added. `what`,
@@ -45,3 +45,17 @@ pub memory_noted_over : {X : Type 0} (before after : List HostEvent) (what : Lis
     → Noted before after (λ events. (F : Facts) → knows F → MatchResult result (done F events) (λ s. IfTold s (told F events)))
 memory_noted_over before after what result knows done told (events, grown, is) memory =
     (events, grown, λ F k. memory_stops result (done F events) (told F events) memory)
+
+-- If a step stopped, and its stop is handed on, then what it noted and told stays.
+pub stop_noted : {X : Type 0} (before after : List HostEvent) (stop : Stop) (result : Result X Stop)
+    (knows : Facts → Type 0) (done : Facts → List HostEvent → X → Type 0)
+    (told : Facts → List HostEvent → List ℕ → Type 0) → IsErrAnd result (λ s. s ≡ stop)
+    → Noted before after (λ events. (F : Facts) → knows F → IfTold stop (told F events))
+    → Noted before after (λ events. (F : Facts) → knows F → MatchResult result (done F events) (λ s. IfTold s (told F events)))
+stop_noted before after stop result knows done told is (events, grown, tells) =
+    (events, grown, λ F k. stop_stays result stop (done F events) (told F events) is (tells F k))
+
+-- two steps noted something
+pub both_noted : (before mid after : List HostEvent) (one two : List HostEvent → Type 0) → Noted before mid one → Noted mid after two
+    → Noted before after (λ events. ⊤)
+both_noted before mid after one two = noted_then before mid after one two (λ events. ⊤) (λ events more is is'. tt)

@@ -5,7 +5,7 @@ use Rattle.drv_cc.specs.declared.answer.Variable.{Variable}
 use Rattle.drv_compile.proofs.Noting.{noted_then}
 use Rattle.drv_compile.proofs.Worded.{stop_stays, told_as}
 use Rattle.drv_compile.specs.Code.Preparing.{IsDone, IsFailure, IsOverwriting, IsPrepared, IsQuestion, IsUndone, IsUnplanned}
-use Rattle.drv_compile.specs.Compiles.{Comes, IsPlanned, Refuses, asks, declines, drives, fails}
+use Rattle.drv_compile.specs.Compiles.{IsPlanned, Plans, Refuses, asks, declines, drives, fails}
 use Rattle.drv_compile.specs.Compiles.{no_words, objected, overwriting, performs, stopped, undriven, unworded}
 use Rattle.drv_compile.specs.Decides.{decide}
 use Rattle.drv_compile.specs.Driven.{IsWorker, Undriven}
@@ -44,7 +44,7 @@ use Rattle.std.specs.Prelude.{MatchResult, is_some}
 -- gives. `Noted before after P`: events were added, of which P holds. `IfTold stop P`: P holds of the stop's text, if it has one.
 -- `MatchResult result P Q`: P holds of the value, or Q of the fault. `IsErrAnd result P`: there is a fault, of which P holds. `objection`
 -- is what speaks against a line, and `Overwrites` says whether its output is an input (specs/Inputs). `IsPrepared`, `IsUnplanned`, `IsDone`
--- and `IsUndone` are in specs/Code/Preparing. `Comes` and `Refuses` are the whole call: what it has to do, or the text of its refusal
+-- and `IsUndone` are in specs/Code/Preparing. `Plans` and `Refuses` are the whole call: what it has to do, or the text of its refusal
 -- (specs/Compiles).
 
 -- an output that is an input, or none
@@ -249,14 +249,14 @@ unworded_plan F line call events worker options slice name specs text works is s
 
 -- the whole
 
--- For `prepare`: if the decision leads to a question, then asking the compiler is what the call has to do.
+-- For `prepare_task`: if the decision leads to a question, then asking the compiler is what the call has to do.
 pub question_comes : (F : Facts) (calling : Calling) (own : Option (List ℕ)) (args : List (List ℕ)) (seed : ℕ) (words : Expanded)
     (slice : List (List ℕ)) (decision : Decision) (task : Task) (specs lent compiler : List ℕ) (prepared : Prepared)
     → slice ≡ words.words → Words F calling args words → decide F own slice ≡ Is decision → Leads decision task
     → task ≡ Question specs compiler → lent ≡ specs → IsQuestion calling lent compiler args prepared
-    → Comes F calling own args seed [] prepared
+    → Plans F calling own args seed [] prepared
 question_comes F calling own args seed words slice decision task specs lent compiler prepared same gives decides leads is at asked =
-    subst (λ p. Comes F calling own args seed [] p) (sym (subst (λ s. IsQuestion calling s compiler args prepared) at asked))
+    subst (λ p. Plans F calling own args seed [] p) (sym (subst (λ s. IsQuestion calling s compiler args prepared) at asked))
     (asks gives (ap (decide F own) (sym same) ∙ decides) (subst (Leads decision) is leads))
 
 -- If the decision leads to a compilation, then doing the line, or refusing it, is what the call has to do.
@@ -266,7 +266,7 @@ line_comes : (F : Facts) (line : GccLine) (call : Call) (own : Option (List ℕ)
     → Leads decision (Compilation line.chain call)
     → MatchResult result (λ prepared. IsDone F line call events prepared) (λ stop. IfTold stop (IsUndone F line call events))
     → MatchResult result
-    (λ prepared. Comes F line.request.now.calling.now own line.request.now.args.now line.request.now.seed events prepared)
+    (λ prepared. Plans F line.request.now.calling.now own line.request.now.args.now line.request.now.seed events prepared)
     (λ stop. IfTold stop (Refuses F line.request.now.calling.now own line.request.now.args.now line.request.now.seed events))
 line_comes F line call own decision events (Ok prepared) gives decides leads done = performs gives decides leads done
 line_comes F line call own decision events (Err stop) gives decides leads tells =
@@ -274,7 +274,7 @@ line_comes F line call own decision events (Err stop) gives decides leads tells 
     (Refuses F line.request.now.calling.now own line.request.now.args.now line.request.now.seed events)
     (λ text is. fails gives decides leads is) tells
 
--- For `prepare`: the same over all facts that `knows` describes, by the events of the compilation.
+-- For `prepare_task`: the same over all facts that `knows` describes, by the events of the compilation.
 pub compilation_comes : (line : GccLine) (call : Call) (own : Option (List ℕ)) (slice : List (List ℕ)) (decision : Decision) (task : Task)
     (before after : List HostEvent) (result : Result Prepared Stop) (knows : Facts → Type 0) → slice ≡ line.given.words
     → ((F : Facts) → knows F → Words F line.request.now.calling.now line.request.now.args.now line.given)
@@ -283,7 +283,7 @@ pub compilation_comes : (line : GccLine) (call : Call) (own : Option (List ℕ))
     → MatchResult result (λ prepared. IsDone F line call events prepared) (λ s. IfTold s (IsUndone F line call events)))
     → Noted before after (λ events. (F : Facts) → knows F
     → MatchResult result
-    (λ prepared. Comes F line.request.now.calling.now own line.request.now.args.now line.request.now.seed events prepared)
+    (λ prepared. Plans F line.request.now.calling.now own line.request.now.args.now line.request.now.seed events prepared)
     (λ s. IfTold s (Refuses F line.request.now.calling.now own line.request.now.args.now line.request.now.seed events)))
 compilation_comes line call own slice decision task before after result knows same gives decides leads is (events, grown, done) = (
   events,
@@ -292,13 +292,13 @@ compilation_comes line call own slice decision task before after result knows sa
       (subst (Leads decision) is leads) (done F k),
 )
 
--- For `prepare`: if the words are refused, then the call is, and the host was asked nothing.
+-- For `prepare_task`: if the words are refused, then the call is, and the host was asked nothing.
 pub words_refused : (F : Facts) (calling : Calling) (own : Option (List ℕ)) (args : List (List ℕ)) (seed : ℕ) (stop : Stop)
     → IfTold stop (RefusesWords F calling args) → IfTold stop (Refuses F calling own args seed [])
 words_refused F calling own args seed stop tells =
     told_as stop (RefusesWords F calling args) (Refuses F calling own args seed []) (λ text is. no_words is) tells
 
--- For `prepare`: if the decision declines the line, then the call is refused, and the host was asked nothing.
+-- For `prepare_task`: if the decision declines the line, then the call is refused, and the host was asked nothing.
 pub decision_declined : (F : Facts) (calling : Calling) (own : Option (List ℕ)) (args : List (List ℕ)) (seed : ℕ) (words : Expanded)
     (decision : Decision) (stop : Stop)
     → Words F calling args words → decide F own words.words ≡ Is decision → IfTold stop (Declines calling decision)
@@ -310,9 +310,9 @@ decision_declined F calling own args seed words decision stop gives decides tell
 pub words_stop : (F : Facts) (calling : Calling) (own : Option (List ℕ)) (args : List (List ℕ)) (seed : ℕ) (stop : Stop)
     (result : Result Prepared Stop) → IsErrAnd result (λ s. s ≡ stop)
     → IfTold stop (RefusesWords F calling args)
-    → MatchResult result (λ prepared. Comes F calling own args seed [] prepared) (λ s. IfTold s (Refuses F calling own args seed []))
+    → MatchResult result (λ prepared. Plans F calling own args seed [] prepared) (λ s. IfTold s (Refuses F calling own args seed []))
 words_stop F calling own args seed stop result is tells =
-    stop_stays result stop (λ prepared. Comes F calling own args seed [] prepared) (Refuses F calling own args seed []) is
+    stop_stays result stop (λ prepared. Plans F calling own args seed [] prepared) (Refuses F calling own args seed []) is
     (words_refused F calling own args seed stop tells)
 
 -- If a step ends for the decision, then the call is refused with that text.
@@ -320,7 +320,7 @@ pub decision_stops : (F : Facts) (calling : Calling) (own : Option (List ℕ)) (
     (slice : List (List ℕ)) (decision : Decision) (stop : Stop)
     (result : Result Prepared Stop) → slice ≡ words.words → Words F calling args words → decide F own slice ≡ Is decision
     → IsErrAnd result (λ s. s ≡ stop) → IfTold stop (Declines calling decision)
-    → MatchResult result (λ prepared. Comes F calling own args seed [] prepared) (λ s. IfTold s (Refuses F calling own args seed []))
+    → MatchResult result (λ prepared. Plans F calling own args seed [] prepared) (λ s. IfTold s (Refuses F calling own args seed []))
 decision_stops F calling own args seed words slice decision stop result same gives decides is tells =
-    stop_stays result stop (λ prepared. Comes F calling own args seed [] prepared) (Refuses F calling own args seed []) is
+    stop_stays result stop (λ prepared. Plans F calling own args seed [] prepared) (Refuses F calling own args seed []) is
     (decision_declined F calling own args seed words decision stop gives (ap (decide F own) (sym same) ∙ decides) tells)

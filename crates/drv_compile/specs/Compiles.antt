@@ -6,6 +6,7 @@ use Rattle.drv_compile.specs.Driven.{IsWorker, Undriven}
 use Rattle.drv_compile.specs.Inputs.{Overwrites, objection}
 use Rattle.drv_compile.specs.Opening.{opening}
 use Rattle.drv_compile.specs.Runs.{Stops, Works}
+use Rattle.drv_compile.specs.Stamps.{IsStale, warned}
 use Rattle.drv_compile.specs.Tasks.{Declines, Leads}
 use Rattle.drv_compile.specs.TempFolder.{Chooses, IsSettled, Tries, folder_names}
 use Rattle.drv_compile.specs.Texts.{gone_text, help_text, overwritten_text, unworded_text, version_text}
@@ -111,12 +112,12 @@ pub data Fails (F : Facts) (calling : Calling) (chain : Toolchain) (call : Call)
 
 -- What arguments ask for, with what the host was asked: a question to the compiler, a line that is carried out, or a refusal. `own` is
 -- where the spec file of this program lies, if that is known.
-pub data Comes (F : Facts) (calling : Calling) (own : Option (List ℕ)) (args : List (List ℕ)) (seed : ℕ) : List HostEvent → Prepared
+pub data Plans (F : Facts) (calling : Calling) (own : Option (List ℕ)) (args : List (List ℕ)) (seed : ℕ) : List HostEvent → Prepared
     → Type 0 where
   asks : {words : Expanded} {decision : Decision} {specs compiler : List ℕ} → Words F calling args words
       → decide F own words.words ≡ Is decision
       → Leads decision (Question specs compiler)
-      → Comes F calling own args seed [] (record {
+      → Plans F calling own args seed [] (record {
         work = question compiler args;
         children = [];
         wrapper = [];
@@ -127,7 +128,13 @@ pub data Comes (F : Facts) (calling : Calling) (own : Option (List ℕ)) (args :
   performs : {words : Expanded} {decision : Decision} {chain : Toolchain} {call : Call} {events : List HostEvent} {prepared : Prepared}
       → Words F calling args words
       → decide F own words.words ≡ Is decision → Leads decision (Compilation chain call)
-      → Performs F calling chain call words seed events prepared → Comes F calling own args seed events prepared
+      → Performs F calling chain call words seed events prepared → Plans F calling own args seed events prepared
+
+-- what a call does then: the same, but where a file of the compiler is another than when the spec file was written, it says the hint first
+pub data Comes (F : Facts) (calling : Calling) (own : Option (List ℕ)) (args : List (List ℕ)) (seed : ℕ) : List HostEvent → Prepared
+    → Type 0 where
+  comes : {asked looked : List HostEvent} {prepared : Prepared} {stale : Bool} → Plans F calling own args seed asked prepared
+      → IsStale F own looked stale → Comes F calling own args seed (asked ++ looked) (warned stale prepared)
 
 -- why arguments are refused, with what the host was asked before: by their words, by what they ask for, or by the line
 pub data Refuses (F : Facts) (calling : Calling) (own : Option (List ℕ)) (args : List (List ℕ)) (seed : ℕ) : List HostEvent → List ℕ

@@ -16,6 +16,7 @@ pub mod Reading
 pub mod Runs
 pub mod Said
 pub mod SelfSpecs
+pub mod Stamps
 pub mod Suffixes
 pub mod Tasks
 pub mod TempFolder

@@ -8,7 +8,7 @@ use Rattle.drv_compile.specs.Texts.{said_text}
 use Rattle.drv_system.specs.Facts.{Facts}
 use Rattle.drv_system.specs.Known.{◌>>=◌, Is, Known}
 use Rattle.std.specs.List.{list_any}
-use Rattle.std.specs.Prelude.{Bool, List, [], ◌∷◌, false, if◌then◌else◌, true, ℕ}
+use Rattle.std.specs.Prelude.{Bool, List, [], ◌∷◌, codes, false, if◌then◌else◌, true, ℕ}
 
 -- What is said before the work of a line whose commands are shown: what the compiler says of itself, and the switches of a link (GCC
 -- manual, "Overall Options", -v and -###; GCC, "gcc.cc", driver::maybe_print_and_exit).
@@ -22,7 +22,7 @@ shows _ = false
 
 -- what the compiler says of itself, if the line shows its commands
 abbrev pub lines_shown : Facts → List ℕ → List Item → Known (List (List ℕ))
-lines_shown F specs items = if list_any (λ i. shows i.effect) items then compiler_lines F specs else Is []
+lines_shown F specs items = if list_any (λ i. shows i.effect) items then compiler_lines F (codes "said ") specs else Is []
 
 -- what the compiler says of itself, and then the switches of a link; nothing where it says nothing
 abbrev pub text_shown : List Variable → List (List ℕ) → List ℕ

@@ -1,6 +1,6 @@
 //! What a call asks of its machine beside what a driver asks.
 
-ghost use Rattle.drv_compile.specs.declared.host.HostEvent.TheVariants.{Resolved, Set, Tried, Worded};
+ghost use Rattle.drv_compile.specs.declared.host.HostEvent.TheVariants.{Resolved, Set, Stamped, Tried, Worded};
 ghost use Rattle.std.specs.Prelude.{◌≡◌, ◌∷◌, ◌++◌, [], IfOk, List, OnErr, OnOk, length};
 
 use drv_cc::Variable;
@@ -19,6 +19,8 @@ pub enum HostEvent {
     /// The call asked the compiler of a spec file for the words that it makes of options for its
     /// machine, a blank between two; the answer has them as a row.
     Worded(Word, Word, Word),
+    /// The call asked for the stamp of the file at a path.
+    Stamped(Word, Word),
     /// After this many events of the system the call set this variable for the children that it
     /// starts from then on.
     Set(usize, Variable),
@@ -52,6 +54,14 @@ pub trait Host<S: System> {
     fn row_of(&mut self, specs: &Word, options: &Word) -> Result<Word, AllocError>
         ensures event { IfOk result (λ row. notes self.new
             ≡ notes self.old ++ Worded specs.now options.now row ∷ []) }
+        ensures memory { OnErr result (notes self.new ≡ notes self.old) };
+
+    /// Asks for the stamp of the file at a path, links followed, which has no blank: its size in bytes
+    /// and the time of its last change, as `gdrv-write-specs` writes them, or a minus where it is
+    /// missing.
+    fn stamp_of(&mut self, path: &Word) -> Result<Word, AllocError>
+        ensures event { IfOk result (λ stamp. notes self.new
+            ≡ notes self.old ++ Stamped path.now stamp ∷ []) }
         ensures memory { OnErr result (notes self.new ≡ notes self.old) };
 
     /// Sets a variable for the children that the system starts from now on.

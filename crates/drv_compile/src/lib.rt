@@ -28,6 +28,7 @@ mod saying;
 mod self_specs;
 mod sources;
 mod speaking;
+mod stamps;
 mod stop;
 mod suffixing;
 mod tasks;

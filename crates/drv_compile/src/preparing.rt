@@ -3,12 +3,13 @@
 // In clauses: `Extends F G` says that G has every answer of F. `Asked` says that a call only asked,
 // and that the table has the answers. `Noted before after P` says that the host was asked, and that
 // P holds of these events. `IfTold stop P` says that P holds of the text of a stop, if it has one.
-ghost use Rattle.drv_compile.specs.Compiles.{Comes, IsPlanned, Refuses};
+ghost use Rattle.drv_compile.specs.Compiles.{Comes, IsPlanned, Plans, Refuses};
 ghost use Rattle.drv_compile.specs.Compiles.{one_command, question};
 ghost use Rattle.drv_compile.specs.Inputs.{Noted, Overwrites};
 ghost use Rattle.drv_compile.specs.Code.Preparing.{IsDone, IsFailure, IsOverwriting, IsPrepared};
 ghost use Rattle.drv_compile.specs.Code.Preparing.{IsQuestion, IsUndone, IsUnplanned};
 ghost use Rattle.drv_compile.specs.Runs.{Works};
+ghost use Rattle.drv_compile.specs.Stamps.{warned};
 ghost use Rattle.drv_compile.specs.Tasks.{IfTold};
 ghost use Rattle.drv_system.specs.Asking.{Extends};
 ghost use Rattle.drv_system.specs.Code.Asked.{Asked};
@@ -24,6 +25,7 @@ use crate::refusing::stop_after;
 use crate::request::{GccLine, Request};
 use crate::running::{DriverLine, work_of_items};
 use crate::speaking::opening;
+use crate::stamps::is_stale;
 use crate::stop::Stop;
 use crate::tasks::{Task, task_of};
 use crate::wording::{gone_text, help_text, overwrite_text, unworded_text, version_text};
@@ -35,6 +37,7 @@ use drv_run::{Manner, Telling, Work};
 use drv_system::{Outside, System};
 use drv_words::{Command, Group, Job, Listing, Plan, Word};
 use std::alloc::{AllocError, Global};
+use std::mem::replace;
 
 /// What a call does.
 #[derive(Drop)]
@@ -265,22 +268,22 @@ fn prepare_question(
     })
 }
 
-/// What a call does, by what it is given. It asks the system only where the table has no answer.
+/// What a call does by what its line asks for.
 ///
 /// # Errors
 /// The text of its refusal.
 #[tactic(auto, using(drv_system::proofs::AskedCalls::asked_further))]
-pub(crate) fn prepare<S: System, H: Host<S>>(
+fn prepare_task<S: System, H: Host<S>>(
     alloc: Global,
     request: &Request<'_>,
     outside: &mut Outside<'_, S>,
     host: &mut H,
 ) -> Result<Prepared, Stop>
     ensures asks { Asked S.events outside.old outside.new }
-    ensures comes { Noted (H.notes host.old) (H.notes host.new)
+    ensures plans { Noted (H.notes host.old) (H.notes host.new)
         (λ events. (F : Facts) → Extends outside.new.facts.now F
         → MatchResult result
-        (λ prepared. Comes F request.now.calling.now request.now.own.now request.now.args.now
+        (λ prepared. Plans F request.now.calling.now request.now.own.now request.now.args.now
         request.now.seed events prepared)
         (λ stop. IfTold stop (Refuses F request.now.calling.now request.now.own.now
         request.now.args.now request.now.seed events))) }
@@ -303,4 +306,44 @@ pub(crate) fn prepare<S: System, H: Host<S>>(
             compilation(alloc, &line, call, outside, host)
         }
     }
+}
+
+/// What a call does where its compiler may be another: it says the hint first, and not again.
+fn warned(alloc: Global, prepared: Prepared, stale: bool) -> Result<Prepared, AllocError>
+    ensures { IfOk result (λ made. made ≡ warned stale prepared) }
+{
+    let mut made = prepared;
+    if stale {
+        let hint = replace(&mut made.hint, Word::empty(alloc));
+        let said = replace(&mut made.said, hint);
+        made.said.extend_from_slice(said.as_bytes())?;
+    }
+    Ok(made)
+}
+
+/// What a call does, by what it is given, with what it says of its compiler first. It asks the
+/// system only where the table has no answer.
+///
+/// # Errors
+/// The text of its refusal.
+#[tactic(auto, using(drv_system::proofs::AskedCalls::asked_further))]
+pub(crate) fn prepare<S: System, H: Host<S>>(
+    alloc: Global,
+    request: &Request<'_>,
+    outside: &mut Outside<'_, S>,
+    host: &mut H,
+) -> Result<Prepared, Stop>
+    ensures asks { Asked S.events outside.old outside.new }
+    ensures comes { Noted (H.notes host.old) (H.notes host.new)
+        (λ events. (F : Facts) → Extends outside.new.facts.now F
+        → MatchResult result
+        (λ prepared. Comes F request.now.calling.now request.now.own.now request.now.args.now
+        request.now.seed events prepared)
+        (λ stop. IfTold stop (Refuses F request.now.calling.now request.now.own.now
+        request.now.args.now request.now.seed events))) }
+{
+    let prepared = prepare_task(alloc, request, outside, host)?;
+    let stale = is_stale(alloc, request.own, outside, host)?;
+    let made = warned(alloc, prepared, stale)?;
+    Ok(made)
 }

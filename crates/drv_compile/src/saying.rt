@@ -13,28 +13,29 @@ use drv_system::{Outside, System};
 use drv_words::{Listing, Word};
 use std::alloc::{AllocError, Global};
 
-/// The lines in the text of the file beside a spec file, if that is whole.
-fn lines_said(alloc: Global, text: &Option<Word>) -> Result<Listing<Word>, AllocError>
-    ensures { IfOk result (λ lines. lines ≡ lines_said text.now) }
+/// The values of a key in the text of the file beside a spec file, if that is whole.
+fn lines_said(alloc: Global, key: &[u8], text: &Option<Word>) -> Result<Listing<Word>, AllocError>
+    ensures { IfOk result (λ lines. lines ≡ lines_said key.now text.now) }
 {
     match text {
-        Some(text) => values(alloc, b"said ", text.as_bytes()),
+        Some(text) => values(alloc, key, text.as_bytes()),
         None => Ok(Listing::new(alloc)),
     }
 }
 
-/// The lines that the compiler of a spec file says of itself where its commands are shown (GCC
-/// manual, "Overall Options", `-v`): its machine, its version and where it looks. There are none
-/// where the file that has them is not whole. It asks the system only where the table has no
-/// answer.
+/// The lines of a key about the compiler of a spec file: `said ` has those that it says of itself
+/// where its commands are shown (GCC manual, "Overall Options", `-v`): its machine, its version and
+/// where it looks. There are none where the file that has them is not whole. It asks the system only
+/// where the table has no answer.
 pub(crate) fn compiler_lines<S: System>(
     alloc: Global,
+    key: &[u8],
     specs: &[u8],
     outside: &mut Outside<'_, S>,
 ) -> Result<Listing<Word>, AllocError>
     ensures asks { Asked S.events outside.old outside.new }
-    ensures lines { Tells outside.new result (λ F. compiler_lines F specs.now) }
+    ensures lines { Tells outside.new result (λ F. compiler_lines F key.now specs.now) }
 {
     let text = written_beside(alloc, specs, b".gcc", outside)?;
-    lines_said(alloc, &text)
+    lines_said(alloc, key, &text)
 }

@@ -94,7 +94,7 @@ fn lines_shown<S: System>(
     if !is_shown(items) {
         return Ok(Listing::new(alloc));
     }
-    compiler_lines(alloc, specs, outside)
+    compiler_lines(alloc, b"said ", specs, outside)
 }
 
 /// The text of these lines, if there are any.

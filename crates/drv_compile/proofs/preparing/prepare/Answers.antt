@@ -1,52 +1,31 @@
-use Rattle.drv_compile.proofs.Noting.{none_noted}
-use Rattle.drv_compile.proofs.Prepared.{compilation_comes, decision_stops, question_comes, words_stop}
-use Rattle.drv_compile.proofs.Worded.{memory_stops}
+use Rattle.drv_compile.proofs.Noting.{both_noted, memory_noted_over, noted_as, stop_noted}
+use Rattle.drv_compile.proofs.Stamped.{comes_warned}
 use Rattle.drv_compile.proofs.preparing.prepare.Goals as goal
 use Rattle.drv_system.proofs.AskedCalls.{asked_further, extends_before}
 
--- prepare (src/preparing.rt). What a call does, by what it is given.
+-- prepare (src/preparing.rt). What a call does, by what it is given, with what it says of its compiler first.
 
-pub returns-in_err-words-clause-comes : goal.returns-in_err-words-clause-comes
-returns-in_err-words-clause-comes g c =
-    none_noted _ _ (λ F e. words_stop F c.args.request.now.calling.now c.args.request.now.own.now c.args.request.now.args.now
-    c.args.request.now.seed _ c.from_residual.result c.from_residual.ensures.1 (c.in_err-words.ensures.gives F e))
+pub returns-in_err-prepared-clause-comes : goal.returns-in_err-prepared-clause-comes
+returns-in_err-prepared-clause-comes g c =
+    stop_noted _ _ _ c.from_residual.result _ _ _ c.from_residual.ensures.1 c.in_err-prepared.ensures.plans
 
-pub returns-in_err-decision-clause-comes : goal.returns-in_err-decision-clause-comes
-returns-in_err-decision-clause-comes g c = none_noted _ _
-    (λ F e. memory_stops c.from_residual-in_err-decision.result _ _ c.from_residual-in_err-decision.ensures.1)
+pub returns-in_err-stale-clause-comes : goal.returns-in_err-stale-clause-comes
+returns-in_err-stale-clause-comes g c =
+    memory_noted_over _ _ _ c.from_residual-in_err-stale.result _ _ _
+    (both_noted _ _ _ _ _ c.in_ok-prepared.ensures.plans c.in_err-stale.ensures.looks) c.from_residual-in_err-stale.ensures.1
 
--- The decision declined the line, and the host was asked nothing.
-pub returns-in_err-task-clause-comes : goal.returns-in_err-task-clause-comes
-returns-in_err-task-clause-comes g c =
-    none_noted _ _ (λ F e.
-    decision_stops F c.args.request.now.calling.now c.args.request.now.own.now c.args.request.now.args.now c.args.request.now.seed
-    c.in_ok-words.words c.as_slice.result.now
-    c.in_ok-decision.decision _ c.from_residual-in_err-task.result c.as_slice.ensures
-    (c.in_ok-words.ensures.gives F (extends_before c.decide.ensures.asks e))
-    (c.in_ok-decision.ensures.decision F e) c.from_residual-in_err-task.ensures.1 c.in_err-task.ensures)
+pub returns-in_err-made-clause-comes : goal.returns-in_err-made-clause-comes
+returns-in_err-made-clause-comes g c =
+    memory_noted_over _ _ _ c.from_residual-in_err-made.result _ _ _
+    (both_noted _ _ _ _ _ c.in_ok-prepared.ensures.plans c.in_ok-stale.ensures.looks) c.from_residual-in_err-made.ensures.1
 
--- the line is a question: its answer is what the call does, and the host was asked nothing
-pub returns-in_ok-prepared-in-Question-clause-comes : goal.returns-in_ok-prepared-in-Question-clause-comes
-returns-in_ok-prepared-in-Question-clause-comes g c =
-    none_noted _ _ (λ F e.
-    question_comes F c.args.request.now.calling.now c.args.request.now.own.now c.args.request.now.args.now c.args.request.now.seed
-    c.in_ok-words.words c.as_slice.result.now c.in_ok-decision.decision c.in_ok-task.task _ _ _ c.in_ok-prepared-in-Question.prepared
-    c.as_slice.ensures (c.in_ok-words.ensures.gives F (extends_before c.decide.ensures.asks e)) (c.in_ok-decision.ensures.decision F e)
-    c.in_ok-task.ensures c.in-Question.is c.as_bytes.ensures c.in_ok-prepared-in-Question.ensures.asks)
+-- What the line asked for stays known while the stamps are looked at.
+pub returns-clause-comes : goal.returns-clause-comes
+returns-clause-comes g c =
+    comes_warned c.args.request.now.calling.now c.args.request.now.own.now c.args.request.now.args.now c.args.request.now.seed
+    c.in_ok-prepared.prepared c.in_ok-made.made c.in_ok-stale.stale _ _ _ _ c.in_ok-made.ensures
+    (noted_as _ _ _ _ (λ events planned F e. planned F (extends_before c.is_stale.ensures.asks e)) c.in_ok-prepared.ensures.plans)
+    c.in_ok-stale.ensures.looks
 
--- What the words and the decision were known by stays known while the compilation asks more.
-pub returns-in-Compilation-clause-comes : goal.returns-in-Compilation-clause-comes
-returns-in-Compilation-clause-comes g c =
-    compilation_comes (record {
-      request = c.args.request;
-      given = c.in_ok-words.words;
-      chain = c.in-Compilation.chain;
-    }) c.in-Compilation.call c.args.request.now.own.now c.as_slice.result.now c.in_ok-decision.decision c.in_ok-task.task _ _
-    c.compilation.result _ c.as_slice.ensures
-    (λ F e. c.in_ok-words.ensures.gives F (extends_before c.decide.ensures.asks (extends_before c.compilation.ensures.asks e)))
-    (λ F e. c.in_ok-decision.ensures.decision F (extends_before c.compilation.ensures.asks e)) c.in_ok-task.ensures c.in-Compilation.is
-    c.compilation.ensures.performs
-
-pub returns-in-Compilation-clause-asks : goal.returns-in-Compilation-clause-asks
-returns-in-Compilation-clause-asks g c =
-    asked_further (asked_further c.line_words.ensures.asks c.decide.ensures.asks) c.compilation.ensures.asks
+pub returns-clause-asks : goal.returns-clause-asks
+returns-clause-asks g c = asked_further c.prepare_task.ensures.asks c.is_stale.ensures.asks
