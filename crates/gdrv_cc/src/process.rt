@@ -6,6 +6,7 @@ use drv_cc::Variable;
 use drv_compile::{Host, HostEvent};
 use drv_system::{HostSystem, System};
 use drv_words::{Word, copy_word, split_at_last};
+use itoa::Buffer;
 use std::alloc::AllocError;
 use std::env::current_exe;
 use std::fs::Metadata;
@@ -84,6 +85,14 @@ impl Host<HostSystem> for Process {
         Ok(row)
     }
 
+    fn stamp_of(&mut self, path: &Word) -> Result<Word, AllocError> {
+        let asked = path.clone()?;
+        let stamp = stamp_at(&self.rt, path)?;
+        let noted = stamp.clone()?;
+        self.notes.push(HostEvent::Stamped(asked, noted))?;
+        Ok(stamp)
+    }
+
     fn set_for_children(
         &mut self,
         sys: &mut HostSystem,
@@ -159,6 +168,23 @@ fn metadata_of(rt: &HostRuntime, path: &str) -> Result<Option<Metadata>, AllocEr
         Err(e) if e.kind() == ErrorKind::OutOfMemory => Err(AllocError),
         Err(_) => Ok(None),
     }
+}
+
+/// The stamp of the file at a path: its size in bytes and the second of its last change, or a minus
+/// where it is missing. The size of a folder depends on its disk, so it is 0 here.
+fn stamp_at(rt: &HostRuntime, path: &Word) -> Result<Word, AllocError> {
+    let found = match str::from_utf8(path.as_bytes()) {
+        Ok(path) => metadata_of(rt, path)?,
+        Err(_) => None,
+    };
+    let Some(found) = found else {
+        return Word::from_bytes(rt.alloc(), b"-");
+    };
+    let size = if found.is_dir() { 0 } else { found.len() };
+    let mut stamp = Word::from_bytes(rt.alloc(), Buffer::new().format(size).as_bytes())?;
+    stamp.push(b':')?;
+    stamp.extend_from_slice(Buffer::new().format(found.mtime()).as_bytes())?;
+    Ok(stamp)
 }
 
 /// Whether this process can make and find files in a folder (POSIX, "File Access Permissions"). It
