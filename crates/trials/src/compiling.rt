@@ -1,7 +1,8 @@
 //! Whole calls of `gdrv-cc`. Beside the script, lines `leads NAME PATH` say which path the file has
 //! that a name leads to; any other name leads to none. Lines `usable NAME` say in which folders files
 //! can be made, beside `/tmp`. Lines `makes OPTIONS ROW` say which row the compiler of the spec file
-//! gives for options for its machine. The program lies at `/bin/` and its name. Printed is also what
+//! gives for options for its machine, and lines `stamped PATH STAMP` which stamp a file has: any other
+//! is missing. The program lies at `/bin/` and its name. Printed is also what
 //! the host was asked, and which variable was set after how many events.
 
 ghost use Rattle.std.specs.Prelude.{◌≡◌, [], IfOk, IfSome};
@@ -23,6 +24,8 @@ struct ScriptHost {
     folders: Listing<Word>,
     rows: Listing<(Word, Word)>,
     no_row: Word,
+    stamps: Listing<(Word, Word)>,
+    missing: Word,
     notes: Vec<HostEvent>,
 }
 
@@ -37,14 +40,17 @@ impl Model for ScriptHost {
 
 impl ScriptHost {
     /// A host that knows nothing.
-    fn new(alloc: Global) -> ScriptHost {
-        ScriptHost {
+    fn new(alloc: Global) -> Result<ScriptHost, AllocError> {
+        let missing = Word::from_bytes(alloc, b"-")?;
+        Ok(ScriptHost {
             paths: Listing::new(alloc),
             folders: Listing::new(alloc),
             rows: Listing::new(alloc),
             no_row: Word::empty(alloc),
+            stamps: Listing::new(alloc),
+            missing,
             notes: Vec::new(alloc),
-        }
+        })
     }
 
     /// Adds the path that a name leads to.
@@ -62,6 +68,11 @@ impl ScriptHost {
         Ok(self.rows.push((options.clone()?, row.clone()?))?)
     }
 
+    /// Adds the stamp of a file.
+    fn add_stamp(&mut self, path: &Word, stamp: &Word) -> Result<(), AllocError> {
+        Ok(self.stamps.push((path.clone()?, stamp.clone()?))?)
+    }
+
     /// Adds what a line says. A line of the script adds nothing.
     fn add(&mut self, line: &[Word]) -> Result<(), AllocError> {
         match line {
@@ -71,6 +82,9 @@ impl ScriptHost {
             [what, name] if what.as_bytes() == b"usable".as_slice() => self.add_folder(name),
             [what, options, row] if what.as_bytes() == b"makes".as_slice() => {
                 self.add_row(options, row)
+            }
+            [what, path, stamp] if what.as_bytes() == b"stamped".as_slice() => {
+                self.add_stamp(path, stamp)
             }
             _ => Ok(()),
         }
@@ -133,6 +147,18 @@ impl Host<ScriptSystem> for ScriptHost {
         Ok(row)
     }
 
+    /// The stamp that the script lists for the file; the question is noted.
+    fn stamp_of(&mut self, path: &Word) -> Result<Word, AllocError> {
+        let asked = path.clone()?;
+        let stamp = match path_of(self.stamps.as_slice(), path)? {
+            Some(stamp) => stamp,
+            None => self.missing.clone()?,
+        };
+        let noted = stamp.clone()?;
+        self.notes.push(HostEvent::Stamped(asked, noted))?;
+        Ok(stamp)
+    }
+
     /// The system itself keeps no variables of children.
     fn set_for_children(
         &mut self,
@@ -150,7 +176,7 @@ impl Host<ScriptSystem> for ScriptHost {
 
 /// The host that lines say.
 fn host(alloc: Global, lines: &[Listing<Word>]) -> Result<ScriptHost, AllocError> {
-    let mut host = ScriptHost::new(alloc);
+    let mut host = ScriptHost::new(alloc)?;
     host.add_all(lines)?;
     host.add_usable(alloc)?;
     Ok(host)
@@ -183,6 +209,12 @@ fn add_note(note: &HostEvent, out: &mut Transcript) -> Result<(), AllocError> {
             out.add_quoted(specs)?;
             out.add(b": ")?;
             out.add_quoted(row)?;
+        }
+        HostEvent::Stamped(path, stamp) => {
+            out.add(b"stamp of ")?;
+            out.add_quoted(path)?;
+            out.add(b": ")?;
+            out.add_quoted(stamp)?;
         }
         HostEvent::Set(at, variable) => {
             out.add(b"set after ")?;
