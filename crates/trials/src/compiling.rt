@@ -182,6 +182,20 @@ fn host(alloc: Global, lines: &[Listing<Word>]) -> Result<ScriptHost, AllocError
     Ok(host)
 }
 
+/// Adds two words, each with a text before it.
+fn add_pair(
+    out: &mut Transcript,
+    before: &[u8],
+    first: &Word,
+    between: &[u8],
+    second: &Word,
+) -> Result<(), AllocError> {
+    out.add(before)?;
+    out.add_quoted(first)?;
+    out.add(between)?;
+    out.add_quoted(second)
+}
+
 /// Adds what the host was asked, or what it set.
 fn add_note(note: &HostEvent, out: &mut Transcript) -> Result<(), AllocError> {
     match note {
@@ -203,26 +217,15 @@ fn add_note(note: &HostEvent, out: &mut Transcript) -> Result<(), AllocError> {
             })?;
         }
         HostEvent::Worded(specs, options, row) => {
-            out.add(b"asked for ")?;
-            out.add_quoted(options)?;
-            out.add(b" by ")?;
-            out.add_quoted(specs)?;
+            add_pair(out, b"asked for ", options, b" by ", specs)?;
             out.add(b": ")?;
             out.add_quoted(row)?;
         }
-        HostEvent::Stamped(path, stamp) => {
-            out.add(b"stamp of ")?;
-            out.add_quoted(path)?;
-            out.add(b": ")?;
-            out.add_quoted(stamp)?;
-        }
+        HostEvent::Stamped(path, stamp) => add_pair(out, b"stamp of ", path, b": ", stamp)?,
         HostEvent::Set(at, variable) => {
             out.add(b"set after ")?;
             out.add_count(*at)?;
-            out.add(b": ")?;
-            out.add_quoted(&variable.name)?;
-            out.add(b"=")?;
-            out.add_quoted(&variable.value)?;
+            add_pair(out, b": ", &variable.name, b"=", &variable.value)?;
         }
     }
     out.add(b"\n")
