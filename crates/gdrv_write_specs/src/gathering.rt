@@ -4,6 +4,7 @@ use crate::alike::{folder_name, library_text, named_so};
 use crate::asked::{Asked, Places};
 use crate::asking::{commands, question_about};
 use crate::checking::Pair;
+use crate::children::ForChildren;
 use crate::choosing::{Chooser, choosers_of, key_by, push_choosers};
 use crate::defaults::with_defaults;
 use crate::fault::Fault;
@@ -107,6 +108,8 @@ pub struct Gathered {
     own: Facts,
     /// What it does for those that an option chooses.
     others: Listing<Facts>,
+    /// What it gives its children, for its own machine and then for the others.
+    pub children: Listing<ForChildren>,
     /// The tests of options that it leaves out of a line.
     pub dropped: Listing<Word>,
     /// The tests of options that are refused whatever their values are.
@@ -508,6 +511,7 @@ impl Gathered {
                 self.probes.as_slice(),
                 machine.as_slice(),
             )?)?;
+            self.children.push(asked.children(machine)?)?;
         }
         Ok(())
     }
@@ -540,6 +544,8 @@ pub fn gather(pair: Pair<'_>, ways: Ways) -> Result<Gathered, Fault> {
         machine.as_slice(),
     )?;
     let copies = asked.copies(ways, toolchain.folders.as_slice())?;
+    let mut children = Listing::new(alloc);
+    children.push(asked.children(machine)?)?;
     Ok(Gathered {
         toolchain,
         lacking,
@@ -550,6 +556,7 @@ pub fn gather(pair: Pair<'_>, ways: Ways) -> Result<Gathered, Fault> {
         records,
         own: own.facts,
         others: Listing::new(alloc),
+        children,
         dropped: Listing::new(alloc),
         valued: Listing::new(alloc),
         library: Word::empty(alloc),

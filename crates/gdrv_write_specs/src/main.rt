@@ -11,6 +11,7 @@ mod asking;
 mod bounded;
 mod calling;
 mod checking;
+mod children;
 mod choosing;
 mod defaults;
 mod devices;

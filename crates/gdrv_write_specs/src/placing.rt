@@ -3,6 +3,7 @@
 use crate::asking::{ask, question_about, text};
 use crate::calling::{Manner, Order};
 use crate::checking::Pair;
+use crate::children::push_children;
 use crate::choosing::{options_text, push_choosers};
 use crate::devices::has_devices;
 use crate::fault::{Fault, push_shown};
@@ -188,6 +189,12 @@ fn put_gcc(pair: Pair<'_>, gathered: &Gathered) -> Result<(), Fault> {
         text.extend_from_slice(COPIES)?;
         text.push(b'\n')?;
     }
+    push_children(
+        pair.rt.alloc(),
+        &mut text,
+        lines.as_slice(),
+        gathered.children.as_slice(),
+    )?;
     push_choosers(&mut text, gathered.choosers.as_slice())?;
     push_rows(&mut text, gathered.rows.as_slice())?;
     pair.work.put(pair.rt, b".gcc", &text)
