@@ -12,6 +12,7 @@ mod LongNames
 mod MacroWords
 mod NoChecks
 mod Noted
+mod OffloadNames
 mod OtherNames
 mod OtherOptions
 mod Prefixes

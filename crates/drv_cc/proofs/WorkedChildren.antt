@@ -22,10 +22,12 @@ link_with_a_base : children_given (front (codes "o.o -dumpdir p- -dumpbase n.c -
 unfolding sections ignored unpaired debugged_by
 link_with_a_base = refl
 
--- A line without a link sets no variable.
-no_children : children_given (front (codes "-c a.c")) ≡ []
+-- The children of a line without a link get its switches too, and how side files begin.
+children_of_a_compilation : children_given (front (codes "-c a.c -o d/x.o"))
+    ≡ record { name = codes "COLLECT_GCC"; value = codes "/usr/bin/gcc" }
+    ∷ record { name = codes "COLLECT_GCC_OPTIONS"; value = codes "'-c' '-o' 'd/x.o' '-dumpdir' 'd/'" } ∷ []
 unfolding sections ignored unpaired debugged_by
-no_children = refl
+children_of_a_compilation = refl
 
 -- The children of a link get its switches, and no files, libraries or languages.
 options_of_a_link : children_given (front (codes "a.c -B x -Lfoo -l m -x c -fopenmp -o d/foo"))

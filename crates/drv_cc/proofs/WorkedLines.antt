@@ -24,7 +24,7 @@ named = texts (codes "q r* *")
 
 -- A compiler with one folder of its own, and no path in the environment.
 abbrev pub nowhere : Surroundings
-nowhere = record { compiler = codes "/usr/bin/gcc"; folders = codes "/g/" ∷ []; copies = []; compiler_path = None; library_path = None }
+nowhere = record { compiler = codes "/usr/bin/gcc"; folders = codes "/g/" ∷ []; copies = []; compiler_path = None; library_path = None; children = [] }
 
 -- The answer to a line, whose words have blanks between them, by these names of options.
 abbrev front_by : List ℕ → List ℕ → Answer

@@ -1,11 +1,12 @@
 use Rattle.drv_args.specs.declared.items.Item.{Item as LineItem}
 use Rattle.drv_args.specs.declared.option_table.Effect.TheVariants as effect
 use Rattle.drv_cc.specs.Asked.{is_asked}
-use Rattle.drv_cc.specs.Items.{is_among, items_of, same, words_of}
+use Rattle.drv_cc.specs.Children.{child_words, folder_text, given_targets, given_text, machine_words, own_values, told}
+use Rattle.drv_cc.specs.Items.{is_among, items_of, same}
 use Rattle.drv_cc.specs.Kept.{effective_items, has, is_file_role, is_vendors, last_argument, refusals}
 use Rattle.drv_cc.specs.Levels.{check_words, debug_words}
 use Rattle.drv_cc.specs.LineItems.{alone, item_of, line_item}
-use Rattle.drv_cc.specs.SideFiles.{inputs, link_beginning, side_words, stops, with_value}
+use Rattle.drv_cc.specs.SideFiles.{beginning, inputs, link_beginning, side_words, stops, with_value}
 use Rattle.drv_cc.specs.Table.{texts}
 use Rattle.drv_cc.specs.declared.answer.Answer.TheVariants.{Ask, Refuse, Run}
 use Rattle.drv_cc.specs.declared.answer.Answer.{Answer}
@@ -19,8 +20,8 @@ use Rattle.drv_cc.specs.declared.table.Role.TheVariants as role
 use Rattle.drv_cc.specs.declared.table.Role.{Role}
 use Rattle.drv_words.specs.Bytes.{colon, comma, single_quote, space}
 use Rattle.std.specs.List.{ends_with, filter, filter_map, flat_map, list_any, slice_split}
-use Rattle.std.specs.Prelude.{◌==◌, ◌&&◌, ◌||◌, Bool, List, [], ◌∷◌, ◌++◌, None, Option, Some, codes, drop, false, if◌then◌else◌, length}
 use Rattle.std.specs.Prelude.{map, nat_eq, nat_lt, not, true, ℕ}
+use Rattle.std.specs.Prelude.{◌==◌, ◌&&◌, ◌||◌, Bool, List, [], ◌∷◌, ◌++◌, None, Option, Some, codes, drop, false, if◌then◌else◌, length}
 
 -- A line of gcc as a line of the driver: a question for the compiler, refusals, or the items of what stays of the line and of what gcc's
 -- driver adds to it (GCC manual, "Invoking GCC"). No words are made of them: an empty argument is one, and what is added is a switch of its
@@ -146,8 +147,8 @@ abbrev pub added_items : Surroundings → List Item → List LineItem
 added_items around items =
     map (alone effect.Switch) (thread_words items) ++ program_items around items ++ map (alone effect.Switch) (added_switches around items)
 
--- For the children of a link: the linker's plugin calls the compiler again, with the switches of the line (GCC Internals, "LTO",
--- "lto-wrapper"). Each word is between single quotes.
+-- For the children: the linker's plugin calls the compiler again, with the switches of the line (GCC Internals, "LTO", "lto-wrapper"). Each
+-- word is between single quotes.
 
 -- a byte between single quotes: a quote ends them, is quoted alone, and begins them again
 abbrev pub quoted_byte : ℕ → List ℕ
@@ -169,15 +170,19 @@ is_switch _ = false
 
 -- the words of the line's switches
 abbrev pub switch_words : List Item → List (List ℕ)
-switch_words items = flat_map words_of (filter (λ i. is_switch i.role) items)
+switch_words items = flat_map child_words (filter (λ i. is_switch i.role) items)
 
--- the folder and name for the side files of what the plugin compiles
+-- the words for how the names of side files begin; none where nothing leads them
+abbrev pub dump_option : List ℕ → List (List ℕ)
+dump_option lead = if nat_lt 0 (length lead) then codes "-dumpdir" ∷ lead ∷ [] else []
+
+-- the folder and name for the side files: of a line that stops, those of its sources, and else of what the plugin compiles
 abbrev pub dump_words : List Item → List (List ℕ)
-dump_words items = codes "-dumpdir" ∷ link_beginning items ∷ []
+dump_words items = if stops items then dump_option (beginning items) else codes "-dumpdir" ∷ link_beginning items ∷ []
 
--- the words that COLLECT_GCC_OPTIONS holds
-abbrev pub compiler_words : List Item → List (List ℕ)
-compiler_words items = switch_words items ++ thread_words items ++ dump_words items
+-- the words that COLLECT_GCC_OPTIONS holds: `told` has what the compiler gives its children (Children.antt)
+abbrev pub compiler_words : List (List ℕ) → List Item → List (List ℕ)
+compiler_words told items = switch_words items ++ machine_words told ++ thread_words items ++ dump_words items
 
 -- The pieces for the assembler, each between quotes: those of -Wa, between commas, and those of -Xassembler ("Assembler Options").
 
@@ -219,14 +224,42 @@ assembler_variables items = if has_pieces items then piece_variables items else 
 abbrev pub variables_by : Surroundings → List (List ℕ) → List Variable
 variables_by around words = variable (codes "COLLECT_GCC") around.compiler ∷ variable (codes "COLLECT_GCC_OPTIONS") (quoted_line words) ∷ []
 
--- the variables that name the compiler and the line's own switches
-abbrev pub compiler_variables : Surroundings → List Item → List Variable
-compiler_variables around items = variables_by around (compiler_words items)
+-- a variable of the compiler's own, with a text before its value; none where the compiler doesn't have it
+abbrev pub own_variable : List (List ℕ) → List ℕ → List ℕ → List Variable
+own_variable told name before = map (λ value. variable name (before ++ value)) (own_values name told)
 
--- the variables that are set for a link's children: none where the line stops before the link or turns LTO off
+-- the folders of the line's -B and of a path, before the compiler's own
+abbrev pub path_before : List Item → Option (List ℕ) → List ℕ
+path_before items path = flat_map given_text items ++ flat_map folder_text (folders path)
+
+-- the targets of offloading that a line names, if it names some
+abbrev pub target_variable : List ℕ → List Variable
+target_variable targets = if nat_lt 0 (length targets) then variable (codes "OFFLOAD_TARGET_NAMES") targets ∷ [] else []
+
+-- the targets of offloading: those of the line, or else of the compiler, which are a default then
+abbrev pub offload_variables : List (List ℕ) → Option (List ℕ) → List Variable
+offload_variables told None = own_variable told (codes "OFFLOAD_TARGET_NAMES") [] ++ own_variable told (codes "OFFLOAD_TARGET_DEFAULT") []
+offload_variables told (Some targets) = target_variable targets
+
+-- the variables for a link: what compiles again, and where programs and start files lie ("gcc.cc", maybe_putenv_COLLECT_LTO_WRAPPER)
+abbrev pub link_variables : Surroundings → List (List ℕ) → List Item → List Variable
+link_variables around told items =
+    own_variable told (codes "COLLECT_LTO_WRAPPER") []
+    ++ own_variable told (codes "COMPILER_PATH") (path_before items around.compiler_path)
+    ++ own_variable told (codes "LIBRARY_PATH") (path_before items around.library_path)
+
+-- those for a link, unless the line stops before it
+abbrev pub linked_variables : Surroundings → List (List ℕ) → List Item → List Variable
+linked_variables around told items = if stops items then [] else link_variables around told items
+
+-- all variables that are set for the children of a line with these items, for which the compiler is called again with these words
+abbrev pub variables : Surroundings → List (List ℕ) → List Item → List (List ℕ) → List Variable
+variables around told items words = variables_by around words ++ assembler_variables items
+    ++ offload_variables told (given_targets items) ++ linked_variables around told items
+
+-- the variables that are set for a line's children
 abbrev pub children : Surroundings → List Item → List Variable
-children around items =
-    if stops items || has (codes "-fno-lto") items then [] else compiler_variables around items ++ assembler_variables items
+children around items = variables around (told around.children items) items (compiler_words (told around.children items) items)
 
 -- Which stages there are: no link with -c, -S and -E ("Overall Options"), -M and -MM ("Preprocessor Options") and -fsyntax-only ("Warning
 -- Options"), and nothing but the link where no file has the suffix of a source and -x gives none its language.

@@ -1,5 +1,6 @@
 pub mod Asked
 pub mod Checks
+pub mod Children
 pub mod Code
 pub mod Front
 pub mod Items

@@ -2,13 +2,13 @@ use Rattle.drv_args.specs.declared.items.Item.{Item as LineItem}
 use Rattle.drv_args.specs.declared.option_table.Effect.TheVariants as effect
 use Rattle.drv_args.specs.declared.option_table.Effect.{Effect}
 use Rattle.drv_args.specs.declared.option_table.Setting.TheVariants as setting
-use Rattle.drv_cc.specs.Front.{assembler_variables, dump_words, first_words, program_items, switch_words, thread_words}
-use Rattle.drv_cc.specs.Front.{variables_by}
+use Rattle.drv_cc.specs.Children.{machine_words, told}
+use Rattle.drv_cc.specs.Front.{dump_words, first_words, program_items, switch_words, thread_words, variables}
 use Rattle.drv_cc.specs.Items.{is_among, item, items_of, same}
-use Rattle.drv_cc.specs.Kept.{effective_items, has, last_argument, refused_role}
+use Rattle.drv_cc.specs.Kept.{effective_items, last_argument, refused_role}
 use Rattle.drv_cc.specs.Levels.{check_words, debug_words_of, debugging_of, no_debugging, toggled}
 use Rattle.drv_cc.specs.LineItems.{alone, effect_of, line_item}
-use Rattle.drv_cc.specs.SideFiles.{inputs, side_words, stops}
+use Rattle.drv_cc.specs.SideFiles.{inputs, side_words}
 use Rattle.drv_cc.specs.Table.{texts}
 use Rattle.drv_cc.specs.declared.answer.Answer.TheVariants.{Refuse, Run}
 use Rattle.drv_cc.specs.declared.answer.Answer.{Answer}
@@ -24,8 +24,8 @@ use Rattle.drv_cc.specs.declared.table.Role.TheVariants as role
 use Rattle.drv_cc.specs.declared.table.Role.{Role}
 use Rattle.drv_cc.specs.declared.table.Spelling.TheVariants.{Alone}
 use Rattle.std.specs.List.{filter, filter_map, flat_map, starts_with}
-use Rattle.std.specs.Prelude.{◌||◌, Bool, List, [], ◌∷◌, ◌++◌, None, Option, Some, codes, drop, false, if◌then◌else◌, length, map, nat_eq}
 use Rattle.std.specs.Prelude.{nat_lt, not, true, ℕ}
+use Rattle.std.specs.Prelude.{◌||◌, Bool, List, [], ◌∷◌, ◌++◌, None, Option, Some, codes, drop, false, if◌then◌else◌, length, map, nat_eq}
 
 -- A line whose spec files give it options: their text `self_spec` is run once, with the switches of the line and no input, and its words
 -- are options of the line (GCC, "gcc.cc", set_up_specs, do_self_spec, read_cmdline_option; GCC manual, "Spec Files").
@@ -129,19 +129,14 @@ abbrev pub items_with : Surroundings → List Item → List Item → List Item �
 items_with around items left given =
     filter_map line_item left ++ filter_map line_item given ++ added_with around items given (items ++ given)
 
--- the words that COLLECT_GCC_OPTIONS holds for a link's children then: the switches, and -dumpdir for the side files
-abbrev pub collected_with : List Item → List Item → List (List ℕ)
-collected_with items switches = switch_words switches ++ dump_words items
+-- the words that COLLECT_GCC_OPTIONS holds then: the switches, what the compiler adds for its machine, and -dumpdir for the side files
+abbrev pub collected_with : List (List ℕ) → List Item → List Item → List (List ℕ)
+collected_with told items switches = switch_words switches ++ machine_words told ++ dump_words items
 
--- the variables for a link's children then, by the switches that are left and given
-abbrev pub variables_with : Surroundings → List Item → List Item → List Variable
-variables_with around items switches = variables_by around (collected_with items switches)
-
--- the variables for a link's children, where the line links and doesn't turn LTO off, with the pieces for the assembler
+-- the variables for the line's children then: gcc adds the options for its machine before the text is run
 abbrev pub children_with : Surroundings → List Item → List Item → List Item → List Variable
-children_with around items left given =
-    if stops items || has (codes "-fno-lto") (left ++ given) then []
-    else variables_with around items (left ++ given) ++ assembler_variables (items ++ given)
+children_with around items left given = variables around (told around.children items) (items ++ given)
+    (collected_with (told around.children items) items (left ++ given))
 
 -- the answer for a line that is carried out, with what its text gives. All stages are in it, since the text may have changed any
 abbrev pub run_with : Surroundings → List Item → List Item → List Item → Answer

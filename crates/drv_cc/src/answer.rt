@@ -17,6 +17,9 @@ pub struct Surroundings {
     pub compiler_path: Option<Word>,
     /// The value of `LIBRARY_PATH`, if it is set.
     pub library_path: Option<Word>,
+    /// What the compiler gives its children: variables as `NAME=VALUE`, and options for its machine,
+    /// each after the option that it needs and those that leave it out, with tabs between the three.
+    pub children: Listing<Word>,
 }
 
 /// A variable of the environment.
@@ -53,7 +56,7 @@ pub struct Call {
     pub inputs: Listing<Word>,
     /// The argument of the last `-o`, if there is one.
     pub output: Option<Word>,
-    /// The variables that are set for the driver's children.
+    /// The variables that are set for the driver's children, as gcc's driver sets them.
     pub children: Listing<Variable>,
     /// The stages of the line.
     pub stages: Stages,

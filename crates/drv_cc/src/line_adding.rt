@@ -75,7 +75,7 @@ fn add_prefixes(
 
 /// The folders of a path, if that is set.
 #[tactic(auto, using(crate::proofs::Folders::words_alone))]
-fn folders(alloc: Global, path: &Option<Word>) -> Result<Listing<Word>, AllocError>
+pub(crate) fn folders(alloc: Global, path: &Option<Word>) -> Result<Listing<Word>, AllocError>
     ensures { IfOk result (λ list. list ≡ folders path.now) }
 {
     let mut list = Listing::new(alloc);

@@ -1,20 +1,23 @@
-//! The switches of a link as one text, for its children.
+//! The switches of a line as one text, for its children.
 
 ghost use Rattle.drv_cc.specs.Front.{assembler_line, assembler_variables, children, compiler_words};
-ghost use Rattle.drv_cc.specs.Front.{compiler_variables, dump_words, has_pieces, is_switch};
-ghost use Rattle.drv_cc.specs.Front.{piece_byte, variables_by};
+ghost use Rattle.drv_cc.specs.Front.{dump_option, dump_words, has_pieces, is_switch};
+ghost use Rattle.drv_cc.specs.Front.{piece_byte, variables, variables_by};
 ghost use Rattle.drv_cc.specs.Front.{piece_text, piece_variables, quoted, quoted_byte, quoted_line};
 ghost use Rattle.drv_cc.specs.Front.{quoted_pieces, switch_words, variable};
 ghost use Rattle.std.specs.List.{flat_map};
 ghost use Rattle.std.specs.Prelude.{◌≡◌, ◌∷◌, ◌++◌, [], IfOk, OnOk, codes};
 
 use crate::adding::add_thread_words;
+use crate::child_lines::{add_machine_words, told};
 use crate::classes::is;
+use crate::environment::{add_linked_variables, add_offload_variables};
 use crate::item::Item;
 use crate::keeping::has;
-use crate::leading::{link_beginning, stops};
+use crate::leading::{beginning, link_beginning, stops};
 use crate::reading::rest_after;
 use crate::table::Role;
+use crate::targets::add_child_words;
 use crate::words::add_word;
 use crate::{Surroundings, Variable};
 use drv_words::{Listing, Word};
@@ -66,18 +69,41 @@ fn is_switch(item: &Item) -> bool
 }
 
 /// Adds the words of the switches.
-pub(crate) fn add_switches(items: &[Item], words: &mut Listing<Word>) -> Result<(), AllocError>
+pub(crate) fn add_switches(
+    alloc: Global,
+    items: &[Item],
+    words: &mut Listing<Word>,
+) -> Result<(), AllocError>
     ensures { OnOk result (words.new ≡ words.old ++ switch_words items.now) }
 {
     for item in items {
         if is_switch(item) {
-            item.add_words(words)?;
+            add_child_words(alloc, item, words)?;
         }
     }
     Ok(())
 }
 
-/// Adds the beginning of a link's dumps, as an option with its argument.
+/// Adds how side files begin, as an option with its argument.
+fn add_dump_option(alloc: Global, lead: Word, words: &mut Listing<Word>) -> Result<(), AllocError>
+    ensures { OnOk result (words.new ≡ words.old ++ codes "-dumpdir" ∷ lead ∷ []) }
+{
+    add_word(alloc, words, b"-dumpdir")?;
+    words.push(lead)?;
+    Ok(())
+}
+
+/// Adds how the side files of a line's sources begin, if there is something.
+fn add_source_dumps(alloc: Global, lead: Word, words: &mut Listing<Word>) -> Result<(), AllocError>
+    ensures { OnOk result (words.new ≡ words.old ++ dump_option lead) }
+{
+    if lead.is_empty() {
+        return Ok(());
+    }
+    add_dump_option(alloc, lead, words)
+}
+
+/// Adds how the side files of a line begin: those of its link, if it has one.
 pub(crate) fn add_dump_words(
     alloc: Global,
     items: &[Item],
@@ -85,18 +111,21 @@ pub(crate) fn add_dump_words(
 ) -> Result<(), AllocError>
     ensures { OnOk result (words.new ≡ words.old ++ dump_words items.now) }
 {
-    let beginning = link_beginning(alloc, items)?;
-    add_word(alloc, words, b"-dumpdir")?;
-    words.push(beginning)?;
-    Ok(())
+    if stops(items) {
+        let lead = beginning(alloc, items)?;
+        return add_source_dumps(alloc, lead, words);
+    }
+    let lead = link_beginning(alloc, items)?;
+    add_dump_option(alloc, lead, words)
 }
 
 /// The words that the compiler is called again with.
-fn compiler_words(alloc: Global, items: &[Item]) -> Result<Listing<Word>, AllocError>
-    ensures { IfOk result (λ words. words ≡ compiler_words items.now) }
+fn compiler_words(alloc: Global, told: &[Word], items: &[Item]) -> Result<Listing<Word>, AllocError>
+    ensures { IfOk result (λ words. words ≡ compiler_words told.now items.now) }
 {
     let mut words = Listing::new(alloc);
-    add_switches(items, &mut words)?;
+    add_switches(alloc, items, &mut words)?;
+    add_machine_words(told, &mut words)?;
     add_thread_words(alloc, items, &mut words)?;
     add_dump_words(alloc, items, &mut words)?;
     Ok(words)
@@ -176,7 +205,7 @@ fn has_pieces(items: &[Item]) -> bool
 }
 
 /// Adds a variable.
-fn add_variable(
+pub(crate) fn add_variable(
     alloc: Global,
     name: &[u8],
     value: Word,
@@ -201,7 +230,7 @@ fn add_piece_variable(
 }
 
 /// Adds the variable of the pieces for the assembler, if there are some.
-pub(crate) fn add_assembler_variables(
+fn add_assembler_variables(
     alloc: Global,
     items: &[Item],
     children: &mut Listing<Variable>,
@@ -242,7 +271,7 @@ fn add_options(
 }
 
 /// The variables by which the compiler is called again with these words.
-pub(crate) fn variables_by(
+fn variables_by(
     alloc: Global,
     around: &Surroundings,
     words: &[Word],
@@ -255,19 +284,25 @@ pub(crate) fn variables_by(
     Ok(children)
 }
 
-/// The variables by which the compiler is called again.
-fn compiler_variables(
+/// All variables for the children of a line with these items, for which the compiler is called again
+/// with these words, and gives them what is told.
+pub(crate) fn variables(
     alloc: Global,
     around: &Surroundings,
+    told: &[Word],
     items: &[Item],
+    words: &[Word],
 ) -> Result<Listing<Variable>, AllocError>
-    ensures { IfOk result (λ made. made ≡ compiler_variables around.now items.now) }
+    ensures { IfOk result (λ made. made ≡ variables around.now told.now items.now words.now) }
 {
-    let words = compiler_words(alloc, items)?;
-    variables_by(alloc, around, words.as_slice())
+    let mut children = variables_by(alloc, around, words)?;
+    add_assembler_variables(alloc, items, &mut children)?;
+    add_offload_variables(alloc, told, items, &mut children)?;
+    add_linked_variables(alloc, around, told, items, &mut children)?;
+    Ok(children)
 }
 
-/// The variables of a link's children.
+/// The variables of a line's children.
 pub(crate) fn children(
     alloc: Global,
     around: &Surroundings,
@@ -275,10 +310,7 @@ pub(crate) fn children(
 ) -> Result<Listing<Variable>, AllocError>
     ensures { IfOk result (λ made. made ≡ children around.now items.now) }
 {
-    if stops(items) || has(items, b"-fno-lto") {
-        return Ok(Listing::new(alloc));
-    }
-    let mut children = compiler_variables(alloc, around, items)?;
-    add_assembler_variables(alloc, items, &mut children)?;
-    Ok(children)
+    let told = told(alloc, around.children.as_slice(), items)?;
+    let words = compiler_words(alloc, told.as_slice(), items)?;
+    variables(alloc, around, told.as_slice(), items, words.as_slice())
 }

@@ -11,13 +11,18 @@ use crate::words::{add_value, add_word};
 use drv_words::{Listing, Word};
 use std::alloc::{AllocError, Global};
 
-/// Adds the words between commas that are not empty.
-fn add_pieces(alloc: Global, argument: &[u8], words: &mut Listing<Word>) -> Result<(), AllocError>
+/// Adds the words between commas that are not empty, each behind an option.
+pub(crate) fn add_pieces(
+    alloc: Global,
+    option: &[u8],
+    argument: &[u8],
+    words: &mut Listing<Word>,
+) -> Result<(), AllocError>
     ensures { OnOk result (words.new ≡ words.old
-        ++ flat_map (with_value (codes "--gdrv-wrapper=")) (pieces argument.now)) }
+        ++ flat_map (with_value option.now) (pieces argument.now)) }
 {
     for piece in argument.split(|byte| *byte == b',') {
-        add_value(alloc, words, b"--gdrv-wrapper=", piece)?;
+        add_value(alloc, words, option, piece)?;
     }
     Ok(())
 }
@@ -33,7 +38,7 @@ fn has_empty_end(argument: &[u8]) -> bool
 fn add_wrapper(alloc: Global, argument: &[u8], words: &mut Listing<Word>) -> Result<(), AllocError>
     ensures { OnOk result (words.new ≡ words.old ++ wrapper_words_of (Some argument.now)) }
 {
-    add_pieces(alloc, argument, words)?;
+    add_pieces(alloc, b"--gdrv-wrapper=", argument, words)?;
     if has_empty_end(argument) {
         add_word(alloc, words, b"--gdrv-wrapper=")?;
     }
