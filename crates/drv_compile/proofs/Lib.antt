@@ -16,6 +16,7 @@ pub mod Noting
 pub mod Prepared
 pub mod Ran
 pub mod RowsAsked
+pub mod Served
 pub mod Settled
 pub mod Stamped
 pub mod Told

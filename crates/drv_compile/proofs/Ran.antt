@@ -4,11 +4,11 @@ use Rattle.drv_args.specs.declared.line.Line.{Line}
 use Rattle.drv_args.specs.declared.line.Settings.{Settings}
 use Rattle.drv_compile.specs.Code.Working.{IsUnworked, IsWorked, no_room, of_many, of_plan}
 use Rattle.drv_compile.specs.Runs.{Stops, Works, has_several, lacks_memory, line_given, not_loaded, not_planned, not_read, several}
-use Rattle.drv_compile.specs.Runs.{specs_of}
+use Rattle.drv_compile.specs.Runs.{specs_of, work_served}
 use Rattle.drv_compile.specs.declared.running.DriverLine.{DriverLine}
 use Rattle.drv_plan.specs.declared.fault.PlanFault.TheVariants as plan_fault
 use Rattle.drv_plan.specs.declared.fault.PlanFault.{PlanFault}
-use Rattle.drv_run.specs.Drives.{specs_over, stopped_by_args, stopped_by_plan, stopped_by_specs, work_of}
+use Rattle.drv_run.specs.Drives.{specs_over, stopped_by_args, stopped_by_plan, stopped_by_specs}
 use Rattle.drv_run.specs.declared.ending.Ending.TheVariants as ending
 use Rattle.drv_run.specs.declared.ending.Ending.{Ending}
 use Rattle.drv_run.specs.declared.work.Work.{Work}
@@ -97,14 +97,14 @@ many_end F line set seed fault result is given = unworked_as F line set seed (st
 
 -- the refusal of a plan ends it, or lack of memory
 plan_unworked : (F : Facts) (line : Line) (set : Set) (seed : ℕ) (fault : PlanFault) → has_several set line ≡ false
-    → (fault ≡ plan_fault.Memory) ⊎ (work_of F line set seed ≡ Is (Err fault)) → IsUnworked F line set seed (stopped_by_plan fault)
+    → (fault ≡ plan_fault.Memory) ⊎ (work_served F line set seed ≡ Is (Err fault)) → IsUnworked F line set seed (stopped_by_plan fault)
 plan_unworked F line set seed fault single (inl memory) = subst (λ f. IsUnworked F line set seed (stopped_by_plan f)) (sym memory) no_room
 plan_unworked F line set seed fault single (inr is) = of_plan single is
 
 -- If the plan is refused, or memory lacked, then the line has no work.
 pub planning_ends : (F : Facts) (line : Line) (set : Set) (seed : ℕ) (fault : PlanFault) (result : Result Work Ending)
     → IsErrAnd result (λ e. e ≡ stopped_by_plan fault)
-    → has_several set line ≡ false → (fault ≡ plan_fault.Memory) ⊎ (work_of F line set seed ≡ Is (Err fault))
+    → has_several set line ≡ false → (fault ≡ plan_fault.Memory) ⊎ (work_served F line set seed ≡ Is (Err fault))
     → Worked F line set seed result
 planning_ends F line set seed fault result is single given =
     unworked_as F line set seed (stopped_by_plan fault) result is (plan_unworked F line set seed fault single given)

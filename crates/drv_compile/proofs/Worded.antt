@@ -2,6 +2,7 @@ use Rattle.drv_args.specs.Expansion.{Expands, Refuses as RefusesExpansion, file_
 use Rattle.drv_args.specs.declared.fault.ArgsFault.TheVariants as args_fault
 use Rattle.drv_args.specs.declared.fault.ArgsFault.{ArgsFault}
 use Rattle.drv_args.specs.declared.line.Expanded.{Expanded}
+use Rattle.drv_c99.specs.Front.{front_of}
 use Rattle.drv_c99.specs.declared.fault.C99Fault.TheVariants as c99_fault
 use Rattle.drv_c99.specs.declared.fault.C99Fault.{C99Fault}
 use Rattle.drv_compile.specs.Code.Preparing.{IsFailure}
@@ -9,8 +10,9 @@ use Rattle.drv_compile.specs.Code.Refusing.{IsEndSaid}
 use Rattle.drv_compile.specs.Runs.{Stops}
 use Rattle.drv_compile.specs.Tasks.{IfTold}
 use Rattle.drv_compile.specs.Words.{IsUnexpanded, IsUnfronted, IsUnread, RefusesWords, Words, first_unread, if_unread, words_of_front}
-use Rattle.drv_compile.specs.Words.{not_expanded, not_fronted, not_readable, or_later, stop_of, unread_at, within_limit}
+use Rattle.drv_compile.specs.Words.{not_expanded, not_fronted, not_readable, or_later, stop_of, unread_at, with_words, within_limit}
 use Rattle.drv_compile.specs.declared.calling.Calling.{Calling}
+use Rattle.drv_compile.specs.declared.calling.Front.TheVariants.{C99}
 use Rattle.drv_compile.specs.declared.running.DriverLine.{DriverLine}
 use Rattle.drv_compile.specs.declared.stop.Stop.TheVariants.{Memory, Told}
 use Rattle.drv_compile.specs.declared.stop.Stop.{Stop}
@@ -20,6 +22,7 @@ use Rattle.drv_run.specs.declared.ending.Ending.{Ending}
 use Rattle.drv_system.specs.Facts.{Facts, read_of}
 use Rattle.drv_system.specs.Known.{◌>>=◌, Is, asked}
 use Rattle.drv_system.specs.declared.event.ReadAnswer.{ReadAnswer}
+use Rattle.drv_words.specs.Gives.{Gives}
 use Rattle.std.proofs.Common.{◌≡◌, ◌⊎◌, ◌<◌, ◌≤◌, ◌+◌, ◌∙◌, ◌∷◌, Err, IsErrAnd, List, None, Ok, Option, Result, Some, ap, drop, false, inl}
 use Rattle.std.proofs.Common.{inr, length, refl, subst, sym, true, ℕ}
 use Rattle.std.proofs.lemmas.Bool.{false≢true}
@@ -119,25 +122,31 @@ args_told F name args fault stop is given = subst (λ s. IfTold s (IsUnexpanded 
     by fault (inl memory) = subst (λ f. IfTold (stop_of name (stopped_by_args f)) (IsUnexpanded F name args)) (sym memory) tt
     by fault (inr refuses) = refused fault refuses
 
--- For `gcc_words`: if c99's words are refused, then the stop's text says so, unless memory lacked.
-pub c99_told : (calling : Calling) (expanded : Expanded) (fault : C99Fault) (stop : Stop)
-    → stop ≡ stop_of calling.name (stopped_by_c99 fault)
-    → (fault ≡ c99_fault.Memory) ⊎ (words_of_front calling.front expanded ≡ Err fault) → IfTold stop (IsUnfronted calling expanded)
-c99_told calling expanded fault stop is given = subst (λ s. IfTold s (IsUnfronted calling expanded)) (sym is) (by fault given)
-  where
-    -- Plan: `refused` gives the text of each refusal, and `by` adds lack of memory, which has no text.
-    refused : (fault : C99Fault) → words_of_front calling.front expanded ≡ Err fault
-        → IfTold (stop_of calling.name (stopped_by_c99 fault)) (IsUnfronted calling expanded)
-    refused c99_fault.Memory refuses = tt
-    refused (c99_fault.UnknownOption word) refuses = (c99_fault.UnknownOption word, refuses, refl)
-    refused (c99_fault.MissingArgument option) refuses = (c99_fault.MissingArgument option, refuses, refl)
-    refused c99_fault.NoOperand refuses = (c99_fault.NoOperand, refuses, refl)
-    refused (c99_fault.BadLevel argument) refuses = (c99_fault.BadLevel argument, refuses, refl)
+-- For `words_of_front`: if c99 refuses the words, or lacks memory, then the call ends so.
+pub front_stops : (expanded : Expanded) (words : List (List ℕ)) (fault : C99Fault) (result : Result Expanded Ending)
+    → words ≡ expanded.words → IsErrAnd result (λ e. e ≡ stopped_by_c99 fault)
+    → (fault ≡ c99_fault.Memory) ⊎ (front_of words ≡ Err fault) → Gives OutOfMemory (λ w. w) result (words_of_front C99 expanded)
+front_stops expanded words fault (Ok made) same is given = absurd is
+front_stops expanded words fault (Err e) same is (inl memory) = inl (is ∙ ap stopped_by_c99 memory)
+front_stops expanded words fault (Err e) same is (inr refused) =
+    inr (ap (with_words expanded.from_file) (ap front_of (sym same) ∙ refused) ∙ ap Err (sym is))
 
-    by : (fault : C99Fault) → (fault ≡ c99_fault.Memory) ⊎ (words_of_front calling.front expanded ≡ Err fault)
-        → IfTold (stop_of calling.name (stopped_by_c99 fault)) (IsUnfronted calling expanded)
-    by fault (inl memory) = subst (λ f. IfTold (stop_of calling.name (stopped_by_c99 f)) (IsUnfronted calling expanded)) (sym memory) tt
-    by fault (inr refuses) = refused fault refuses
+-- For `gcc_words`: if the front refuses the words, then the stop's text says so, unless memory lacked.
+pub front_told : (calling : Calling) (expanded : Expanded) (end : Ending) (stop : Stop) → stop ≡ stop_of calling.name end
+    → (end ≡ OutOfMemory) ⊎ (words_of_front calling.front expanded ≡ Err end) → IfTold stop (IsUnfronted calling expanded)
+front_told calling expanded end stop is given = subst (λ s. IfTold s (IsUnfronted calling expanded)) (sym is) (by end given)
+  where
+    -- Plan: `refused` gives the text of a refusal, and `by` adds lack of memory, which has no text.
+    refused : (end : Ending) → words_of_front calling.front expanded ≡ Err end
+        → IfTold (stop_of calling.name end) (IsUnfronted calling expanded)
+    refused (Refused refusal) refuses = (refusal, refuses, refl)
+    refused (Done status) refuses = tt
+    refused OutOfMemory refuses = tt
+
+    by : (end : Ending) → (end ≡ OutOfMemory) ⊎ (words_of_front calling.front expanded ≡ Err end)
+        → IfTold (stop_of calling.name end) (IsUnfronted calling expanded)
+    by end (inl memory) = subst (λ f. IfTold (stop_of calling.name f) (IsUnfronted calling expanded)) (sym memory) tt
+    by end (inr refuses) = refused end refuses
 
 -- For `work_or_stop`: if a line of the driver ends, and the stop's text says how, then that text is its failure.
 pub driver_told : (F : Facts) (name : List ℕ) (own : DriverLine) (seed : ℕ) (ending : Ending) (stop : Stop) → Stops F own seed ending

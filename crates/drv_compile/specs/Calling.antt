@@ -1,7 +1,8 @@
 use Rattle.drv_words.specs.Bytes.{slash}
 use Rattle.drv_compile.specs.declared.calling.Calling.{Calling}
-use Rattle.drv_compile.specs.declared.calling.Front.TheVariants.{C99, Gcc}
+use Rattle.drv_compile.specs.declared.calling.Front.TheVariants.{C99, Cxx, Gcc}
 use Rattle.std.specs.Cmp.Lexicographic.{pointwise}
+use Rattle.std.specs.List.{ends_with}
 use Rattle.std.specs.Prelude.{◌==◌, ◌-◌, ◌||◌, Bool, List, [], ◌∷◌, None, Option, Some, codes, drop, if◌then◌else◌, length, nat_eq, take, ℕ}
 
 -- By which name the program was called, and what that means (this project's profile).
@@ -48,6 +49,10 @@ machine_of name = and_not_empty (or_before (codes "-gdrv-gcc") name (before_endi
 abbrev pub is_c99 : List ℕ → Bool
 is_c99 name = pointwise nat_eq name (codes "c99") || pointwise nat_eq name (codes "c99-gdrv")
 
+-- whether the program was called as a compiler of C++ (g++)
+abbrev pub is_cxx : List ℕ → Bool
+is_cxx name = ends_with nat_eq name (codes "++")
+
 -- how it was called by another name: for a machine, or for the host
 abbrev pub for_machine : List ℕ → Option (List ℕ) → Calling
 for_machine name None = record { name = codes "gdrv-cc"; machine = codes "host"; front = Gcc }
@@ -55,8 +60,10 @@ for_machine name (Some machine) = record { name = name; machine = machine; front
 
 -- how it was called by this name; in messages it has the name that the user typed, or gdrv-cc
 abbrev pub calling_by_name : List ℕ → Calling
-calling_by_name name = if is_c99 name then record { name = name; machine = codes "host"; front = C99 } else for_machine name (machine_of
-    name)
+calling_by_name name =
+    if is_c99 name then record { name = name; machine = codes "host"; front = C99 }
+    else if is_cxx name then record { name = name; machine = codes "host"; front = Cxx }
+    else for_machine name (machine_of name)
 
 -- how it was called at this path
 abbrev pub calling_of : List ℕ → Calling

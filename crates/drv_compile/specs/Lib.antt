@@ -6,6 +6,7 @@ pub mod Compiles
 pub mod Decides
 pub mod Driven
 pub mod Inputs
+pub mod Languages
 pub mod Machines
 pub mod Near
 pub mod Opening

@@ -4,6 +4,7 @@ use Rattle.drv_args.specs.declared.fault.ArgsFault.{ArgsFault}
 use Rattle.drv_args.specs.declared.line.Input.{Input}
 use Rattle.drv_args.specs.declared.line.Line.{Line}
 use Rattle.drv_args.specs.declared.line.Settings.{Settings}
+use Rattle.drv_compile.specs.Languages.{first_unserved}
 use Rattle.drv_compile.specs.declared.running.DriverLine.{DriverLine}
 use Rattle.drv_plan.specs.Languages.{Chosen, chosen_for}
 use Rattle.drv_plan.specs.declared.fault.PlanFault.TheVariants.{NotInstalled}
@@ -17,7 +18,7 @@ use Rattle.drv_specs.specs.Sets.{Set}
 use Rattle.drv_specs.specs.declared.fault.SpecsFault.{SpecsFault}
 use Rattle.drv_system.specs.Facts.{Facts}
 use Rattle.drv_system.specs.Known.{Is, Known}
-use Rattle.std.specs.Prelude.{◌≡◌, ◌&&◌, Bool, Err, Ok, Option, Result, Some, count_by, false, is_some, nat_lt, true, ℕ}
+use Rattle.std.specs.Prelude.{◌≡◌, ◌&&◌, Bool, Err, List, None, Ok, Option, Result, Some, count_by, false, is_some, nat_lt, true, ℕ}
 
 -- What items of the driver's line ask for: the definitions of `drive`, over facts that an earlier part of the call has asked for (GCC
 -- manual, "Overall Options"). The items give the line: no words of them are read.
@@ -46,6 +47,15 @@ is_source set input = has_compiler (chosen_for set input)
 abbrev pub has_several : Set → Line → Bool
 has_several set line = is_some line.settings.output && (stops line && nat_lt 1 (count_by (is_source set) line.inputs))
 
+-- The work of a line whose sources no spec file serves is a refusal by the name of their language, as of one that isn't installed.
+abbrev pub work_by : Facts → Line → Set → ℕ → Option (List ℕ) → Known (Result Work PlanFault)
+work_by F line set seed None = work_of F line set seed
+work_by F line set seed (Some language) = Is (Err (NotInstalled language))
+
+-- what a line with its specs asks for, unless it has a source in a language that no spec file serves
+abbrev pub work_served : Facts → Line → Set → ℕ → Known (Result Work PlanFault)
+work_served F line set seed = work_by F line set seed (first_unserved set line.inputs)
+
 -- the work that items denote
 pub record Works (F : Facts) (given : DriverLine) (seed : ℕ) (work : Work) : Type 0 where
   pub line : Line
@@ -53,7 +63,7 @@ pub record Works (F : Facts) (given : DriverLine) (seed : ℕ) (work : Work) : T
   pub reads : line_given given ≡ Ok line
   pub loads : specs_of F line.settings ≡ Is (Ok set)
   pub single : has_several set line ≡ false
-  pub works : work_of F line set seed ≡ Is (Ok work)
+  pub works : work_served F line set seed ≡ Is (Ok work)
 
 -- the refusal of the items: of the line, of a spec file, of several sources, or of the plan; lack of memory may take its place
 pub data Stops (F : Facts) (given : DriverLine) (seed : ℕ) : Ending → Type 0 where
@@ -65,4 +75,4 @@ pub data Stops (F : Facts) (given : DriverLine) (seed : ℕ) : Ending → Type 0
       → Stops F given seed (stopped_by_args OutputWithMany)
   not_planned : {line : Line} {set : Set} {fault : PlanFault} → line_given given ≡ Ok line → specs_of F line.settings ≡ Is (Ok set)
       → has_several set line ≡ false
-      → work_of F line set seed ≡ Is (Err fault) → Stops F given seed (stopped_by_plan fault)
+      → work_served F line set seed ≡ Is (Err fault) → Stops F given seed (stopped_by_plan fault)

@@ -5,11 +5,12 @@ use Rattle.drv_c99.specs.Front.{front_of}
 use Rattle.drv_c99.specs.declared.fault.C99Fault.{C99Fault}
 use Rattle.drv_compile.specs.Texts.{error_line, unread_text}
 use Rattle.drv_compile.specs.declared.calling.Calling.{Calling}
-use Rattle.drv_compile.specs.declared.calling.Front.TheVariants.{C99, Gcc}
+use Rattle.drv_compile.specs.declared.calling.Front.TheVariants.{C99, Cxx, Gcc}
 use Rattle.drv_compile.specs.declared.calling.Front.{Front}
 use Rattle.drv_compile.specs.declared.stop.Stop.TheVariants.{Memory, Told}
 use Rattle.drv_compile.specs.declared.stop.Stop.{Stop}
 use Rattle.drv_plan.specs.declared.fault.PlanFault.TheVariants as plan_fault
+use Rattle.drv_run.specs.Drives.{stopped_by_c99}
 use Rattle.drv_run.specs.Texts.{refusal_text}
 use Rattle.drv_run.specs.declared.ending.Ending.TheVariants.{Done, OutOfMemory, Refused}
 use Rattle.drv_run.specs.declared.ending.Ending.{Ending}
@@ -48,14 +49,19 @@ first_unread F [] = Is None
 first_unread F (word ∷ words) = unread_at F (file_named word) >>= λ path. or_later path (first_unread F words)
 
 -- the words of a front
-abbrev pub with_words : Bool → Result (List (List ℕ)) C99Fault → Result Expanded C99Fault
+abbrev pub with_words : Bool → Result (List (List ℕ)) C99Fault → Result Expanded Ending
 with_words from_file (Ok words) = Ok (record { words = words; from_file = from_file })
-with_words from_file (Err fault) = Err fault
+with_words from_file (Err fault) = Err (stopped_by_c99 fault)
 
--- the words of a call by the name it was called by: those of c99 become gcc's, or are refused
-abbrev pub words_of_front : Front → Expanded → Result Expanded C99Fault
+-- how a line in a language that no spec file serves ends a call
+abbrev pub unserved : List ℕ → Ending
+unserved language = Refused (refusal.Plan (plan_fault.NotInstalled language))
+
+-- the words of a call by the name it was called by: those of c99 become gcc's, or are refused; those of g++ are refused
+abbrev pub words_of_front : Front → Expanded → Result Expanded Ending
 words_of_front Gcc expanded = Ok expanded
 words_of_front C99 expanded = with_words expanded.from_file (front_of expanded.words)
+words_of_front Cxx expanded = Err (unserved (codes "C++"))
 
 -- the facts in which a response file of more than 262,144 words is too large (gcc has no such limit; this project's profile)
 abbrev pub within_limit : Facts → Facts
@@ -84,7 +90,7 @@ stop_of name (Refused refusal) = Told (told_refusal name refusal)
 stop_of name (Done status) = Memory
 stop_of name OutOfMemory = Memory
 
--- The text of the refusal in their place: that response files aren't expanded, that one can't be read, or that c99 refuses the words.
+-- The text of the refusal in their place: that response files aren't expanded, that one can't be read, or that the front refuses the words.
 abbrev pub IsUnexpanded : Facts → List ℕ → List (List ℕ) → List ℕ → Type 0
 IsUnexpanded F name args text =
     (fault : ArgsFault) × RefusesExpansion (within_limit F) 2000 args fault × (text ≡ told_refusal name (refusal.Args fault))
@@ -93,10 +99,10 @@ IsUnexpanded F name args text =
 abbrev pub IsUnread : Facts → List ℕ → List (List ℕ) → List ℕ → Type 0
 IsUnread F name words text = (path : List ℕ) × (first_unread F words ≡ Is (Some path)) × (text ≡ unread_text name path)
 
--- c99 refuses the words, and this text says it
+-- the front refuses the words, and this text says it
 abbrev pub IsUnfronted : Calling → Expanded → List ℕ → Type 0
 IsUnfronted calling expanded text =
-    (fault : C99Fault) × (words_of_front calling.front expanded ≡ Err fault) × (text ≡ told_refusal calling.name (refusal.C99 fault))
+    (refusal : Refusal) × (words_of_front calling.front expanded ≡ Err (Refused refusal)) × (text ≡ told_refusal calling.name refusal)
 
 -- why the words of a call are refused, and the text that says it
 pub data RefusesWords (F : Facts) (calling : Calling) (args : List (List ℕ)) (text : List ℕ) : Type 0 where

@@ -1,6 +1,6 @@
 //! By which name the program was called.
 
-ghost use Rattle.drv_compile.specs.Calling.{before_ending, calling_of, folder, for_machine, is_c99};
+ghost use Rattle.drv_compile.specs.Calling.{before_ending, calling_of, folder, for_machine, is_c99, is_cxx};
 ghost use Rattle.drv_compile.specs.Calling.{calling_by_name, last_from, last_part, machine_of};
 ghost use Rattle.drv_compile.specs.Calling.{or_before};
 ghost use Rattle.std.specs.Option.{option_copied, option_map};
@@ -16,6 +16,8 @@ pub enum Front {
     Gcc,
     /// A line of POSIX's c99.
     C99,
+    /// A line of g++, which is not served.
+    Cxx,
 }
 
 /// How the program was called.
@@ -86,6 +88,13 @@ fn is_c99(name: &[u8]) -> bool
     name == b"c99".as_slice() || name == b"c99-gdrv".as_slice()
 }
 
+/// Whether a name is that of a compiler of C++.
+fn is_cxx(name: &[u8]) -> bool
+    ensures { result ≡ is_cxx name.now }
+{
+    name.ends_with(b"++".as_slice())
+}
+
 /// A call by these names.
 fn calling_by_names(
     alloc: Global,
@@ -112,6 +121,9 @@ fn calling_by_name(alloc: Global, name: &[u8]) -> Result<Calling, AllocError>
     if is_c99(name) {
         return calling_by_names(alloc, name, b"host", Front::C99);
     }
+    if is_cxx(name) {
+        return calling_by_names(alloc, name, b"host", Front::Cxx);
+    }
     match machine_of(name) {
         Some(machine) => calling_by_names(alloc, name, machine, Front::Gcc),
         None => calling_by_names(alloc, b"gdrv-cc", b"host", Front::Gcc),
@@ -119,7 +131,8 @@ fn calling_by_name(alloc: Global, name: &[u8]) -> Result<Calling, AllocError>
 }
 
 /// What the path by which the program was called says of the call: `c99` and `c99-gdrv` read a line
-/// of c99, and `MACHINE-gdrv-cc` compiles for that machine. By any other name it is `gdrv-cc`.
+/// of c99, a name that ends with `++` one of C++, and `MACHINE-gdrv-cc` compiles for that machine. By
+/// any other name it is `gdrv-cc`.
 pub fn calling_of(alloc: Global, path: &[u8]) -> Result<Calling, AllocError>
     ensures { IfOk result (λ calling. calling ≡ calling_of path.now) }
 {

@@ -5,11 +5,11 @@
 // facts that extend what is known. `Gives` says that a result is the defined one, or lack of
 // memory. `IfTold stop P` says that P holds of the text of a stop, if it has one.
 ghost use Rattle.drv_args.specs.Expansion.{Expands, file_named};
-ghost use Rattle.drv_c99.specs.declared.fault.C99Fault.TheVariants as c99_fault;
 ghost use Rattle.drv_compile.specs.Tasks.{IfTold};
 ghost use Rattle.drv_compile.specs.Words.{IsUnexpanded, IsUnfronted, IsUnread, RefusesWords};
 ghost use Rattle.drv_compile.specs.Words.{Words, first_unread, if_unread, stop_of, words_of_front};
-ghost use Rattle.drv_compile.specs.Words.{unread_at, within_limit};
+ghost use Rattle.drv_compile.specs.Words.{unread_at, unserved, within_limit};
+ghost use Rattle.drv_run.specs.declared.ending.Ending.TheVariants as ending;
 ghost use Rattle.drv_search.specs.Code.Telling.{Tells};
 ghost use Rattle.drv_system.specs.Asking.{Extends};
 ghost use Rattle.drv_system.specs.Code.Asked.{Asked};
@@ -23,8 +23,8 @@ use crate::calling::{Calling, Front};
 use crate::stop::Stop;
 use crate::wording::{told_refusal, unread_text};
 use drv_args::{Expanded, expand_within};
-use drv_c99::C99Fault;
-use drv_run::Ending;
+use drv_plan::PlanFault;
+use drv_run::{Ending, Refusal};
 use drv_system::{Outside, ReadAnswer, System};
 use drv_words::{Listing, Word};
 use std::alloc::{AllocError, Global};
@@ -89,9 +89,17 @@ fn first_unread<S: System>(
     Ok(None)
 }
 
+/// The refusal of a line in a language that no spec file serves.
+fn unserved(alloc: Global, language: &[u8]) -> Result<Ending, AllocError>
+    ensures { IfOk result (λ ending. ending ≡ unserved language.now) }
+{
+    let language = Word::from_bytes(alloc, language)?;
+    Ok(Ending::Refused(Refusal::Plan(PlanFault::NotInstalled(language))))
+}
+
 /// The words of gcc for those of a front.
-fn words_of_front(alloc: Global, front: Front, expanded: Expanded) -> Result<Expanded, C99Fault>
-    ensures { Gives c99_fault.Memory (λ words. words) result (words_of_front front expanded) }
+fn words_of_front(alloc: Global, front: Front, expanded: Expanded) -> Result<Expanded, Ending>
+    ensures { Gives ending.OutOfMemory (λ words. words) result (words_of_front front expanded) }
 {
     match front {
         Front::Gcc => Ok(expanded),
@@ -99,6 +107,10 @@ fn words_of_front(alloc: Global, front: Front, expanded: Expanded) -> Result<Exp
             let from_file = expanded.from_file;
             let words = drv_c99::front(alloc, expanded.words.as_slice())?;
             Ok(Expanded { words, from_file })
+        }
+        Front::Cxx => {
+            let ending = unserved(alloc, b"C++")?;
+            Err(ending)
         }
     }
 }
@@ -172,8 +184,8 @@ fn gcc_words(alloc: Global, calling: &Calling, expanded: Expanded) -> Result<Exp
 {
     match words_of_front(alloc, calling.front, expanded) {
         Ok(words) => Ok(words),
-        Err(fault) => {
-            let stop = stop_of(alloc, calling.name.as_bytes(), &Ending::from(fault))?;
+        Err(ending) => {
+            let stop = stop_of(alloc, calling.name.as_bytes(), &ending)?;
             Err(stop)
         }
     }

@@ -12,6 +12,7 @@ mod expanding;
 mod finding;
 mod host;
 mod inputs;
+mod languages;
 mod machines;
 mod naming;
 mod nearest;

@@ -5,7 +5,8 @@
 // facts, or lack of memory. `Gives` says that a result is the defined one, or lack of memory.
 ghost use Rattle.drv_args.specs.declared.fault.ArgsFault.TheVariants as args_fault;
 ghost use Rattle.drv_compile.specs.Code.Working.{IsUnworked, IsWorked};
-ghost use Rattle.drv_compile.specs.Runs.{Stops, Works, line_given, specs_of};
+ghost use Rattle.drv_compile.specs.Runs.{Stops, Works, line_given, specs_of, work_served};
+ghost use Rattle.drv_plan.specs.declared.fault.PlanFault.TheVariants as plan_fault;
 ghost use Rattle.drv_search.specs.Search.{prefixes_of};
 ghost use Rattle.drv_specs.specs.declared.fault.SpecsFault.TheVariants as specs_fault;
 ghost use Rattle.drv_system.specs.Asking.{Extends};
@@ -16,14 +17,15 @@ ghost use Rattle.drv_system.specs.Known.{Is};
 ghost use Rattle.drv_words.specs.Gives.{Gives};
 ghost use Rattle.std.specs.Prelude.{◌≡◌, IfOk, MatchResult};
 
+use crate::languages::first_unserved;
 use crate::sources::refuse_several;
 use drv_args::{ArgsFault, Item, Line, Settings, line_of};
-use drv_plan::Specified;
+use drv_plan::{PlanFault, Specified};
 use drv_run::{Ending, Work, load_along, work_along};
 use drv_search::Prefixes;
 use drv_specs::{SpecSet, SpecsFault, suffixes};
 use drv_system::{Outside, System};
-use drv_words::Listing;
+use drv_words::{Listing, Word};
 use std::alloc::{AllocError, Global};
 use std::mem::forget;
 
@@ -77,6 +79,34 @@ pub(crate) fn specs_of<S: System>(
     load_along(set, settings, prefixes, outside.sys, outside.facts)
 }
 
+/// What a line with these specs asks for, along the prefixes of its `-B`, if no source is in a
+/// language that no spec file serves.
+///
+/// # Errors
+/// The name of that language, or the refusal of the plan.
+#[tactic(auto, using(drv_system::proofs::AskedCalls::asked_none))]
+fn served_work<S: System>(
+    alloc: Global,
+    given: &Specified<'_>,
+    prefixes: &Prefixes,
+    outside: &mut Outside<'_, S>,
+) -> Result<Work, PlanFault>
+    ensures asks { Asked S.events outside.old outside.new }
+    ensures works { (F : Facts) → Extends outside.new.facts.now F
+        → prefixes_of F given.now.line.now.settings.prefixes ≡ Is prefixes.now
+        → GivesKnown plan_fault.Memory (λ work. work) result
+        (work_served F given.now.line.now given.now.set.now given.now.seed) }
+{
+    let foreign = first_unserved(alloc, given.set, given.line.inputs.as_slice())?;
+    match foreign {
+        Some(language) => {
+            let name = Word::from_bytes(alloc, language)?;
+            Err(PlanFault::NotInstalled(name))
+        }
+        None => work_along(alloc, given, prefixes, outside.sys, outside.facts),
+    }
+}
+
 /// What a line with these specs asks for, along the prefixes of its `-B`, if it doesn't name one
 /// output for several sources.
 ///
@@ -96,7 +126,7 @@ fn line_work<S: System>(
         (λ ending. IsUnworked F given.now.line.now given.now.set.now given.now.seed ending) }
 {
     refuse_several(alloc, given.set, given.line)?;
-    let work = work_along(alloc, given, prefixes, outside.sys, outside.facts)?;
+    let work = served_work(alloc, given, prefixes, outside)?;
     Ok(work)
 }
 

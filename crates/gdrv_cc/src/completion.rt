@@ -96,7 +96,7 @@ pub fn asks_completion(front: Front, args: &[Word]) -> bool
 {
     match front {
         Front::Gcc => is_completion(args),
-        Front::C99 => false,
+        Front::C99 | Front::Cxx => false,
     }
 }
 

@@ -1,6 +1,5 @@
 use Rattle.drv_compile.proofs.Ran.{many_end, planning_ends}
 use Rattle.drv_compile.proofs.running.line_work.Goals as goal
-use Rattle.std.proofs.Common.{refl}
 
 -- line_work (src/running.rt). What a line with these specs asks for, along the prefixes of its `-B`, if it doesn't name one output for
 -- several sources.
@@ -22,9 +21,3 @@ returns-in_err-work-clause-works g c F e known =
 
 pub returns-clause-works : goal.returns-clause-works
 returns-clause-works g c F e known = (c.in_ok-refuse_several.ensures, c.in_ok-work.ensures.works F e known)
-
-pub returns-in_err-work-clause-asks : goal.returns-in_err-work-clause-asks
-returns-in_err-work-clause-asks g c = record { asks = c.work_along.ensures.asks; same_sys = refl; same_facts = refl }
-
-pub returns-clause-asks : goal.returns-clause-asks
-returns-clause-asks g c = record { asks = c.work_along.ensures.asks; same_sys = refl; same_facts = refl }

@@ -1,0 +1,162 @@
+//! Sources in languages that no spec file serves.
+
+ghost use Rattle.drv_compile.specs.Code.Working.{row_shown};
+ghost use Rattle.drv_compile.specs.Languages.{ends_so, first_unserved, foreign_suffixes, is_linkers};
+ghost use Rattle.drv_compile.specs.Languages.{language_by, language_of, unserved};
+ghost use Rattle.drv_plan.specs.Languages.{chosen_for};
+ghost use Rattle.std.specs.Option.{option_map};
+ghost use Rattle.std.specs.Prelude.{◌≡◌, IfOk, find, map};
+
+use drv_args::Input;
+use drv_plan::{PlanFault, language};
+use drv_specs::SpecSet;
+use std::alloc::{AllocError, Global};
+
+/// A suffix of sources.
+#[derive(Clone, Copy)]
+struct Foreign {
+    /// The suffix.
+    suffix: &'static [u8],
+    /// The language of the sources that have it.
+    language: &'static [u8],
+}
+
+/// Suffixes and their languages.
+macro_rules! foreign {
+    ($($suffix:literal => $language:literal;)+) => {
+        [$(Foreign { suffix: $suffix, language: $language }),+]
+    };
+}
+
+/// The suffixes of languages that gcc compiles and this program doesn't (GCC, "gcc.cc",
+/// default_compilers, and "cp/lang-specs.h").
+const FOREIGN: [Foreign; 32] = foreign! {
+    b".ads" => b"Ada";
+    b".adb" => b"Ada";
+    b".f" => b"Fortran";
+    b".F" => b"Fortran";
+    b".for" => b"Fortran";
+    b".FOR" => b"Fortran";
+    b".ftn" => b"Fortran";
+    b".FTN" => b"Fortran";
+    b".fpp" => b"Fortran";
+    b".FPP" => b"Fortran";
+    b".f90" => b"Fortran";
+    b".F90" => b"Fortran";
+    b".f95" => b"Fortran";
+    b".F95" => b"Fortran";
+    b".f03" => b"Fortran";
+    b".F03" => b"Fortran";
+    b".f08" => b"Fortran";
+    b".F08" => b"Fortran";
+    b".r" => b"Ratfor";
+    b".go" => b"Go";
+    b".d" => b"D";
+    b".dd" => b"D";
+    b".di" => b"D";
+    b".mod" => b"Modula-2";
+    b".hh" => b"C++ header";
+    b".H" => b"C++ header";
+    b".hp" => b"C++ header";
+    b".hxx" => b"C++ header";
+    b".hpp" => b"C++ header";
+    b".HPP" => b"C++ header";
+    b".h++" => b"C++ header";
+    b".tcc" => b"C++ header";
+};
+
+/// All of them.
+fn foreign_suffixes() -> &'static [Foreign]
+    ensures { map row_shown result.now ≡ foreign_suffixes }
+{
+    &FOREIGN
+}
+
+impl Foreign {
+    /// Whether a name ends with the suffix, and has more than that.
+    fn fits(&self, name: &[u8]) -> bool
+        ensures { result ≡ ends_so name.now (row_shown self.now) }
+    {
+        self.suffix.len() < name.len() && name.ends_with(self.suffix)
+    }
+}
+
+/// The first of them that fits a name.
+fn row_of(name: &[u8]) -> Option<Foreign>
+    ensures { option_map row_shown result ≡ find (ends_so name.now) foreign_suffixes }
+{
+    for row in foreign_suffixes() {
+        if row.fits(name) {
+            return Some(*row);
+        }
+    }
+    None
+}
+
+/// The language of a name by its suffix.
+fn language_by(name: &[u8]) -> Option<&'static [u8]>
+    ensures { option_map (λ l. l.now) result ≡ language_by name.now }
+{
+    match row_of(name) {
+        Some(row) => Some(row.language),
+        None => None,
+    }
+}
+
+/// The language of an input by its name.
+fn language_of(input: &Input) -> Option<&'static [u8]>
+    ensures { option_map (λ l. l.now) result ≡ language_of input.now }
+{
+    match input {
+        Input::File { name, .. } => language_by(name.as_bytes()),
+        Input::Library(_) | Input::LinkWord(_) => None,
+    }
+}
+
+/// Whether the specs leave an input to the linker.
+fn is_linkers(alloc: Global, set: &SpecSet, input: &Input) -> Result<bool, AllocError>
+    ensures { IfOk result (λ found. found ≡ is_linkers (chosen_for set.now input.now)) }
+{
+    match language(alloc, input, set) {
+        Ok(chosen) => Ok(chosen.is_none()),
+        Err(PlanFault::Memory) => Err(AllocError),
+        Err(PlanFault::NotInstalled(_) | PlanFault::UnknownLanguage(_) | PlanFault::Machine(_)) =>
+            Ok(false),
+    }
+}
+
+/// The language of an input, if no spec file serves it.
+fn unserved(
+    alloc: Global,
+    set: &SpecSet,
+    input: &Input,
+) -> Result<Option<&'static [u8]>, AllocError>
+    ensures { IfOk result (λ found. option_map (λ l. l.now) found ≡ unserved set.now input.now) }
+{
+    let Some(language) = language_of(input) else {
+        return Ok(None);
+    };
+    if is_linkers(alloc, set, input)? {
+        Ok(Some(language))
+    } else {
+        Ok(None)
+    }
+}
+
+/// The first language of inputs that no spec file serves.
+pub(crate) fn first_unserved(
+    alloc: Global,
+    set: &SpecSet,
+    inputs: &[Input],
+) -> Result<Option<&'static [u8]>, AllocError>
+    ensures { IfOk result (λ found. option_map (λ l. l.now) found
+        ≡ first_unserved set.now inputs.now) }
+{
+    for input in inputs {
+        let found = unserved(alloc, set, input)?;
+        if found.is_some() {
+            return Ok(found);
+        }
+    }
+    Ok(None)
+}
