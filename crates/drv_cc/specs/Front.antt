@@ -6,7 +6,7 @@ use Rattle.drv_cc.specs.Items.{is_among, items_of, same}
 use Rattle.drv_cc.specs.Kept.{effective_items, has, is_file_role, is_vendors, last_argument, refusals}
 use Rattle.drv_cc.specs.Levels.{check_words, debug_words}
 use Rattle.drv_cc.specs.LineItems.{alone, item_of, line_item}
-use Rattle.drv_cc.specs.SideFiles.{beginning, inputs, link_beginning, side_words, stops, with_value}
+use Rattle.drv_cc.specs.SideFiles.{assembled, beginning, compiled, inputs, link_beginning, side_words, sources, stops, with_value}
 use Rattle.drv_cc.specs.Table.{texts}
 use Rattle.drv_cc.specs.declared.answer.Answer.TheVariants.{Ask, Refuse, Run}
 use Rattle.drv_cc.specs.declared.answer.Answer.{Answer}
@@ -19,6 +19,7 @@ use Rattle.drv_cc.specs.declared.refusal.Refusal.{Refusal}
 use Rattle.drv_cc.specs.declared.table.Role.TheVariants as role
 use Rattle.drv_cc.specs.declared.table.Role.{Role}
 use Rattle.drv_words.specs.Bytes.{colon, comma, single_quote, space}
+use Rattle.drv_words.specs.FileNames.{stem}
 use Rattle.std.specs.List.{ends_with, filter, filter_map, flat_map, list_any, slice_split}
 use Rattle.std.specs.Prelude.{map, nat_eq, nat_lt, not, true, ℕ}
 use Rattle.std.specs.Prelude.{◌==◌, ◌&&◌, ◌||◌, Bool, List, [], ◌∷◌, ◌++◌, None, Option, Some, codes, drop, false, if◌then◌else◌, length}
@@ -302,6 +303,29 @@ stages items =
     else if has (codes "-x") items || list_any is_source_file items then (if is_c_alone items then AllOfC else All)
     else Link
 
+-- The files that a line writes ("Overall Options", -o).
+
+-- the name of a source's output in the folder of the call, with this end in place of the last suffix
+abbrev pub with_end : List ℕ → List ℕ → List ℕ
+with_end end name = stem name ++ end
+
+-- the files where no -o names one: none where nothing is compiled, or one for each source, or the program
+abbrev pub default_outputs : List Item → List (List ℕ)
+default_outputs items =
+    if list_any preprocesses items || has (codes "-fsyntax-only") items then []
+    else if has (codes "-S") items then map (with_end (codes ".s")) (sources compiled items)
+    else if has (codes "-c") items then map (with_end (codes ".o")) (sources assembled items)
+    else codes "a.out" ∷ []
+
+-- the files by the last -o, which names the only one
+abbrev pub outputs_by : List Item → Option (List ℕ) → List (List ℕ)
+outputs_by items None = default_outputs items
+outputs_by items (Some output) = output ∷ []
+
+-- all files that a line writes, but for side files and for headers that it precompiles under their default names
+abbrev pub outputs : List Item → List (List ℕ)
+outputs items = outputs_by items (last_argument (codes "-o") items)
+
 -- The answer.
 
 -- the items of the driver's line: those of gcc's line that stay, and those that are added
@@ -314,7 +338,7 @@ run_of around items =
     Run (record {
       items = line_items around items;
       inputs = inputs items;
-      output = last_argument (codes "-o") items;
+      outputs = outputs items;
       children = children around items;
       stages = stages items;
     })

@@ -3,9 +3,9 @@ use Rattle.drv_args.specs.declared.option_table.Effect.TheVariants as effect
 use Rattle.drv_args.specs.declared.option_table.Effect.{Effect}
 use Rattle.drv_args.specs.declared.option_table.Setting.TheVariants as setting
 use Rattle.drv_cc.specs.Children.{machine_words, told}
-use Rattle.drv_cc.specs.Front.{dump_words, first_words, program_items, switch_words, thread_words, variables}
+use Rattle.drv_cc.specs.Front.{dump_words, first_words, outputs, program_items, switch_words, thread_words, variables}
 use Rattle.drv_cc.specs.Items.{is_among, item, items_of, same}
-use Rattle.drv_cc.specs.Kept.{effective_items, last_argument, refused_role}
+use Rattle.drv_cc.specs.Kept.{effective_items, refused_role}
 use Rattle.drv_cc.specs.Levels.{check_words, debug_words_of, debugging_of, no_debugging, toggled}
 use Rattle.drv_cc.specs.LineItems.{alone, effect_of, line_item}
 use Rattle.drv_cc.specs.SideFiles.{inputs, side_words}
@@ -144,7 +144,7 @@ run_with around items left given =
     Run (record {
       items = items_with around items left given;
       inputs = inputs items;
-      output = last_argument (codes "-o") items;
+      outputs = outputs items;
       children = children_with around items left given;
       stages = All;
     })

@@ -52,6 +52,10 @@ inputs items = map (λ i. i.name) (filter is_looked_for items)
 abbrev pub compiled : List ℕ × List ℕ
 compiled = (codes ".c .i .h", codes "c c-header cpp-output")
 
+-- suffixes and languages of sources that the assembler ends with: C but for headers, and all assembler
+abbrev pub assembled : List ℕ × List ℕ
+assembled = (codes ".c .i .s .S .sx", codes "c cpp-output assembler assembler-with-cpp")
+
 -- suffixes and languages of C and of assembler that is preprocessed: what -E, -M and -MM work on
 abbrev pub preprocessed : List ℕ × List ℕ
 preprocessed = (codes ".c .i .h .S .sx", codes "c c-header cpp-output assembler-with-cpp")

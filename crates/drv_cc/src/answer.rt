@@ -54,8 +54,9 @@ pub struct Call {
     pub items: Listing<Item>,
     /// The files that the line names, in its order; `-` is none.
     pub inputs: Listing<Word>,
-    /// The argument of the last `-o`, if there is one.
-    pub output: Option<Word>,
+    /// The files that the line writes: the one that its last `-o` names, or else one for each source,
+    /// or the program.
+    pub outputs: Listing<Word>,
     /// The variables that are set for the driver's children, as gcc's driver sets them.
     pub children: Listing<Variable>,
     /// The stages of the line.

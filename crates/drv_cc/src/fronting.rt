@@ -1,15 +1,16 @@
 //! A line of `gcc` read into a question, refusals, or items of the driver's line.
 
 ghost use Rattle.drv_cc.specs.Front.{answer_of, front_of, line_items, refused_or_run, run_of};
-ghost use Rattle.drv_cc.specs.Kept.{effective_items, last_argument, refusals};
-ghost use Rattle.std.specs.Prelude.{◌≡◌, IfOk, codes};
+ghost use Rattle.drv_cc.specs.Kept.{effective_items, refusals};
+ghost use Rattle.std.specs.Prelude.{◌≡◌, IfOk};
 
 use crate::asking::is_asked;
 use crate::item::Item;
 use crate::judging::refusals;
-use crate::keeping::{do_all_stay, effective_items, last_argument};
+use crate::keeping::{do_all_stay, effective_items};
 use crate::line_adding::add_items;
 use crate::line_items::add_kept;
+use crate::outputs::outputs;
 use crate::quoting::children;
 use crate::reading::items_of;
 use crate::sources::inputs;
@@ -32,28 +33,18 @@ fn line_items(
     Ok(given)
 }
 
-/// The file that a line names for its output, if it names one (GCC manual, "Overall Options", -o).
-pub(crate) fn output(alloc: Global, items: &[Item]) -> Result<Option<Word>, AllocError>
-    ensures { IfOk result (λ output. output ≡ last_argument (codes "-o") items.now) }
-{
-    match last_argument(items, b"-o") {
-        Some(path) => Ok(Some(Word::from_bytes(alloc, path)?)),
-        None => Ok(None),
-    }
-}
-
 /// The call of a line whose items these are.
 fn call_of(alloc: Global, around: &Surroundings, items: &[Item]) -> Result<Answer, AllocError>
     ensures { IfOk result (λ answer. answer ≡ run_of around.now items.now) }
 {
     let given = line_items(alloc, around, items)?;
     let inputs = inputs(alloc, items)?;
-    let output = output(alloc, items)?;
+    let outputs = outputs(alloc, items)?;
     let children = children(alloc, around, items)?;
     Ok(Answer::Run(Call {
         items: given,
         inputs,
-        output,
+        outputs,
         children,
         stages: stages(items),
     }))

@@ -12,7 +12,6 @@ use crate::adding::add_thread_words;
 use crate::checks::add_check_words;
 use crate::classes::is;
 use crate::collecting::children_with;
-use crate::fronting::output;
 use crate::hiding::live;
 use crate::item::Item;
 use crate::judging::refuse;
@@ -20,6 +19,7 @@ use crate::keeping::effective_items;
 use crate::levels::add_levels_with;
 use crate::line_adding::{add_first_words, add_program_items, add_switches};
 use crate::line_items::add_kept;
+use crate::outputs::outputs;
 use crate::reading::items_of;
 use crate::sides::add_side_words;
 use crate::sources::inputs;
@@ -247,12 +247,12 @@ fn run_with(
 {
     let made = items_with(alloc, around, items, left, given)?;
     let inputs = inputs(alloc, items)?;
-    let output = output(alloc, items)?;
+    let outputs = outputs(alloc, items)?;
     let children = children_with(alloc, around, items, left, given)?;
     Ok(Answer::Run(Call {
         items: made,
         inputs,
-        output,
+        outputs,
         children,
         stages: Stages::All,
     }))

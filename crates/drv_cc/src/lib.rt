@@ -29,6 +29,7 @@ mod line_items;
 mod macros;
 mod name_groups;
 mod names;
+mod outputs;
 mod parted_beginnings;
 mod places;
 mod placing;

@@ -22,6 +22,8 @@ use std::alloc::{AllocError, Global};
 pub(crate) enum Kinds {
     /// C.
     Compiled,
+    /// C but for headers, and all assembler.
+    Assembled,
     /// C and the assembler that is preprocessed.
     Preprocessed,
     /// C and all assembler.
@@ -35,6 +37,7 @@ impl Kinds {
     {
         match self {
             Kinds::Compiled => b".c .i .h",
+            Kinds::Assembled => b".c .i .s .S .sx",
             Kinds::Preprocessed => b".c .i .h .S .sx",
             Kinds::Worked => b".c .i .h .s .S .sx",
         }
@@ -46,13 +49,14 @@ impl Kinds {
     {
         match self {
             Kinds::Compiled => b"c c-header cpp-output",
+            Kinds::Assembled => b"c cpp-output assembler assembler-with-cpp",
             Kinds::Preprocessed => b"c c-header cpp-output assembler-with-cpp",
             Kinds::Worked => b"c c-header cpp-output assembler assembler-with-cpp",
         }
     }
 
     /// Whether a file of a language, or of none, is one.
-    fn is_source(self, language: &[u8], name: &[u8]) -> bool
+    pub(crate) fn is_source(self, language: &[u8], name: &[u8]) -> bool
         ensures { result ≡ is_source (kinds_shown self) language.now name.now }
     {
         if language.is_empty() {
@@ -162,7 +166,7 @@ fn files(items: &[Item]) -> Count<'_>
 }
 
 /// The language of the files after an item.
-fn language_by<'a>(language: &'a [u8], item: &'a Item) -> &'a [u8]
+pub(crate) fn language_by<'a>(language: &'a [u8], item: &'a Item) -> &'a [u8]
     ensures { result.now ≡ language_by language.now item.now }
 {
     if !is(item.name.as_bytes(), b"-x") {

@@ -81,7 +81,7 @@ fn preprocesses(item: &Item) -> bool
 }
 
 /// Whether some option asks for the preprocessor alone.
-fn has_preprocessing(items: &[Item]) -> bool
+pub(crate) fn has_preprocessing(items: &[Item]) -> bool
     ensures { result ≡ list_any preprocesses items.now }
 {
     items.iter().any(preprocesses)

@@ -6,6 +6,7 @@ pub mod Decided
 pub mod Done
 pub mod DriverCalls
 pub mod Files
+pub mod FirstRead
 pub mod Given
 pub mod Joined
 pub mod Leading

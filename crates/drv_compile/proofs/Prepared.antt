@@ -9,8 +9,9 @@ use Rattle.drv_compile.specs.Compiles.{IsPlanned, Plans, Refuses, asks, declines
 use Rattle.drv_compile.specs.Compiles.{no_words, objected, overwriting, performs, stopped, undriven, unworded}
 use Rattle.drv_compile.specs.Decides.{decide}
 use Rattle.drv_compile.specs.Driven.{IsWorker, Undriven}
-use Rattle.drv_compile.specs.Inputs.{IsRead, Noted, Overwrites, file_of, new_output, no_output, objection, old_output}
+use Rattle.drv_compile.specs.Inputs.{Noted, objection}
 use Rattle.drv_compile.specs.Opening.{opening}
+use Rattle.drv_compile.specs.Overwriting.{Overwrites, files_read}
 use Rattle.drv_compile.specs.Runs.{Works}
 use Rattle.drv_compile.specs.Tasks.{Declines, IfTold, Leads}
 use Rattle.drv_compile.specs.Texts.{gone_text, overwritten_text, unworded_text}
@@ -22,6 +23,8 @@ use Rattle.drv_compile.specs.declared.driving.Driven.{Driven}
 use Rattle.drv_compile.specs.declared.driving.Worker.TheVariants.{Driver, Nobody}
 use Rattle.drv_compile.specs.declared.driving.Worker.{Worker}
 use Rattle.drv_compile.specs.declared.host.HostEvent.{HostEvent}
+use Rattle.drv_compile.specs.declared.overwriting.Clash.{Clash}
+use Rattle.drv_compile.specs.declared.overwriting.FileRead.{FileRead}
 use Rattle.drv_compile.specs.declared.preparing.Prepared.{Prepared}
 use Rattle.drv_compile.specs.declared.request.GccLine.{GccLine}
 use Rattle.drv_compile.specs.declared.stop.Stop.{Stop}
@@ -33,67 +36,48 @@ use Rattle.drv_system.specs.Known.{Is}
 use Rattle.std.proofs.Common.{◌≡◌, ◌↔◌, ◌∙◌, ◌∷◌, ◌++◌, [], Bool, Err, IsErrAnd, IsTrue, List, None, Ok, Option, Result, Some, ap, false}
 use Rattle.std.proofs.Common.{inl, inr, refl, subst, sym, true, ℕ}
 use Rattle.std.proofs.lemmas.Bool.{false≢true}
-use Rattle.std.specs.Prelude.{MatchResult, is_some}
+use Rattle.std.specs.Prelude.{MatchResult}
 
 -- For `prepare` (src/preparing.rt): what a call does, from step to step.
 -- Names: `F` is what is known of the outside, and `knows` says which facts the call has. `line` is the line of gcc: its `request` is what
 -- the call is given, its `given` the words, and its `chain` the spec file, the compiler and the known names. `call` is what the front made
--- of it: `inputs`, `output`, items. `calling`, `own`, `args` and `seed` are what the call is given. `slice` is a list, and `specs`, `lent`
+-- of it: `inputs`, `outputs`, items. `calling`, `own`, `args` and `seed` are what the call is given. `slice` is a list, and `specs`, `lent`
 -- or `name` a text, as the code lends it. `events`, `read` and `asked` are what the host was asked. `before`, `mid` and `after` are its
 -- notes before a step and after each. `prepared` is what the call has to do. `stop` is why it ends, and `result` what the code's call
 -- gives. `Noted before after P`: events were added, of which P holds. `IfTold stop P`: P holds of the stop's text, if it has one.
 -- `MatchResult result P Q`: P holds of the value, or Q of the fault. `IsErrAnd result P`: there is a fault, of which P holds. `objection`
--- is what speaks against a line, and `Overwrites` says whether its output is an input (specs/Inputs). `IsPrepared`, `IsUnplanned`, `IsDone`
--- and `IsUndone` are in specs/Code/Preparing. `Plans` and `Refuses` are the whole call: what it has to do, or the text of its refusal
+-- is what speaks against a line, and `Overwrites` says whether it writes a file that it reads
+-- (specs/Overwriting). `IsPrepared`, `IsUnplanned`, `IsDone` and `IsUndone` are in specs/Code/Preparing. `Plans` and `Refuses` are the whole call: what it has to do, or the text of its refusal
 -- (specs/Compiles).
 
--- an output that is an input, or none
+-- an output that is a file that the line reads, or none
 
--- a line without an output, or whose output is no file, overwrites nothing
-none_is_read : {inputs : List (List ℕ)} {file : Option (List ℕ)} {events : List HostEvent} {found : Bool}
-    → IsRead inputs file events found → file ≡ None → found ≡ false
-none_is_read no_output none = refl
-none_is_read new_output none = refl
-none_is_read (old_output reaches) none = absurd (some_is_none none)
-  where
-    -- Plan: `some_is_none` says that no output can't be an output.
-    some_is_none : {path : List ℕ} → Some path ≡ None → ⊥
-    some_is_none is = absurd (false≢true (sym (ap is_some is)))
-
--- For `refuse_overwriting`: if the line has no output, then it overwrites nothing.
-pub no_overwriting : (slice inputs : List (List ℕ)) (given : Option (List ℕ)) (found : Bool) (before after : List HostEvent)
-    → slice ≡ inputs → given ≡ None
-    → Noted before after (λ events. Overwrites slice given events found)
-    → Noted before after (λ events. Overwrites inputs given events false)
-no_overwriting slice inputs given found before after same none (events, grown, overwrites) = (
+-- For `refuse_overwriting`: if no output is read, then the line overwrites nothing.
+pub not_overwriting : (files slice : List FileRead) (outputs lent : List (List ℕ)) (call : Call) (args : List (List ℕ))
+    (found : Option Clash) (before after : List HostEvent) → slice ≡ files → files ≡ files_read call args → lent ≡ outputs → found ≡ None
+    → Noted before after (λ events. Overwrites slice lent events found)
+    → Noted before after (λ events. Overwrites (files_read call args) outputs events None)
+not_overwriting files slice outputs lent call args found before after same are lends none (events, grown, overwrites) = (
   events,
   grown,
-  subst (λ xs. Overwrites xs given events false) same
-      (subst (λ f. Overwrites slice given events f) (none_is_read overwrites (ap file_of none)) overwrites),
+  subst (λ xs. Overwrites xs outputs events None) (same ∙ are)
+      (subst (λ os. Overwrites slice os events None) lends (subst (λ f. Overwrites slice lent events f) none overwrites)),
 )
 
--- For `refuse_overwriting`: if no input leads to the output, then the line overwrites nothing.
-pub not_overwriting : (slice inputs : List (List ℕ)) (given : Option (List ℕ)) (found : Bool) (before after : List HostEvent)
-    → slice ≡ inputs → found ≡ false
-    → Noted before after (λ events. Overwrites slice given events found)
-    → Noted before after (λ events. Overwrites inputs given events false)
-not_overwriting slice inputs given found before after same is (events, grown, overwrites) =
-    (events, grown, subst (λ xs. Overwrites xs given events false) same (subst (λ f. Overwrites slice given events f) is overwrites))
-
--- For `refuse_overwriting`: if the output is an input, then the text with the output's name says so.
-pub overwriting_told : (name text output slice : List ℕ) (call : Call) (inputs : List (List ℕ)) (found : Bool)
-    (before after : List HostEvent) → call.output ≡ Some output
-    → slice ≡ output → inputs ≡ call.inputs → found ≡ true → Noted before after (λ events. Overwrites inputs call.output events found)
-    → text ≡ overwritten_text name slice
-    → Noted before after (λ events. IsOverwriting name call events text)
-overwriting_told name text output slice call inputs found before after some same are true_is (events, grown, overwrites) is = (
+-- For `refuse_overwriting`: if an output is read, then the text with its name says so.
+pub overwriting_told : (line : GccLine) (name text : List ℕ) (files slice : List FileRead) (lent : List (List ℕ)) (call : Call)
+    (found : Option Clash) (clash : Clash) (before after : List HostEvent) → slice ≡ files
+    → files ≡ files_read call line.request.now.args.now → lent ≡ call.outputs → found ≡ Some clash
+    → Noted before after (λ events. Overwrites slice lent events found) → name ≡ line.request.now.calling.now.name
+    → text ≡ overwritten_text name clash → Noted before after (λ events. IsOverwriting line call events text)
+overwriting_told line name text files slice lent call found clash before after same are lends some (events, grown, overwrites) named is = (
   events,
   grown,
   (
-    output,
-    some,
-    subst (λ xs. Overwrites xs call.output events true) are (subst (λ f. Overwrites inputs call.output events f) true_is overwrites),
-    is ∙ ap (overwritten_text name) same,
+    clash,
+    subst (λ xs. Overwrites xs call.outputs events (Some clash)) (same ∙ are)
+        (subst (λ os. Overwrites slice os events (Some clash)) lends (subst (λ f. Overwrites slice lent events f) some overwrites)),
+    is ∙ ap (λ n. overwritten_text n clash) named,
   ),
 )
 
@@ -102,7 +86,7 @@ overwriting_told name text output slice call inputs found before after some same
 -- For `compilation`: if nothing speaks against the line, then what is prepared for it is done, and why nothing is prepared is why it is
 -- refused.
 fails_planned : (F : Facts) (line : GccLine) (call : Call) (read asked : List HostEvent) (result : Result Prepared Stop)
-    → objection F line.request.now.calling.now.name call.inputs ≡ Is [] → Overwrites call.inputs call.output read false
+    → objection F line.request.now.calling.now.name call.inputs ≡ Is [] → Overwrites (files_read call line.request.now.args.now) call.outputs read None
     → MatchResult result (λ prepared. IsPrepared F line call asked prepared) (λ stop. IfTold stop (IsUnplanned F line call asked))
     → MatchResult result (λ prepared. IsDone F line call (read ++ asked) prepared)
     (λ stop. IfTold stop (IsUndone F line call (read ++ asked)))
@@ -133,39 +117,38 @@ pub free_as : (F : Facts) (line : GccLine) (call : Call) (name text : List ℕ) 
 free_as F line call name text inputs found named are is empty so =
     ap (objection F line.request.now.calling.now.name) (sym are) ∙ ap (λ n. objection F n inputs) (sym named) ∙ is ∙ ap Is (empty.0 so)
 
--- For `compilation`: if the output is an input, and nothing else speaks against the line, then the line is refused by the text about that.
-pub overwriting_fails : (line : GccLine) (name : List ℕ) (call : Call) (stop : Stop) (before after : List HostEvent)
-    (result : Result Prepared Stop) (knows : Facts → Type 0) → name ≡ line.request.now.calling.now.name → IsErrAnd result (λ s. s ≡ stop)
+-- For `compilation`: if an output is read, and nothing else speaks against the line, then the line is refused by the text about that.
+pub overwriting_fails : (line : GccLine) (call : Call) (stop : Stop) (before after : List HostEvent)
+    (result : Result Prepared Stop) (knows : Facts → Type 0) → IsErrAnd result (λ s. s ≡ stop)
     → ((F : Facts) → knows F → objection F line.request.now.calling.now.name call.inputs ≡ Is [])
-    → Noted before after (λ events. IfTold stop (IsOverwriting name call events))
+    → Noted before after (λ events. IfTold stop (IsOverwriting line call events))
     → Noted before after (λ events. (F : Facts) → knows F
     → MatchResult result (λ prepared. IsDone F line call events prepared) (λ s. IfTold s (IsUndone F line call events)))
-overwriting_fails line name call stop before after result knows named is free (events, grown, tells) = (
+overwriting_fails line call stop before after result knows is free (events, grown, tells) = (
   events,
   grown,
   λ F k.
       stop_stays result stop (λ prepared. IsDone F line call events prepared) (IsUndone F line call events) is
-      (told_as stop (IsOverwriting name call events) (IsUndone F line call events) (by F k) tells),
+      (told_as stop (IsOverwriting line call events) (IsUndone F line call events) (by F k) tells),
 )
   where
-    -- Plan: `by` says that for each text about an overwritten input.
-    by : (F : Facts) → knows F → (text : List ℕ) → IsOverwriting name call events text → IsUndone F line call events text
-    by F k text (output, some, overwrites, same_text) =
-        subst (λ t. IsUndone F line call events t) (sym (same_text ∙ ap (λ n. overwritten_text n output) named))
-        (overwriting (free F k) some overwrites)
+    -- Plan: `by` says that for each text about a file that is overwritten.
+    by : (F : Facts) → knows F → (text : List ℕ) → IsOverwriting line call events text → IsUndone F line call events text
+    by F k text (clash, overwrites, same_text) =
+        subst (λ t. IsUndone F line call events t) (sym same_text) (overwriting (free F k) overwrites)
 
 -- For `compilation`: if the host was asked for the files of the line and then for its row, then the line is done, or refused, by the events
 -- of both.
 pub performs_noted : (line : GccLine) (call : Call) (before mid after : List HostEvent) (result : Result Prepared Stop)
     (knows : Facts → Type 0)
     → ((F : Facts) → knows F → objection F line.request.now.calling.now.name call.inputs ≡ Is [])
-    → Noted before mid (λ events. Overwrites call.inputs call.output events false)
+    → Noted before mid (λ events. Overwrites (files_read call line.request.now.args.now) call.outputs events None)
     → Noted mid after (λ events. (F : Facts) → knows F → MatchResult result (λ prepared. IsPrepared F line call events prepared)
     (λ stop. IfTold stop (IsUnplanned F line call events)))
     → Noted before after (λ events. (F : Facts) → knows F
     → MatchResult result (λ prepared. IsDone F line call events prepared) (λ s. IfTold s (IsUndone F line call events)))
 performs_noted line call before mid after result knows free =
-    noted_then before mid after (λ events. Overwrites call.inputs call.output events false)
+    noted_then before mid after (λ events. Overwrites (files_read call line.request.now.args.now) call.outputs events None)
     (λ events. (F : Facts) → knows F → MatchResult result (λ prepared. IsPrepared F line call events prepared)
     (λ stop. IfTold stop (IsUnplanned F line call events)))
     (λ events. (F : Facts) → knows F

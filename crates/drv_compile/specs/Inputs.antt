@@ -1,14 +1,10 @@
-use Rattle.drv_compile.specs.Suffixes.{is_no_file}
 use Rattle.drv_compile.specs.Texts.{absent_text, variable_text}
-use Rattle.drv_compile.specs.declared.host.HostEvent.TheVariants.{Resolved}
 use Rattle.drv_compile.specs.declared.host.HostEvent.{HostEvent}
 use Rattle.drv_system.specs.Facts.{Facts, kind_of, variable_of}
 use Rattle.drv_system.specs.Known.{◌>>=◌, Is, Known, asked}
 use Rattle.drv_system.specs.declared.event.PathKind.TheVariants.{Dir, Missing, Other, Plain}
 use Rattle.drv_system.specs.declared.event.PathKind.{PathKind}
-use Rattle.std.specs.Cmp.Lexicographic.{pointwise}
-use Rattle.std.specs.Prelude.{◌≡◌, Bool, List, [], ◌∷◌, ◌++◌, None, Option, Some, codes, false, if◌then◌else◌, nat_eq, true}
-use Rattle.std.specs.Prelude.{ℕ}
+use Rattle.std.specs.Prelude.{◌≡◌, List, [], ◌∷◌, ◌++◌, None, Option, Some, codes, ℕ}
 
 -- What is asked of a line that is carried out, before anything is started (GCC, "gcc.cc", process_command).
 -- For clauses of src/inputs.rt, src/preparing.rt, src/temp_folder.rt and src/compiling.rt.
@@ -38,40 +34,6 @@ objection_by F name inputs (Some value) = Is (variable_text name)
 -- what speaks against a line before anything is started: GCC_EXEC_PREFIX is set, or inputs aren't there
 abbrev pub objection : Facts → List ℕ → List (List ℕ) → Known (List ℕ)
 objection F name inputs = asked (variable_of F (codes "GCC_EXEC_PREFIX")) >>= λ value. objection_by F name inputs value
-
--- Whether an output is an input, by whatever path (canonical_filename_eq): where a file is there, the path that each input leads to is
--- asked for, up to the first that is that of the output.
-
--- whether an input leads to this path
-abbrev pub is_at : List ℕ → Option (List ℕ) → Bool
-is_at path None = false
-is_at path (Some found) = pointwise nat_eq found path
-
--- the host's answers for the paths of inputs, up to the first that leads to the output; the last value says whether one does
-pub data Reaches (path : List ℕ) : List (List ℕ) → List HostEvent → Bool → Type 0 where
-  to_none : Reaches path [] [] false
-  to_it : {input : List ℕ} {inputs : List (List ℕ)} {answer : Option (List ℕ)} → is_at path answer ≡ true
-      → Reaches path (input ∷ inputs) (Resolved input answer ∷ []) true
-  to_another : {input : List ℕ} {inputs : List (List ℕ)} {answer : Option (List ℕ)} {events : List HostEvent} {found : Bool}
-      → is_at path answer ≡ false
-      → Reaches path inputs events found → Reaches path (input ∷ inputs) (Resolved input answer ∷ events) found
-
--- whether a file is one of the inputs by whatever path, with the questions for that: the file's own path, and then each input's until
--- one is it
-pub data IsRead (inputs : List (List ℕ)) : Option (List ℕ) → List HostEvent → Bool → Type 0 where
-  no_output : IsRead inputs None [] false
-  new_output : {output : List ℕ} → IsRead inputs (Some output) (Resolved output None ∷ []) false
-  old_output : {output path : List ℕ} {events : List HostEvent} {found : Bool} → Reaches path inputs events found
-      → IsRead inputs (Some output) (Resolved output (Some path) ∷ events) found
-
--- the file of an output: `-` and /dev/null are none
-abbrev pub file_of : Option (List ℕ) → Option (List ℕ)
-file_of None = None
-file_of (Some output) = if is_no_file output then None else Some output
-
--- whether an output is an input (GCC, "gcc.cc", process_command); nothing is asked of one that is no file
-abbrev pub Overwrites : List (List ℕ) → Option (List ℕ) → List HostEvent → Bool → Type 0
-Overwrites inputs output events found = IsRead inputs (file_of output) events found
 
 -- events that were added after others
 abbrev pub Noted : List HostEvent → List HostEvent → (List HostEvent → Type 0) → Type 0

@@ -10,6 +10,7 @@ pub mod Languages
 pub mod Machines
 pub mod Near
 pub mod Opening
+pub mod Overwriting
 pub mod Parts
 pub mod Passed
 pub mod Places

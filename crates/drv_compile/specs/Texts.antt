@@ -4,6 +4,9 @@ use Rattle.drv_cc.specs.declared.refusal.Refusal.TheVariants.{UnknownOption}
 use Rattle.drv_cc.specs.declared.refusal.Refusal.{Refusal}
 use Rattle.drv_compile.specs.Calling.{before_ending}
 use Rattle.drv_compile.specs.Places.{companion}
+use Rattle.drv_compile.specs.declared.overwriting.Clash.{Clash}
+use Rattle.drv_compile.specs.declared.overwriting.ReadAs.TheVariants as read
+use Rattle.drv_compile.specs.declared.overwriting.ReadAs.{ReadAs}
 use Rattle.drv_words.specs.Bytes.{at_sign}
 use Rattle.drv_words.specs.FileNames.{base}
 use Rattle.std.specs.Cmp.Lexicographic.{pointwise}
@@ -95,10 +98,17 @@ file_said (b ∷ path) = if b == at_sign then path else b ∷ path
 abbrev pub absent_text : List ℕ → List ℕ → List ℕ
 absent_text name path = error_line name (file_said path ++ codes ": No such file or directory")
 
--- an output that is an input (GCC, "gcc.cc", process_command)
-abbrev pub overwritten_text : List ℕ → List ℕ → List ℕ
-overwritten_text name output =
-    name ++ codes ": fatal error: input file '" ++ output ++ codes "' is the same as output file\ncompilation terminated.\n"
+-- what a file is called by what it is read as
+abbrev pub read_text : ReadAs → List ℕ
+read_text read.Input = codes "input file '"
+read_text read.Specs = codes "spec file '"
+read_text read.Response = codes "response file '"
+
+-- an output that is a file that the line reads (GCC, "gcc.cc", process_command)
+abbrev pub overwritten_text : List ℕ → Clash → List ℕ
+overwritten_text name clash =
+    name ++ codes ": fatal error: " ++ read_text clash.read_as ++ clash.output
+    ++ codes "' is the same as output file\ncompilation terminated.\n"
 
 -- a line that the compiler says of itself, with its newline (GCC manual, "Overall Options", -v)
 abbrev pub line_of : List ℕ → List ℕ

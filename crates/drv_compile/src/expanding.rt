@@ -33,7 +33,7 @@ use std::alloc::{AllocError, Global};
 const MOST_WORDS: usize = 262_144;
 
 /// The path of the response file that a word names.
-fn file_named(word: &[u8]) -> Option<&[u8]>
+pub(crate) fn file_named(word: &[u8]) -> Option<&[u8]>
     ensures { option_copied result ≡ file_named word.now }
 {
     match word {

@@ -1,17 +1,13 @@
 //! What is asked of a line that is carried out, before anything is started.
 
 // In clauses: `Asked` says that a call only asked, and that the table has the answers. `Tells` says
-// that a result is that of a definition, by any facts that extend what is known. `Noted before
-// after P` says that the host was asked, and that P holds of these events.
-ghost use Rattle.drv_compile.specs.Inputs.{Noted, Overwrites, Reaches, absent_by, absent_of};
-ghost use Rattle.drv_compile.specs.Inputs.{is_at, objection};
+// that a result is that of a definition, by any facts that extend what is known.
+ghost use Rattle.drv_compile.specs.Inputs.{absent_by, absent_of, objection};
 ghost use Rattle.drv_search.specs.Code.Telling.{Tells};
 ghost use Rattle.drv_system.specs.Code.Asked.{Asked};
-ghost use Rattle.std.specs.Prelude.{◌≡◌, ◌++◌, IfOk, OnOk};
+ghost use Rattle.std.specs.Prelude.{◌≡◌, ◌++◌, OnOk};
 
 use crate::deciding::variable;
-use crate::host::Host;
-use crate::suffixing::is_no_file;
 use crate::wording::{add_absent, variable_text};
 use drv_system::{Outside, PathKind, System};
 use drv_words::Word;
@@ -68,56 +64,4 @@ pub(crate) fn objection<S: System>(
         return variable_text(alloc, name);
     }
     absent_inputs_text(alloc, name, inputs, outside)
-}
-
-/// Whether what a name leads to is the file at a path.
-fn is_at(path: &Word, found: &Option<Word>) -> bool
-    ensures { result ≡ is_at path.now found.now }
-{
-    match found {
-        Some(found) => found.as_bytes() == path.as_bytes(),
-        None => false,
-    }
-}
-
-/// Whether an input leads to the file at a path. The host is asked for each input up to the first
-/// that does.
-fn reaches<S: System, H: Host<S>>(
-    path: &Word,
-    inputs: &[Word],
-    host: &mut H,
-) -> Result<bool, AllocError>
-    ensures { Noted (H.notes host.old) (H.notes host.new)
-        (λ events. IfOk result (λ found. Reaches path.now inputs.now events found)) }
-{
-    for input in inputs {
-        let found = host.resolve(input)?;
-        if is_at(path, &found) {
-            return Ok(true);
-        }
-    }
-    Ok(false)
-}
-
-/// Whether an output is an input, by whatever path; `-` and `/dev/null` are none (GCC, "gcc.cc",
-/// process_command).
-pub(crate) fn overwrites<S: System, H: Host<S>>(
-    inputs: &[Word],
-    output: &Option<Word>,
-    host: &mut H,
-) -> Result<bool, AllocError>
-    ensures { Noted (H.notes host.old) (H.notes host.new)
-        (λ events. IfOk result (λ found. Overwrites inputs.now output.now events found)) }
-{
-    let Some(output) = output else {
-        return Ok(false);
-    };
-    if is_no_file(output.as_bytes()) {
-        return Ok(false);
-    }
-    let found = host.resolve(output)?;
-    let Some(path) = found else {
-        return Ok(false);
-    };
-    reaches(&path, inputs, host)
 }

@@ -16,6 +16,7 @@ mod languages;
 mod machines;
 mod naming;
 mod nearest;
+mod overwriting;
 mod parts;
 mod passing;
 mod places;

@@ -5,7 +5,8 @@
 // P holds of these events. `IfTold stop P` says that P holds of the text of a stop, if it has one.
 ghost use Rattle.drv_compile.specs.Compiles.{Comes, IsPlanned, Plans, Refuses};
 ghost use Rattle.drv_compile.specs.Compiles.{one_command, question};
-ghost use Rattle.drv_compile.specs.Inputs.{Noted, Overwrites};
+ghost use Rattle.drv_compile.specs.Inputs.{Noted};
+ghost use Rattle.drv_compile.specs.Overwriting.{Overwrites, files_read};
 ghost use Rattle.drv_compile.specs.Code.Preparing.{IsDone, IsFailure, IsOverwriting, IsPrepared};
 ghost use Rattle.drv_compile.specs.Code.Preparing.{IsQuestion, IsUndone, IsUnplanned};
 ghost use Rattle.drv_compile.specs.Runs.{Works};
@@ -14,13 +15,14 @@ ghost use Rattle.drv_compile.specs.Tasks.{IfTold};
 ghost use Rattle.drv_system.specs.Asking.{Extends};
 ghost use Rattle.drv_system.specs.Code.Asked.{Asked};
 ghost use Rattle.drv_system.specs.Facts.{Facts};
-ghost use Rattle.std.specs.Prelude.{◌≡◌, IfOk, MatchResult, false};
+ghost use Rattle.std.specs.Prelude.{◌≡◌, IfOk, MatchResult, None};
 
 use crate::deciding::decide;
 use crate::driving::{Driven, Worker, worker_of};
 use crate::expanding::line_words;
 use crate::host::Host;
-use crate::inputs::{objection, overwrites};
+use crate::inputs::objection;
+use crate::overwriting::{files_read, overwrites};
 use crate::refusing::stop_after;
 use crate::request::{GccLine, Request};
 use crate::running::{DriverLine, work_of_items};
@@ -123,29 +125,28 @@ fn work_or_stop<S: System>(
     }
 }
 
-/// Refuses a line whose output is an input.
+/// Refuses a line of which an output is a file that it reads.
 ///
 /// # Errors
 /// The text about it.
 fn refuse_overwriting<S: System, H: Host<S>>(
     alloc: Global,
-    name: &[u8],
+    line: &GccLine<'_>,
     call: &Call,
     host: &mut H,
 ) -> Result<(), Stop>
     ensures { Noted (H.notes host.old) (H.notes host.new)
         (λ events. MatchResult result
-        (λ _. Overwrites call.now.inputs call.now.output events false)
-        (λ stop. IfTold stop (IsOverwriting name.now call.now events))) }
+        (λ _. Overwrites (files_read call.now line.now.request.now.args.now) call.now.outputs events None)
+        (λ stop. IfTold stop (IsOverwriting line.now call.now events))) }
 {
-    let found = overwrites(call.inputs.as_slice(), &call.output, host)?;
-    let Some(output) = &call.output else {
+    let files = files_read(alloc, call, line.request.args)?;
+    let found = overwrites(files.as_slice(), call.outputs.as_slice(), host)?;
+    let Some(clash) = found else {
         return Ok(());
     };
-    if !found {
-        return Ok(());
-    }
-    let text = overwrite_text(alloc, name, output.as_bytes())?;
+    let name = line.request.calling.name.as_bytes();
+    let text = overwrite_text(alloc, name, &clash)?;
     Err(Stop::Told(text))
 }
 
@@ -238,7 +239,7 @@ fn compilation<S: System, H: Host<S>>(
     if !text.is_empty() {
         return Err(Stop::Told(text));
     }
-    refuse_overwriting(alloc, name, &call, host)?;
+    refuse_overwriting(alloc, line, &call, host)?;
     prepare_line(alloc, line, call, outside, host)
 }
 

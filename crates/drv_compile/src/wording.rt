@@ -2,7 +2,7 @@
 
 ghost use Rattle.drv_compile.specs.Texts.{absent_text, adding, error_line, fatal_line, file_said, given_text};
 ghost use Rattle.drv_compile.specs.Texts.{gone_text, help_text, if_only, lack_text, meant};
-ghost use Rattle.drv_compile.specs.Texts.{overwritten_text, quoted, version_text};
+ghost use Rattle.drv_compile.specs.Texts.{overwritten_text, quoted, read_text, version_text};
 ghost use Rattle.drv_compile.specs.Texts.{refusal_text};
 ghost use Rattle.drv_compile.specs.Texts.{takes_file, takes_goal, takes_macro, takes_path};
 ghost use Rattle.drv_compile.specs.Texts.{gcc_of, is_for, unknown_text, unwritten_text, unworded_text, writing};
@@ -13,6 +13,7 @@ ghost use Rattle.std.specs.Option.{option_copied};
 ghost use Rattle.std.specs.Prelude.{◌≡◌, ◌++◌, [], IfOk, List, OnOk, if◌then◌else◌, ℕ};
 
 use crate::calling::{Calling, before_ending};
+use crate::overwriting::{Clash, ReadAs};
 use crate::places::companion;
 use drv_cc::Refusal;
 use drv_plan::PlanFault;
@@ -259,13 +260,25 @@ pub(crate) fn add_absent(text: &mut Word, name: &[u8], path: &[u8]) -> Result<()
     )
 }
 
-/// The text about an output that is an input.
-pub(crate) fn overwrite_text(alloc: Global, name: &[u8], output: &[u8]) -> Result<Word, AllocError>
-    ensures { IfOk result (λ text. text ≡ overwritten_text name.now output.now) }
+/// What a file is called by what it is read as.
+fn read_text(read_as: ReadAs) -> &'static [u8]
+    ensures { result.now ≡ read_text read_as }
+{
+    match read_as {
+        ReadAs::Input => b"input file '",
+        ReadAs::Specs => b"spec file '",
+        ReadAs::Response => b"response file '",
+    }
+}
+
+/// The text about an output that is a file that the line reads.
+pub(crate) fn overwrite_text(alloc: Global, name: &[u8], clash: &Clash) -> Result<Word, AllocError>
+    ensures { IfOk result (λ text. text ≡ overwritten_text name.now clash.now) }
 {
     let mut text = Word::from_bytes(alloc, name)?;
-    text.extend_from_slice(b": fatal error: input file '")?;
-    text.extend_from_slice(output)?;
+    text.extend_from_slice(b": fatal error: ")?;
+    text.extend_from_slice(read_text(clash.read_as))?;
+    text.extend_from_slice(clash.output.as_bytes())?;
     text.extend_from_slice(b"' is the same as output file\ncompilation terminated.\n")?;
     Ok(text)
 }

@@ -5,7 +5,7 @@ use Rattle.drv_cc.specs.declared.item.Item.{Item}
 use Rattle.drv_cc.specs.declared.reading.Start.TheVariants as code
 use Rattle.drv_cc.specs.declared.reading.Start.{Start as CodeStart}
 use Rattle.drv_cc.specs.declared.renaming.Rename.{Rename}
-use Rattle.drv_cc.specs.SideFiles.{compiled, preprocessed, worked}
+use Rattle.drv_cc.specs.SideFiles.{assembled, compiled, preprocessed, worked}
 use Rattle.drv_cc.specs.declared.sources.Count.TheVariants as count
 use Rattle.drv_cc.specs.declared.sources.Count.{Count}
 use Rattle.drv_cc.specs.declared.sources.Kinds.TheVariants as kinds
@@ -45,6 +45,7 @@ Notes known old new wanting word next = (rest : List (List ℕ))
 -- the suffixes and languages that a value of Kinds means
 abbrev pub kinds_shown : Kinds → List ℕ × List ℕ
 kinds_shown kinds.Compiled = compiled
+kinds_shown kinds.Assembled = assembled
 kinds_shown kinds.Preprocessed = preprocessed
 kinds_shown kinds.Worked = worked
 

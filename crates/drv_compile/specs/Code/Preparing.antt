@@ -1,7 +1,7 @@
 use Rattle.drv_cc.specs.declared.answer.Call.{Call}
 use Rattle.drv_compile.specs.Compiles.{Fails, IsPlanned, Performs, question}
 use Rattle.drv_compile.specs.Driven.{IsWorker, Undriven}
-use Rattle.drv_compile.specs.Inputs.{Overwrites}
+use Rattle.drv_compile.specs.Overwriting.{Overwrites, files_read}
 use Rattle.drv_compile.specs.Runs.{Stops}
 use Rattle.drv_compile.specs.Texts.{gone_text, help_text, overwritten_text, unworded_text, version_text}
 use Rattle.drv_compile.specs.Words.{told_refusal}
@@ -9,13 +9,14 @@ use Rattle.drv_compile.specs.declared.calling.Calling.{Calling}
 use Rattle.drv_compile.specs.declared.driving.Driven.{Driven}
 use Rattle.drv_compile.specs.declared.driving.Worker.TheVariants.{Driver, Nobody}
 use Rattle.drv_compile.specs.declared.host.HostEvent.{HostEvent}
+use Rattle.drv_compile.specs.declared.overwriting.Clash.{Clash}
 use Rattle.drv_compile.specs.declared.preparing.Prepared.{Prepared}
 use Rattle.drv_compile.specs.declared.request.GccLine.{GccLine}
 use Rattle.drv_compile.specs.declared.running.DriverLine.{DriverLine}
 use Rattle.drv_run.specs.declared.ending.Ending.TheVariants.{Refused}
 use Rattle.drv_run.specs.declared.ending.Refusal.{Refusal}
 use Rattle.drv_system.specs.Facts.{Facts}
-use Rattle.std.specs.Prelude.{◌≡◌, ◌⊎◌, List, [], Some, true, ℕ}
+use Rattle.std.specs.Prelude.{◌≡◌, ◌⊎◌, List, [], Some, ℕ}
 
 -- The steps of a line that is carried out. Only private clauses of src/preparing.rt cite them.
 -- Names: `F` is what is known of the outside. `line` is the line of gcc, with what the call is given, its words and its chain (spec file,
@@ -27,10 +28,11 @@ use Rattle.std.specs.Prelude.{◌≡◌, ◌⊎◌, List, [], Some, true, ℕ}
 abbrev pub IsFailure : Facts → List ℕ → DriverLine → ℕ → List ℕ → Type 0
 IsFailure F name line seed text = (refusal : Refusal) × Stops F line seed (Refused refusal) × (text ≡ told_refusal name refusal)
 
--- its output is an input
-abbrev pub IsOverwriting : List ℕ → Call → List HostEvent → List ℕ → Type 0
-IsOverwriting name call events text =
-    (output : List ℕ) × (call.output ≡ Some output) × Overwrites call.inputs call.output events true × (text ≡ overwritten_text name output)
+-- an output is a file that it reads
+abbrev pub IsOverwriting : GccLine → Call → List HostEvent → List ℕ → Type 0
+IsOverwriting line call events text =
+    (clash : Clash) × Overwrites (files_read call line.request.now.args.now) call.outputs events (Some clash)
+    × (text ≡ overwritten_text line.request.now.calling.now.name clash)
 
 -- what is done for a line that the driver carries out
 abbrev pub IsPrepared : Facts → GccLine → Call → List HostEvent → Prepared → Type 0
@@ -55,11 +57,12 @@ IsUnplanned F line call events text =
 -- a line that is carried out, as `Performs` says
 abbrev pub IsDone : Facts → GccLine → Call → List HostEvent → Prepared → Type 0
 IsDone F line call events prepared =
-    Performs F line.request.now.calling.now line.chain call line.given line.request.now.seed events prepared
+    Performs F line.request.now.calling.now line.chain call line.request.now.args.now line.given line.request.now.seed events prepared
 
 -- why it is refused, as `Fails` says
 abbrev pub IsUndone : Facts → GccLine → Call → List HostEvent → List ℕ → Type 0
-IsUndone F line call events text = Fails F line.request.now.calling.now line.chain call line.given line.request.now.seed events text
+IsUndone F line call events text =
+    Fails F line.request.now.calling.now line.chain call line.request.now.args.now line.given line.request.now.seed events text
 
 -- what is done for a question
 abbrev pub IsQuestion : Calling → List ℕ → List ℕ → List (List ℕ) → Prepared → Type 0

@@ -19,9 +19,8 @@ returns-then-not-is_empty-clause-performs g c =
 -- Nothing else speaks against the line (`free_as`), so its refusal is the one about its output.
 pub returns-in_err-refuse_overwriting-clause-performs : goal.returns-in_err-refuse_overwriting-clause-performs
 returns-in_err-refuse_overwriting-clause-performs g c =
-    overwriting_fails c.args.line.now _ c.args.call _ _ _
-    c.from_residual-in_err-refuse_overwriting.result _ c.as_bytes-name.ensures
-    c.from_residual-in_err-refuse_overwriting.ensures.1
+    overwriting_fails c.args.line.now c.args.call _ _ _
+    c.from_residual-in_err-refuse_overwriting.result _ c.from_residual-in_err-refuse_overwriting.ensures.1
     (λ F e. free_as F c.args.line.now c.args.call _ c.in_ok-text.text _ c.is_empty.result c.as_bytes-name.ensures c.as_slice.ensures
     (c.in_ok-text.ensures.text F e) c.is_empty.ensures
     c.if-not-is_empty.false)
