@@ -51,27 +51,43 @@ around_read F specs slice words around reading (Err e) same read is = tt
 around_read F specs slice words around reading (Ok decision) same read is =
     ap (λ k. k >>= λ r. Is (of_reading specs around r)) (ap (λ s. line_read F s around words) (sym same) ∙ read) ∙ ap Is (sym is)
 
--- For `decided_by`: if the file names a compiler, and both variables were asked for, then the decision with these folders is that by the
+-- For `decided_by`: if the file names a compiler, and both variables were asked for, then the decision in these surroundings is that by the
 -- file's text.
 pub compiler_given : {E : Type 0} (F : Facts) (specs : List ℕ) (words : List (List ℕ)) (text : List ℕ)
-    (compiler : List ℕ) (folders copies : List (List ℕ))
+    (compiler : List ℕ) (around : Surroundings)
     (programs libraries : Option (List ℕ)) (result : Result Decision E)
-    → first_of (values (codes "compiler ") text) ≡ Some compiler → folders ≡ values (codes "folder ") text
-    → copies ≡ copies_of specs text
+    → first_of (values (codes "compiler ") text) ≡ Some compiler → around ≡ surroundings specs text compiler programs libraries
     → asked (variable_of F (codes "COMPILER_PATH")) ≡ Is programs
     → asked (variable_of F (codes "LIBRARY_PATH")) ≡ Is libraries
-    → IfOk result (λ decision. decided_around F specs words (surroundings compiler folders copies programs libraries) ≡ Is decision)
+    → IfOk result (λ decision. decided_around F specs words around ≡ Is decision)
     → IfOk result (λ decision. decided_over F specs words (Some text) ≡ Is decision)
-compiler_given F specs words text compiler folders copies programs libraries (Err e) some folders_are copies_are first second is = tt
-compiler_given F specs words text compiler folders copies programs libraries (Ok decision) some folders_are copies_are first second is =
+compiler_given F specs words text compiler around programs libraries (Err e) some around_is first second is = tt
+compiler_given F specs words text compiler around programs libraries (Ok decision) some around_is first second is =
     ap (decided_by F specs words text) some
     ∙ ap (λ k. k >>= λ p. asked (variable_of F (codes "LIBRARY_PATH"))
-    >>= λ l. decided_around F specs words (surroundings compiler (values (codes "folder ") text) (copies_of specs text) p l)) first
-    ∙ ap (λ k. k >>= λ l.
-    decided_around F specs words (surroundings compiler (values (codes "folder ") text) (copies_of specs text) programs l)) second
-    ∙ ap (λ f. decided_around F specs words (surroundings compiler f (copies_of specs text) programs libraries)) (sym folders_are)
-    ∙ ap (λ c. decided_around F specs words (surroundings compiler folders c programs libraries)) (sym copies_are)
+    >>= λ l. decided_around F specs words (surroundings specs text compiler p l)) first
+    ∙ ap (λ k. k >>= λ l. decided_around F specs words (surroundings specs text compiler programs l)) second
+    ∙ ap (decided_around F specs words) (sym around_is)
     ∙ is
+
+-- For `decided_by` too: the surroundings that the code makes are those of the text.
+pub surrounded : (specs slice text compiler : List ℕ) (folders copies children : List (List ℕ)) (programs libraries : Option (List ℕ))
+    → slice ≡ specs → folders ≡ values (codes "folder ") text → copies ≡ copies_of slice text → children ≡ values (codes "child ") text
+    → record {
+        compiler = compiler; folders = folders; copies = copies; compiler_path = programs; library_path = libraries; children = children
+      } ≡ surroundings specs text compiler programs libraries
+surrounded specs slice text compiler folders copies children programs libraries same folders_are copies_are children_are =
+    ap (λ f. record {
+      compiler = compiler; folders = f; copies = copies; compiler_path = programs; library_path = libraries; children = children
+    }) folders_are
+    ∙ ap (λ c. record {
+      compiler = compiler; folders = values (codes "folder ") text; copies = c; compiler_path = programs; library_path = libraries;
+      children = children
+    }) (copies_are ∙ ap (λ s. copies_of s text) same)
+    ∙ ap (λ c. record {
+      compiler = compiler; folders = values (codes "folder ") text; copies = copies_of specs text; compiler_path = programs;
+      library_path = libraries; children = c
+    }) children_are
 
 -- For `decided_with`: if a spec file was found, then the decision by the file beside it, which names the compiler, is the decision.
 pub specs_given : {E : Type 0} (F : Facts) (own : Option (List ℕ)) (words : List (List ℕ)) (found : Option (List ℕ)) (specs slice : List ℕ)

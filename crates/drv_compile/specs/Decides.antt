@@ -27,10 +27,18 @@ decided_around F specs words around = line_read F specs around words >>= λ read
 abbrev pub copies_of : List ℕ → List ℕ → List (List ℕ)
 copies_of specs text = map (companion specs) (values (codes "copies ") text)
 
--- what a line is read in: the first compiler that the file names, all folders that it names, and the two variables with paths
-abbrev pub surroundings : List ℕ → List (List ℕ) → List (List ℕ) → Option (List ℕ) → Option (List ℕ) → Surroundings
-surroundings compiler folders copies programs libraries =
-    record { compiler = compiler; folders = folders; copies = copies; compiler_path = programs; library_path = libraries }
+-- what a line is read in: the first compiler that the file names, what it says of that, and the two variables with paths. A line `folder`
+-- has a folder of the compiler, and a line `child` what it gives its children
+abbrev pub surroundings : List ℕ → List ℕ → List ℕ → Option (List ℕ) → Option (List ℕ) → Surroundings
+surroundings specs text compiler programs libraries =
+    record {
+      compiler = compiler;
+      folders = values (codes "folder ") text;
+      copies = copies_of specs text;
+      compiler_path = programs;
+      library_path = libraries;
+      children = values (codes "child ") text;
+    }
 
 -- the first of several values, if there is any
 abbrev pub first_of : List (List ℕ) → Option (List ℕ)
@@ -42,7 +50,7 @@ abbrev pub decided_by : Facts → List ℕ → List (List ℕ) → List ℕ → 
 decided_by F specs words text None = Is (NoCompiler specs)
 decided_by F specs words text (Some compiler) =
     asked (variable_of F (codes "COMPILER_PATH")) >>= λ programs. asked (variable_of F (codes "LIBRARY_PATH")) >>= λ libraries.
-    decided_around F specs words (surroundings compiler (values (codes "folder ") text) (copies_of specs text) programs libraries)
+    decided_around F specs words (surroundings specs text compiler programs libraries)
 
 -- what a line asks for, by the text of that file, if it is whole
 abbrev pub decided_over : Facts → List ℕ → List (List ℕ) → Option (List ℕ) → Known Decision

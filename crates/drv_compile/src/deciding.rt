@@ -130,6 +130,7 @@ fn decided_by<S: System>(
     };
     let folders = values(alloc, b"folder ", text)?;
     let copies = copies_of(alloc, specs.as_bytes(), text)?;
+    let children = values(alloc, b"child ", text)?;
     let compiler_path = variable(alloc, b"COMPILER_PATH", outside)?;
     let library_path = variable(alloc, b"LIBRARY_PATH", outside)?;
     let around = Surroundings {
@@ -138,6 +139,7 @@ fn decided_by<S: System>(
         copies,
         compiler_path,
         library_path,
+        children,
     };
     decided_around(alloc, specs, words, around, outside)
 }
