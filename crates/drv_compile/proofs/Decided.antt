@@ -74,19 +74,37 @@ compiler_given F specs words text compiler around programs libraries (Ok decisio
 pub surrounded : (specs slice text compiler : List ℕ) (folders copies children : List (List ℕ)) (programs libraries : Option (List ℕ))
     → slice ≡ specs → folders ≡ values (codes "folder ") text → copies ≡ copies_of slice text → children ≡ values (codes "child ") text
     → record {
-        compiler = compiler; folders = folders; copies = copies; compiler_path = programs; library_path = libraries; children = children
-      } ≡ surroundings specs text compiler programs libraries
+      compiler = compiler;
+      folders = folders;
+      copies = copies;
+      compiler_path = programs;
+      library_path = libraries;
+      children = children;
+    } ≡ surroundings specs text compiler programs libraries
 surrounded specs slice text compiler folders copies children programs libraries same folders_are copies_are children_are =
     ap (λ f. record {
-      compiler = compiler; folders = f; copies = copies; compiler_path = programs; library_path = libraries; children = children
+      compiler = compiler;
+      folders = f;
+      copies = copies;
+      compiler_path = programs;
+      library_path = libraries;
+      children = children;
     }) folders_are
     ∙ ap (λ c. record {
-      compiler = compiler; folders = values (codes "folder ") text; copies = c; compiler_path = programs; library_path = libraries;
-      children = children
+      compiler = compiler;
+      folders = values (codes "folder ") text;
+      copies = c;
+      compiler_path = programs;
+      library_path = libraries;
+      children = children;
     }) (copies_are ∙ ap (λ s. copies_of s text) same)
     ∙ ap (λ c. record {
-      compiler = compiler; folders = values (codes "folder ") text; copies = copies_of specs text; compiler_path = programs;
-      library_path = libraries; children = c
+      compiler = compiler;
+      folders = values (codes "folder ") text;
+      copies = copies_of specs text;
+      compiler_path = programs;
+      library_path = libraries;
+      children = c;
     }) children_are
 
 -- For `decided_with`: if a spec file was found, then the decision by the file beside it, which names the compiler, is the decision.

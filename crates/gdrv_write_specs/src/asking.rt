@@ -70,7 +70,7 @@ fn said_of(output: Output) -> Said {
 fn run(rt: &HostRuntime, at: &Word, program: &Word, words: &[Word]) -> io::Result<Said> {
     let mut made = Command::new(rt.alloc(), text(program.as_bytes())?)?;
     prepare(&mut made, at, words)?;
-    Ok(said_of(output_of(rt, made)?))
+    Ok(said_of(output_of(rt, at, &mut made)?))
 }
 
 /// How many words of a question a message shows.
