@@ -71,18 +71,18 @@ same_in {x = x} is = ap (known_or x) is
 -- the faults of findings
 
 -- the faults of two lists of findings, one after the other
-faults_both : (first second : List Finding) → faults_of (first ++ second) ≡ faults_of first ++ faults_of second
+pub faults_both : (first second : List Finding) → faults_of (first ++ second) ≡ faults_of first ++ faults_of second
 faults_both [] second = refl
 faults_both (finding ∷ first) second =
     ap (λ fs. fault_of finding ++ fs) (faults_both first second)
     ∙ sym (append_assoc (fault_of finding) (faults_of first) (faults_of second))
 
 -- Findings without a fault change no list of faults: so warnings may be left out of the comparison.
-faults_with : (first second : List Finding) → faults_of second ≡ [] → faults_of (first ++ second) ≡ faults_of first
+pub faults_with : (first second : List Finding) → faults_of second ≡ [] → faults_of (first ++ second) ≡ faults_of first
 faults_with first second none = faults_both first second ∙ ap (λ fs. faults_of first ++ fs) none ∙ append-nil (faults_of first)
 
 -- The warnings of a piece hold no fault.
-no_faults : (file : OpenFile) (piece : Piece) (marks : List Mark) → faults_of (map (finding_of file piece) marks) ≡ []
+pub no_faults : (file : OpenFile) (piece : Piece) (marks : List Mark) → faults_of (map (finding_of file piece) marks) ≡ []
 no_faults file piece [] = refl
 no_faults file piece (mark ∷ marks) = no_faults file piece marks
 
@@ -128,8 +128,8 @@ joins before c c' (Is (Err fault)) next first second =
 module _ (c : Checking) (file : OpenFile) (piece : Piece) where
   -- What a piece is warned of adds no fault.
   warned_faults : faults_of (warned c file piece).findings ≡ faults_of c.findings
-  warned_faults = faults_with c.findings (map (finding_of file piece) (marks_of c.whose c.set piece.text))
-      (no_faults file piece (marks_of c.whose c.set piece.text))
+  warned_faults = faults_with c.findings (map (finding_of file piece) (new_marks file.again (marks_of c.whose c.set piece.text)))
+      (no_faults file piece (new_marks file.again (marks_of c.whose c.set piece.text)))
 
   -- What the check makes of a piece that includes no file, where this is what the driver makes of it.
   abbrev Alone : Enters → Result Set SpecsFault → Checking → Type 0
@@ -205,16 +205,6 @@ module _ (F : Facts) (prefixes : Prefixes) where
       → (opened F prefixes levels c from (record { may_miss = may; file = name }) >>= λ next. entered enters next.0 next.1) ≡ Is c'
       → Follows (faults_of c.findings) c' (including F prefixes levels (carried_of c) missing name)
 
-  -- from each state the check of an included file ends as the driver does
-  abbrev Opens : ℕ → Type 0
-  Opens levels = (c : Checking) → OpensFrom (enters_at F prefixes levels) levels c
-
-  -- the check of pieces ends as the driver does with the same directives, from each state c to c'
-  abbrev Checks : ℕ → Type 0
-  Checks levels = (c c' : Checking) (file : OpenFile) (pieces : List Piece) (directives : List Directive) → AreRead pieces directives
-      → pieces_checked F prefixes levels (enters_at F prefixes levels) c file pieces ≡ Is c'
-      → Follows (faults_of c.findings) c' (all_carried (including F prefixes levels) (carried_of c) directives)
-
   -- one piece ends as the driver does with its directive, where the files that it may include do
   pub one_as : (enters : Enters) (levels : ℕ) (c : Checking) → OpensFrom enters levels c
       → (c' : Checking) (file : OpenFile) (piece : Piece) (directive : Directive)
@@ -241,128 +231,6 @@ module _ (F : Facts) (prefixes : Prefixes) where
       (ap (λ i. stepped F prefixes levels c file piece i >>= λ next. entered enters next.0 next.1)
       (sym read.includes.1) ∙ is)
 
-  -- pieces one after another end as the driver does, where included files do: by induction on the pieces
-  checks_at : (levels : ℕ) → Opens levels → Checks levels
-  checks_at levels opens c c' file [] [] are is =
-      subst (λ x. Follows (faults_of c.findings) x (Is (Ok (carried_of c)))) (same_in is) (refl, refl)
-  checks_at levels opens c c' file [] (directive ∷ directives) are is = absurd are
-  checks_at levels opens c c' file (piece ∷ pieces) [] are is = absurd are
-  checks_at levels opens c c' file (piece ∷ pieces) (directive ∷ directives) are is =
-      by_step (λ c'' more. checks_at levels opens c'' c' file pieces directives are.1 more) (step F prefixes levels c file piece) refl is
-    where
-      -- Plan: `by_step` goes by whether the step of the piece is known, `by_entered` by whether the check of what it opens is, and `ends`
-      -- joins this piece's end with that of the pieces after it.
-      ends : ((d : Checking) → pieces_checked F prefixes levels (enters_at F prefixes levels) d file pieces ≡ Is c'
-          → Follows (faults_of d.findings) c' (all_carried (including F prefixes levels) (carried_of d) directives))
-          → (c'' : Checking) → One (enters_at F prefixes levels) levels c file piece c''
-          → pieces_checked F prefixes levels (enters_at F prefixes levels) c'' file pieces ≡ Is c'
-          → Follows (faults_of c.findings) c' (all_carried (including F prefixes levels) (carried_of c) (directive ∷ directives))
-      ends later c'' one more =
-          joins (faults_of c.findings) c'' c' (carried (including F prefixes levels) (carried_of c) directive)
-          (λ d. all_carried (including F prefixes levels) d directives)
-          (one_as (enters_at F prefixes levels) levels c (opens c) c'' file piece directive are.0 one)
-          (later c'' more)
-
-      by_entered : ((d : Checking) → pieces_checked F prefixes levels (enters_at F prefixes levels) d file pieces ≡ Is c'
-          → Follows (faults_of d.findings) c' (all_carried (including F prefixes levels) (carried_of d) directives))
-          → (next : Checking × Option OpenFile) → step F prefixes levels c file piece ≡ Is next → (known : Known Checking)
-          → entered (enters_at F prefixes levels) next.0 next.1 ≡ known
-          → (known >>= λ c''. pieces_checked F prefixes levels (enters_at F prefixes levels) c'' file pieces) ≡ Is c'
-          → Follows (faults_of c.findings) c' (all_carried (including F prefixes levels) (carried_of c) (directive ∷ directives))
-      by_entered later next steps Unasked enters more = absurd cc
-      by_entered later next steps (Is c'') enters more =
-          ends later c'' (ap (λ k. k >>= λ n. entered (enters_at F prefixes levels) n.0 n.1) steps ∙ enters) more
-
-      by_step : ((d : Checking) → pieces_checked F prefixes levels (enters_at F prefixes levels) d file pieces ≡ Is c'
-          → Follows (faults_of d.findings) c' (all_carried (including F prefixes levels) (carried_of d) directives))
-          → (known : Known (Checking × Option OpenFile)) → step F prefixes levels c file piece ≡ known
-          → (known >>= λ next. entered (enters_at F prefixes levels) next.0 next.1
-          >>= λ c''. pieces_checked F prefixes levels (enters_at F prefixes levels) c'' file pieces) ≡ Is c'
-          → Follows (faults_of c.findings) c' (all_carried (including F prefixes levels) (carried_of c) (directive ∷ directives))
-      by_step later Unasked steps more = absurd cc
-      by_step later (Is next) steps more = by_entered later next steps (entered (enters_at F prefixes levels) next.0 next.1) refl more
-
-  -- an included file
-
-  -- at the deepest level both refuse an included file
-  opens_none : Opens zero
-  unfolding including
-  opens_none c c' from may missing name alike is =
-      subst (λ x. Follows (faults_of c.findings) x (Is (Err IncludeTooDeep))) (same_in is) ([], noted_faults c from IncludeTooDeep)
-
-  -- the check of a file by the text that was read, or by the fault of reading it
-  abbrev opens_text : ℕ → ℕ → Checking → Option Spot → List ℕ → Result (List ℕ) SpecsFault → Known Checking
-  opens_text levels left c from path text =
-      Is (by_text (record c { files = left }) from path text) >>= λ next. entered (file_checked F prefixes levels) next.0 next.1
-
-  -- a file that was read is checked as the driver loads it, and one that wasn't is refused alike
-  by_result : (levels left : ℕ) → Checks levels → (c c' : Checking) (from : Option Spot) (path : List ℕ) (text : Result (List ℕ) SpecsFault)
-      → opens_text levels left c from path text ≡ Is c'
-      → Follows (faults_of c.findings) c'
-      (then_by (Is text) (λ t. all_carried (including F prefixes levels) (record { set = c.set; files = left }) (directives_of t)))
-  by_result levels left checks c c' from path (Err fault) is =
-      subst (λ x. Follows (faults_of c.findings) x (Is (Err fault))) (same_in is) ([], noted_faults (record c { files = left }) from fault)
-  by_result levels left checks c c' from path (Ok text) is =
-      let read = checked_read text in
-      subst (λ known. Follows (faults_of c.findings) c' known)
-      (carried_alike (including F prefixes levels) read.0 (directives_of text) (record { set = c.set; files = left }) read.2)
-      (checks (record c { files = left; sources = c.sources ++ record { name = path; text = text; from = from } ∷ [] }) c'
-      (open_file (length c.sources) text) (open_file (length c.sources) text).pieces read.0 read.1
-      (begins F prefixes levels (record c { files = left; sources = c.sources ++ record { name = path; text = text; from = from } ∷ [] })
-      (open_file (length c.sources) text) ∙ is))
-
-  module _ (levels left : ℕ) (checks : Checks levels) (c c' : Checking) (from : Option Spot) (may : Bool) (name : List ℕ) where
-    -- the path of an included file and its text, as the check finds them
-    abbrev texts : Known (List ℕ) → Known (List ℕ × Result (List ℕ) SpecsFault)
-    texts known = known >>= λ path. asked (read_of F path) >>= λ answer. Is (path, read_text may path answer)
-
-    -- the check of an included file, by what was found
-    abbrev goes : Known (List ℕ × Result (List ℕ) SpecsFault) → Known Checking
-    goes known =
-        (known >>= λ found. Is (by_text (record c { files = left }) from found.0 found.1))
-        >>= λ next. entered (file_checked F prefixes levels) next.0 next.1
-
-    -- whatever the answer for the path is, both go on alike
-    by_answer : (missing : _) → ((path : List ℕ) (answer : ReadAnswer) → text_read missing path answer ≡ read_text may path answer)
-        → (path : List ℕ) (answer : Option ReadAnswer) → goes (asked answer >>= λ a. Is (path, read_text may path a)) ≡ Is c'
-        → Follows (faults_of c.findings) c' (then_by (asked answer >>= λ a. Is (text_read missing path a))
-        (λ t. all_carried (including F prefixes levels) (record { set = c.set; files = left }) (directives_of t)))
-    by_answer missing alike path None is = absurd cc
-    by_answer missing alike path (Some answer) is =
-        subst (λ r. Follows (faults_of c.findings) c' (then_by (Is r)
-        (λ t. all_carried (including F prefixes levels) (record { set = c.set; files = left }) (directives_of t))))
-        (sym (alike path answer))
-        (by_result levels left checks c c' from path (read_text may path answer) is)
-
-    -- wherever the file is found, both go on alike
-    by_path : (missing : _) → ((path : List ℕ) (answer : ReadAnswer) → text_read missing path answer ≡ read_text may path answer)
-        → (known : Known (List ℕ)) → goes (texts known) ≡ Is c'
-        → Follows (faults_of c.findings) c' (then_by (known >>= λ path. asked (read_of F path) >>= λ a. Is (text_read missing path a))
-        (λ t. all_carried (including F prefixes levels) (record { set = c.set; files = left }) (directives_of t)))
-    by_path missing alike Unasked is = absurd cc
-    by_path missing alike (Is path) is = by_answer missing alike path (read_of F path) is
-
-  -- within the limit of files both read the file, and beyond it both refuse it
-  by_files : (levels : ℕ) → Checks levels → (n : ℕ) (c c' : Checking) (from : Option Spot) (may : Bool) (missing : _) (name : List ℕ)
-      → ((path : List ℕ) (answer : ReadAnswer) → text_read missing path answer ≡ read_text may path answer)
-      → (opened_of F prefixes n c from (record { may_miss = may; file = name })
-      >>= λ next. entered (file_checked F prefixes levels) next.0 next.1) ≡ Is c'
-      → Follows (faults_of c.findings) c' (file_carried F prefixes (including F prefixes levels) c.set n missing name)
-  by_files levels checks zero c c' from may missing name alike is =
-      subst (λ x. Follows (faults_of c.findings) x (Is (Err TooManyIncludes))) (same_in is) ([], noted_faults c from TooManyIncludes)
-  by_files levels checks (suc left) c c' from may missing name alike is =
-      by_path levels left checks c c' from may name missing alike (file_found F prefixes name) is
-
-  -- at each higher level an included file ends alike, where pieces at the level below do
-  opens_some : (levels : ℕ) → Checks levels → Opens (suc levels)
-  unfolding including
-  opens_some levels checks c c' from may missing name alike is = by_files levels checks c.files c c' from may missing name alike is
-
-  -- included files end alike at each level: by induction on the levels
-  all_open : (levels : ℕ) → Opens levels
-  all_open zero = opens_none
-  all_open (suc levels) = opens_some levels (checks_at levels (all_open levels))
-
   -- the files of the call
 
   -- a check of files ends as the driver's loading: with the same set and no new fault, or its refusal as the first new one
@@ -378,17 +246,8 @@ module _ (F : Facts) (prefixes : Prefixes) where
   loads_set before c (Is (Ok d)) follows = (follows.0, ap (λ x. x.set) follows.1)
   loads_set before c (Is (Err fault)) follows = follows
 
-  -- one file of the call ends as the driver's loading of it
-  one_loads : (c c' : Checking) (name : List ℕ) → called F prefixes c name ≡ Is c'
-      → Loads (faults_of c.findings) c' (file_loaded F prefixes c.set name)
-  unfolding file_loaded
-  one_loads c c' name is =
-      loads_set (faults_of c.findings) c' _
-      (all_open most_levels (record c { files = most_files }) c' None false refusing.0 name
-      (answers_alike refusing.0 false (λ path text. refl) (λ path. refl) (λ path. refl) (λ path. refl)) is)
-
   -- checks with the same faults and set end alike
-  loads_alike : (before : List SpecsFault) (c d : Checking) (known : Known (Result Set SpecsFault))
+  pub loads_alike : (before : List SpecsFault) (c d : Checking) (known : Known (Result Set SpecsFault))
       → faults_of d.findings ≡ faults_of c.findings
       → d.set ≡ c.set → Loads before c known → Loads before d known
   loads_alike before c d Unasked faults sets loads = loads
@@ -415,23 +274,8 @@ module _ (F : Facts) (prefixes : Prefixes) where
         later.1 ∙ ap (λ fs. fs ++ later.0) first.1 ∙ append_assoc before (fault ∷ first.0) later.0,
       )
 
-  -- all files of the call end so: by induction on their names
-  all_load : (c c' : Checking) (names : List (List ℕ)) → all_called F prefixes c names ≡ Is c'
-      → Loads (faults_of c.findings) c' (all_loaded F prefixes c.set names)
-  all_load c c' [] is = subst (λ x. Loads (faults_of c.findings) x (Is (Ok c.set))) (same_in is) (refl, refl)
-  all_load c c' (name ∷ names) is = by (λ d more. all_load d c' names more) (called F prefixes c name) refl is
-    where
-      -- Plan: `by` goes by whether the check of the file is known, and joins its end with that of the files after it.
-      by : ((d : Checking) → all_called F prefixes d names ≡ Is c' → Loads (faults_of d.findings) c' (all_loaded F prefixes d.set names))
-          → (known : Known Checking) → called F prefixes c name ≡ known → (known >>= λ c''. all_called F prefixes c'' names) ≡ Is c'
-          → Loads (faults_of c.findings) c' (all_loaded F prefixes c.set (name ∷ names))
-      by later Unasked calls more = absurd cc
-      by later (Is c'') calls more =
-          loads_join (faults_of c.findings) c'' c' (file_loaded F prefixes c.set name) (λ set. all_loaded F prefixes set names)
-          (one_loads c c'' name calls) (later c'' more)
-
   -- loading two lists of files is loading the one and then the other
-  loaded_both : (set : Set) (first second : List (List ℕ))
+  pub loaded_both : (set : Set) (first second : List (List ℕ))
       → all_loaded F prefixes set (first ++ second) ≡ then_by (all_loaded F prefixes set first) (λ next. all_loaded F prefixes next second)
   loaded_both set [] second = refl
   loaded_both set (name ∷ first) second = by (λ next. loaded_both next first second) (file_loaded F prefixes set name)
@@ -445,91 +289,9 @@ module _ (F : Facts) (prefixes : Prefixes) where
       by later (Is (Err fault)) = refl
       by later (Is (Ok next)) = later next
 
--- what isn't meant is no fault
-
--- leaving out warnings changes no fault
-faults_stay : (findings : List Finding) → faults_of (filter tells_fault findings) ≡ faults_of findings
-faults_stay [] = refl
-faults_stay (finding ∷ findings) = by finding.note refl (faults_stay findings)
-  where
-    -- Plan: `by` goes by the cases of `finding.note`.
-    by : (note : Note) → finding.note ≡ note → faults_of (filter tells_fault findings) ≡ faults_of findings
-        → faults_of (if is_fault note then finding ∷ filter tells_fault findings else filter tells_fault findings)
-        ≡ fault_in note ++ faults_of findings
-    by (Fault fault) is same = ap (λ n. fault_in n ++ faults_of (filter tells_fault findings)) is ∙ ap (λ fs. fault ∷ fs) same
-    by (Warned warning) is same = same
-
--- what only the whole shows of pieces is no fault
-pieces_well : (whose : Names) (set : Set) (worked : List (List ℕ)) (file : OpenFile) (pieces : List Piece)
-    → faults_of (pieces_judged whose set worked file pieces) ≡ []
-pieces_well whose set worked file [] = refl
-pieces_well whose set worked file (piece ∷ later) =
-    faults_with (map (finding_of file piece) (whole_marks whose set worked later piece.text)) (pieces_judged whose set worked file later)
-    (pieces_well whose set worked file later) ∙ no_faults file piece (whole_marks whose set worked later piece.text)
-
--- what only the whole shows of files is no fault
-sources_well : (whose : Names) (set : Set) (worked : List (List ℕ)) (n : ℕ) (sources : List Source)
-    → faults_of (sources_judged whose set worked n sources) ≡ []
-sources_well whose set worked n [] = refl
-sources_well whose set worked n (source ∷ sources) =
-    faults_with (file_judged whose set worked (open_file n source.text)) (sources_judged whose set worked (n + 1) sources)
-    (sources_well whose set worked (n + 1) sources)
-    ∙ pieces_well whose set worked (open_file n source.text) (open_file n source.text).pieces
-
--- judging the whole adds no fault to a check
-judged_well : (whose : Names) (first : ℕ) (c : Checking) → faults_of (judged whose first c).findings ≡ faults_of c.findings
-judged_well whose first c =
-    faults_with c.findings (sources_judged whose c.set (flat_map source_names c.sources) first (drop first c.sources))
-    (sources_well whose c.set (flat_map source_names c.sources) first (drop first c.sources))
-
 -- a check that loads as the driver does agrees with it: the end of the law's proof
 pub agrees : (F : Facts) (prefixes : Prefixes) (c : Checking) (known : Known (Result Set SpecsFault)) → Loads F prefixes [] c known
     → Agrees (faults_of c.findings) known
 agrees F prefixes c Unasked loads = loads
 agrees F prefixes c (Is (Ok set)) loads = loads.0
 agrees F prefixes c (Is (Err fault)) loads = loads
-
-module _ (F : Facts) (prefixes : Prefixes) (whose : Names) (over names : List (List ℕ)) (c : Checking) where
-  -- the faults of the files `over` are the driver's: leaving out their warnings changes none
-  base_faults : (base : Checking) → based F prefixes whose over ≡ Is base
-      → Loads F prefixes [] base (all_loaded F prefixes builtin_specs over)
-  base_faults base is = by (all_called F prefixes (empty_check whose) over) refl is
-    where
-      -- Plan: `by` goes by whether the check of the files is known.
-      by : (known : Known Checking) → all_called F prefixes (empty_check whose) over ≡ known
-          → (known >>= λ d. Is (faults_alone d)) ≡ Is base
-          → Loads F prefixes [] base (all_loaded F prefixes builtin_specs over)
-      by Unasked calls more = absurd cc
-      by (Is d) calls more =
-          subst (λ x. Loads F prefixes [] x (all_loaded F prefixes builtin_specs over)) (same_in more)
-          (loads_alike F prefixes [] d (faults_alone d) (all_loaded F prefixes builtin_specs over) (faults_stay d.findings) refl
-          (all_load F prefixes (empty_check whose) d over calls))
-
-  -- the faults of all files are the driver's, and judging the whole adds none
-  over_agrees : checked_over F prefixes whose over names ≡ Is c
-      → Agrees (faults_of c.findings) (all_loaded F prefixes builtin_specs (over ++ names))
-  over_agrees is = by_base (based F prefixes whose over) refl is
-    where
-      -- Plan: `by_base` goes by whether the check of the files `over` is known, and `by_rest` by whether that of all files is.
-      by_rest : (base : Checking) → based F prefixes whose over ≡ Is base → (known : Known Checking)
-          → all_called F prefixes base names ≡ known → (known >>= λ d. Is (judged whose (length base.sources) d)) ≡ Is c
-          → Agrees (faults_of c.findings) (all_loaded F prefixes builtin_specs (over ++ names))
-      by_rest base first Unasked rest more = absurd cc
-      by_rest base first (Is d) rest more =
-          subst (λ k. Agrees (faults_of c.findings) k) (sym (loaded_both F prefixes builtin_specs over names))
-          (subst (λ fs. Agrees fs (then_by (all_loaded F prefixes builtin_specs over) (λ next. all_loaded F prefixes next names)))
-          (sym (judged_well whose (length base.sources) d) ∙ ap (λ x. faults_of x.findings) (same_in more))
-          (agrees F prefixes d _ (loads_join F prefixes [] base d (all_loaded F prefixes builtin_specs over)
-          (λ next. all_loaded F prefixes next names) (base_faults base first) (all_load F prefixes base d names rest))))
-
-      by_base : (known : Known Checking) → based F prefixes whose over ≡ known
-          → (known >>= λ base. all_called F prefixes base names >>= λ d. Is (judged whose (length base.sources) d)) ≡ Is c
-          → Agrees (faults_of c.findings) (all_loaded F prefixes builtin_specs (over ++ names))
-      by_base Unasked first more = absurd cc
-      by_base (Is base) first more = by_rest base first (all_called F prefixes base names) refl more
-
-  -- the whole check agrees with the driver: this is what the law of the first fault needs
-  pub checked_agrees : prefixes_of F [] ≡ Is prefixes → checked F whose over names ≡ Is c
-      → Agrees (faults_of c.findings) (all_loaded F prefixes builtin_specs (over ++ names))
-  unfolding checked
-  checked_agrees known is = over_agrees (ap (λ k. k >>= λ p. checked_over F p whose over names) (sym known) ∙ is)

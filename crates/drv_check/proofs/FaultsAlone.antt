@@ -1,5 +1,5 @@
 use Rattle.drv_check.specs.Checked.{based, checked, checked_over, faults_alone, is_fault, tells_fault}
-use Rattle.drv_check.specs.Checks.{all_called, empty_check}
+use Rattle.drv_check.specs.Checks.{all_called, empty_check, is_full, most_faults}
 use Rattle.drv_check.specs.Whole.{judged}
 use Rattle.drv_check.specs.declared.findings.Checking.{Checking}
 use Rattle.drv_check.specs.declared.findings.Finding.{Finding}
@@ -49,19 +49,21 @@ warning_goes kept yielded finding is before =
 module _ (F : Facts) (prefixes : Prefixes) (over : List (List ℕ)) where
   -- The files that are loaded first are checked over nothing, and their faults alone are kept.
   pub base_checked : {E : Type 0} (whose : Names) (start loaded : Checking) (result : Result Checking E) → start ≡ empty_check whose
-      → all_called F prefixes start over ≡ Is loaded → IfOk result (λ kept. kept ≡ faults_alone loaded)
+      → all_called F prefixes (is_full most_faults) start over ≡ Is loaded → IfOk result (λ kept. kept ≡ faults_alone loaded)
       → IfOk result (λ kept. based F prefixes whose over ≡ Is kept)
   base_checked whose start loaded (Err e) starts loads keeps = keeps
   base_checked whose start loaded (Ok kept) starts loads keeps =
-      ap (λ s. all_called F prefixes s over >>= λ c. Is (faults_alone c)) (sym starts) ∙ ap (λ k. k >>= λ c. Is (faults_alone c)) loads
+      ap (λ s. all_called F prefixes (is_full most_faults) s over >>= λ c. Is (faults_alone c)) (sym starts)
+      ∙ ap (λ k. k >>= λ c. Is (faults_alone c)) loads
       ∙ ap Is (sym keeps)
 
   -- The files of the call are checked over these, and what shows in the whole of them is added.
   pub over_checked : (whose : Names) (names : List (List ℕ)) (base c whole : Checking) (first : ℕ) → based F prefixes whose over ≡ Is base
       → first ≡ length base.sources
-      → all_called F prefixes base names ≡ Is c → whole ≡ judged whose first c → checked_over F prefixes whose over names ≡ Is whole
+      → all_called F prefixes (is_full most_faults) base names ≡ Is c → whole ≡ judged whose first c
+      → checked_over F prefixes whose over names ≡ Is whole
   over_checked whose names base c whole first loads at goes judges =
-      ap (λ k. k >>= λ b. all_called F prefixes b names >>= λ d. Is (judged whose (length b.sources) d)) loads
+      ap (λ k. k >>= λ b. all_called F prefixes (is_full most_faults) b names >>= λ d. Is (judged whose (length b.sources) d)) loads
       ∙ ap (λ k. k >>= λ d. Is (judged whose (length base.sources) d)) goes
       ∙ ap (λ n. Is (judged whose n c)) (sym at) ∙ ap Is (sym judges)
 

@@ -2,7 +2,7 @@ use Rattle.drv_check.proofs.Agreeing.{change_alone, loaded_alone, same_in}
 use Rattle.drv_check.proofs.PiecesChecked.{begins, enters, name_done, piece_gone}
 use Rattle.drv_check.proofs.PiecesRead.{checked_read}
 use Rattle.drv_check.specs.Checks.{all_called, by_text, called, changed, entered, enters_at, faulty, file_checked, noted, opened, opened_of}
-use Rattle.drv_check.specs.Checks.{found_text, pieces_checked, put_aside, spot_in, step, stepped, warned}
+use Rattle.drv_check.specs.Checks.{found_text, never, pieces_checked, put_aside, spot_in, step, stepped, warned}
 use Rattle.drv_check.specs.Code.Seeking.{Goes, IsFile, Seeks, beside, sought, sought_by}
 use Rattle.drv_check.specs.FaultNotes.{unchecked_over}
 use Rattle.drv_check.specs.Includes.{inclusion_in}
@@ -204,19 +204,19 @@ module _ (F : Facts) (prefixes : Prefixes) where
 
   -- the pieces of a file that are left
   abbrev pub pieces_left : ℕ → OpenFile → ℕ → Checking → Known Checking
-  pieces_left levels file n c = pieces_checked F prefixes levels (enters_at F prefixes levels) c file (drop n file.pieces)
+  pieces_left levels file n c = pieces_checked F prefixes never levels (enters_at F prefixes never levels) c file (drop n file.pieces)
 
   -- Before the first piece all are left.
   pub none_sought : (levels : ℕ) (c : Checking) (file : OpenFile)
-      → Goes c c (λ x. file_checked F prefixes levels x file) (pieces_left levels file 0)
-  none_sought levels c file set findings = (set, findings, sym (begins F prefixes levels (beside c set findings) file))
+      → Goes c c (λ x. file_checked F prefixes never levels x file) (pieces_left levels file 0)
+  none_sought levels c file set findings = (set, findings, sym (begins F prefixes never levels (beside c set findings) file))
 
   -- If the whole is what the pieces left make of the check so far, then it still is after one piece more, with the file that it opens.
   pub piece_sought : (levels : ℕ) (before c new after : Checking) (file : OpenFile) (items : List Piece) (n : ℕ) (piece : Piece)
       (next : Option OpenFile) (whole : Checking → Known Checking)
       → IsFile file → items ≡ file.pieces → n < length items → piece ≡ get_or items n piece
       → sought F prefixes levels c file piece ≡ Is (new, next)
-      → (IfSome next IsFile → Seeks new after (λ x. entered (enters_at F prefixes levels) x next))
+      → (IfSome next IsFile → Seeks new after (λ x. entered (enters_at F prefixes never levels) x next))
       → Goes before c whole (pieces_left levels file n) → Goes before after whole (pieces_left levels file (n + 1))
   piece_sought levels before c new after file items n piece next whole is_file same below here is goes so_far set findings =
       let first = so_far set findings in
@@ -225,24 +225,25 @@ module _ (F : Facts) (prefixes : Prefixes) where
       let last = goes steps.3 steps.0 steps.1 in (
         last.0,
         last.1,
-        sym (piece_gone F prefixes levels (beside c first.0 first.1) file items n piece (beside new steps.0 steps.1)
-            (beside after last.0 last.1) next (whole (beside before set findings)) same below here steps.2 last.2 (sym first.2)),
+        sym (piece_gone F prefixes never levels (beside c first.0 first.1) file items n piece (beside new steps.0 steps.1)
+            (beside after last.0 last.1) next (whole (beside before set findings)) same below here refl steps.2 last.2 (sym first.2)),
       )
 
   -- A piece that opens no file leaves the check as it is.
   pub opens_no_file : (levels : ℕ) (new : Checking) (next : Option OpenFile) → next ≡ None
-      → IfSome next IsFile → Seeks new new (λ x. entered (enters_at F prefixes levels) x next)
+      → IfSome next IsFile → Seeks new new (λ x. entered (enters_at F prefixes never levels) x next)
   opens_no_file levels new next none is_file set findings =
-      (set, findings, ap (entered (enters_at F prefixes levels) (beside new set findings)) none)
+      (set, findings, ap (entered (enters_at F prefixes never levels) (beside new set findings)) none)
 
   -- A file that a piece opens is sought with one level less.
   pub opens_inner : (levels : ℕ) (new after : Checking) (next : Option OpenFile) (inner : OpenFile) → next ≡ Some inner
       → IfSome next (λ _. 0 < levels)
-      → (IsFile inner → Seeks new after (λ x. file_checked F prefixes (levels - 1) x inner))
-      → IfSome next IsFile → Seeks new after (λ x. entered (enters_at F prefixes levels) x next)
+      → (IsFile inner → Seeks new after (λ x. file_checked F prefixes never (levels - 1) x inner))
+      → IfSome next IsFile → Seeks new after (λ x. entered (enters_at F prefixes never levels) x next)
   opens_inner levels new after next inner some within seeks is_file set findings =
       let there = seeks (subst (λ o. IfSome o IsFile) some is_file) set findings in
-      (there.0, there.1, enters F prefixes levels (beside new set findings) (beside after there.0 there.1) next inner some within there.2)
+      (there.0, there.1, enters F prefixes never levels (beside new set findings) (beside after there.0 there.1) next inner some within
+      there.2)
 
   -- After the last piece none is left.
   pub all_sought : (levels : ℕ) (before c : Checking) (file : OpenFile) (items : List Piece) (n : ℕ) (whole : Checking → Known Checking)
@@ -251,7 +252,7 @@ module _ (F : Facts) (prefixes : Prefixes) where
       let last = so_far set findings in (
         last.0,
         last.1,
-        last.2 ∙ ap (pieces_checked F prefixes levels (enters_at F prefixes levels) (beside c last.0 last.1) file)
+        last.2 ∙ ap (pieces_checked F prefixes never levels (enters_at F prefixes never levels) (beside c last.0 last.1) file)
             (drop_all n file.pieces (subst (λ ps. length ps ≤ n) same past)),
       )
 
@@ -260,53 +261,54 @@ module _ (F : Facts) (prefixes : Prefixes) where
   -- A file of the line is opened alike, and what it opens too.
   called_sought : (c d after : Checking) (name : List ℕ) (next : Option OpenFile)
       → opened F prefixes most_levels (record c { files = most_files }) None (record { may_miss = false; file = name }) ≡ Is (d, next)
-      → (IfSome next IsFile → Seeks d after (λ x. entered (file_checked F prefixes 15) x next))
-      → Seeks c after (λ x. called F prefixes x name)
+      → (IfSome next IsFile → Seeks d after (λ x. entered (file_checked F prefixes never 15) x next))
+      → Seeks c after (λ x. called F prefixes never x name)
   called_sought c d after name next is goes set findings =
       let there = opens_beside (record c { files = most_files }) None (record { may_miss = false; file = name }) set findings most_levels d
       next is in
       let last = goes there.2 set there.0 in
-      (last.0, last.1, ap (λ k. k >>= λ t. entered (file_checked F prefixes 15) t.0 t.1) there.1 ∙ last.2)
+      (last.0, last.1, ap (λ k. k >>= λ t. entered (file_checked F prefixes never 15) t.0 t.1) there.1 ∙ last.2)
 
   -- For the exit of the code that goes on in that file.
   pub called_within : {E X : Type 0} (c d after : Checking) (name : List ℕ) (file : OpenFile) (result : Result X E)
       → opened F prefixes most_levels (record c { files = most_files }) None (record { may_miss = false; file = name })
       ≡ Is (d, Some file)
-      → (IsFile file → IfOk result (λ _. Seeks d after (λ x. file_checked F prefixes 15 x file)))
-      → IfOk result (λ _. Seeks c after (λ x. called F prefixes x name))
+      → (IsFile file → IfOk result (λ _. Seeks d after (λ x. file_checked F prefixes never 15 x file)))
+      → IfOk result (λ _. Seeks c after (λ x. called F prefixes never x name))
   called_within c d after name file (Err e) is goes = tt
   called_within c d after name file (Ok done) is goes = called_sought c d after name (Some file) is goes
 
   -- For its exit where the file isn't opened.
   pub called_without : (c d : Checking) (name : List ℕ)
       → opened F prefixes most_levels (record c { files = most_files }) None (record { may_miss = false; file = name }) ≡ Is (d, None)
-      → Seeks c d (λ x. called F prefixes x name)
+      → Seeks c d (λ x. called F prefixes never x name)
   called_without c d name is = called_sought c d d name None is (λ is_file set findings. (set, findings, refl))
 
   -- If the whole is what the names left make of the check so far, then it still is after one file more of the line.
   pub name_sought : (before c after : Checking) (names : List (List ℕ)) (n : ℕ) (name : List ℕ) (whole : Checking → Known Checking)
-      → n < length names → name ≡ get_or names n name → Seeks c after (λ x. called F prefixes x name)
-      → Goes before c whole (λ x. all_called F prefixes x (drop n names))
-      → Goes before after whole (λ x. all_called F prefixes x (drop (n + 1) names))
+      → n < length names → name ≡ get_or names n name → Seeks c after (λ x. called F prefixes never x name)
+      → Goes before c whole (λ x. all_called F prefixes never x (drop n names))
+      → Goes before after whole (λ x. all_called F prefixes never x (drop (n + 1) names))
   name_sought before c after names n name whole below here seeks so_far set findings =
       let first = so_far set findings in
       let last = seeks first.0 first.1 in (
         last.0,
         last.1,
-        sym (name_done F prefixes (beside c first.0 first.1) (beside after last.0 last.1) names n name (whole (beside before set findings))
-            below here last.2 (sym first.2)),
+        sym (name_done F prefixes never (beside c first.0 first.1) (beside after last.0 last.1) names n name (whole (beside before set
+        findings))
+            below here refl last.2 (sym first.2)),
       )
 
   -- After the last file none is left.
   pub names_sought : (before c : Checking) (names : List (List ℕ)) (n : ℕ) (whole : Checking → Known Checking) → length names ≤ n
-      → Goes before c whole (λ x. all_called F prefixes x (drop n names)) → Seeks before c whole
+      → Goes before c whole (λ x. all_called F prefixes never x (drop n names)) → Seeks before c whole
   names_sought before c names n whole past so_far set findings =
       let last = so_far set findings in
-      (last.0, last.1, last.2 ∙ ap (all_called F prefixes (beside c last.0 last.1)) (drop_all n names past))
+      (last.0, last.1, last.2 ∙ ap (all_called F prefixes never (beside c last.0 last.1)) (drop_all n names past))
 
   -- So the files that were opened are those of a check over the built-in set.
   pub sources_sought : (before c : Checking) (set : Set) (names : List (List ℕ)) → before ≡ unchecked_over set
-      → Seeks before c (λ x. all_called F prefixes x names) → sources_found F prefixes names ≡ Is c.sources
+      → Seeks before c (λ x. all_called F prefixes never x names) → sources_found F prefixes names ≡ Is c.sources
   sources_sought before c set names is seeks =
-      let there = subst (λ b. Seeks b c (λ x. all_called F prefixes x names)) is seeks builtin_specs [] in
+      let there = subst (λ b. Seeks b c (λ x. all_called F prefixes never x names)) is seeks builtin_specs [] in
       ap (λ k. k >>= λ x. Is x.sources) there.2

@@ -1,9 +1,11 @@
 mod Agreeing
+mod CheckAgrees
 mod Covering
 mod Cutting
 mod DumpsDiffer
 mod FaultNotes
 mod FaultsAlone
+mod FaultsCounted
 mod FilesOpened
 mod FilesSought
 mod IncludesRead
@@ -34,5 +36,4 @@ mod TokenMarks
 mod TreeBranches
 mod Unreached
 mod UntilBad
-mod UntilFault
 mod Unused

@@ -120,7 +120,7 @@ of_none sources loaded head text colon before is found =
     ∙ ap (λ c. before ++ headed_namings sources loaded (Some head) (own_text text) (tree_after c text)) (sym is ∙ found)
 
 -- whether a later piece hides the one at a place
-flag_there : (pieces : List Piece) (n : ℕ) (piece : Piece) → n < length pieces → piece ≡ get_or pieces n piece
+pub flag_there : (pieces : List Piece) (n : ℕ) (piece : Piece) → n < length pieces → piece ≡ get_or pieces n piece
     → get_or (flags_of pieces) n false ≡ is_hidden (key_in piece.text) (drop (n + 1) pieces)
 flag_there pieces n piece below here = at pieces n below (sym here)
   where

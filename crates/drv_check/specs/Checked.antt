@@ -1,4 +1,4 @@
-use Rattle.drv_check.specs.Checks.{all_called, empty_check}
+use Rattle.drv_check.specs.Checks.{all_called, empty_check, is_full, most_faults}
 use Rattle.drv_check.specs.Whole.{judged}
 use Rattle.drv_check.specs.declared.findings.Checking.{Checking}
 use Rattle.drv_check.specs.declared.findings.Finding.{Finding}
@@ -13,7 +13,7 @@ use Rattle.std.specs.Prelude.{Bool, List, [], false, filter, length, true, ℕ}
 
 -- Spec files checked (GCC manual, "Spec Files"): the files `names` over the built-in set as the files `over` change it, each over what the
 -- earlier ones made. Of the files `over` only the faults are given, and no warnings. A text that counts as run, by `whose`, needs no text
--- that names it.
+-- that names it. The check ends at `most_faults` faults.
 -- For clauses of src/checking.rt, and laws of src/laws.rt. gdrv_specs cites it too.
 
 -- whether a note is a fault, for which the driver refuses the file
@@ -31,12 +31,13 @@ faults_alone c = record c { findings = filter tells_fault c.findings }
 
 -- the check of the files `over`: their faults, and the set that they make
 abbrev pub based : Facts → Prefixes → Names → List (List ℕ) → Known Checking
-based F prefixes whose over = all_called F prefixes (empty_check whose) over >>= λ c. Is (faults_alone c)
+based F prefixes whose over = all_called F prefixes (is_full most_faults) (empty_check whose) over >>= λ c. Is (faults_alone c)
 
 -- the check of the files `names` over that set, with what only the whole shows
 abbrev pub checked_over : Facts → Prefixes → Names → List (List ℕ) → List (List ℕ) → Known Checking
 checked_over F prefixes whose over names =
-    based F prefixes whose over >>= λ base. all_called F prefixes base names >>= λ c. Is (judged whose (length base.sources) c)
+    based F prefixes whose over >>= λ base. all_called F prefixes (is_full most_faults) base names
+    >>= λ c. Is (judged whose (length base.sources) c)
 
 -- the check of files along the prefixes of a call without -B
 unfoldable pub checked : Facts → Names → List (List ℕ) → List (List ℕ) → Known Checking

@@ -1,3 +1,4 @@
+use Rattle.drv_check.specs.Agreement.{faults_of}
 use Rattle.drv_check.specs.Includes.{inclusion_in, read_text}
 use Rattle.drv_check.specs.Pieces.{checked_pieces}
 use Rattle.drv_check.specs.Points.{front_length, point}
@@ -6,6 +7,7 @@ use Rattle.drv_check.specs.declared.findings.Checking.{Checking}
 use Rattle.drv_check.specs.declared.findings.Finding.{Finding}
 use Rattle.drv_check.specs.declared.findings.Note.TheVariants.{Fault, Warned}
 use Rattle.drv_check.specs.declared.findings.Note.{Note}
+use Rattle.drv_check.specs.declared.findings.Source.{Source}
 use Rattle.drv_check.specs.declared.findings.Spot.{Spot}
 use Rattle.drv_check.specs.declared.including.Inclusion.{Inclusion}
 use Rattle.drv_check.specs.declared.opening.OpenFile.{OpenFile}
@@ -24,12 +26,16 @@ use Rattle.drv_specs.specs.declared.fault.SpecsFault.TheVariants.{BadLine, Inclu
 use Rattle.drv_specs.specs.declared.fault.SpecsFault.{SpecsFault}
 use Rattle.drv_system.specs.Facts.{Facts, read_of}
 use Rattle.drv_system.specs.Known.{◌>>=◌, Is, Known, Unasked, asked}
-use Rattle.std.specs.Prelude.{Err, List, [], ◌∷◌, ◌++◌, None, Ok, Option, Result, Some, drop, get_or, false, length, map, suc, zero, ℕ}
+use Rattle.std.specs.Cmp.Lexicographic.{pointwise}
+use Rattle.std.specs.List.{list_any}
+use Rattle.std.specs.Prelude.{Bool, Err, List, [], ◌∷◌, ◌++◌, None, Ok, Option, Result, Some, drop, get_or, false, if◌then◌else◌, length}
+use Rattle.std.specs.Prelude.{map}
+use Rattle.std.specs.Prelude.{nat_eq, nat_le, suc, zero, ℕ}
 
 -- All faults of spec files, and what is surely not meant (GCC manual, "Spec Files"; that a check goes on after a fault is this project's
 -- profile). The pieces of a file are loaded one after another, those of an included file in its place; a piece that is refused changes
 -- nothing. The limits of loading hold for the whole: how many files are read for each file of the call, and how deep they are within one
--- another.
+-- another. A check may end at a number of faults, as the options -fmax-errors of gcc and -ferror-limit of clang say.
 -- For clauses of src/stepping.rt, src/opening.rt, src/checking.rt and others.
 
 -- a check with one more finding
@@ -53,9 +59,14 @@ spot_in file piece at = spot_at file (get_or (drop piece.start file.places) at f
 abbrev pub finding_of : OpenFile → Piece → Mark → Finding
 finding_of file piece mark = record { spot = spot_in file piece mark.at; note = Warned mark.warning }
 
+-- the warnings that are told of a file: none where it was read before, as they were told then
+abbrev pub new_marks : Bool → List Mark → List Mark
+new_marks again marks = if again then [] else marks
+
 -- a check with the warnings on a piece, which are found before the piece is loaded
 abbrev pub warned : Checking → OpenFile → Piece → Checking
-warned c file piece = record c { findings = c.findings ++ map (finding_of file piece) (marks_of c.whose c.set piece.text) }
+warned c file piece =
+    record c { findings = c.findings ++ map (finding_of file piece) (new_marks file.again (marks_of c.whose c.set piece.text)) }
 
 -- the effect of a piece that is loaded as a text by itself
 abbrev pub faulty : Checking → OpenFile → Piece → SpecsFault → Checking
@@ -70,13 +81,20 @@ changed c file piece (Is (Err fault)) = Is (faulty c file piece fault)
 
 -- a file whose text was read: it is the next of the sources
 abbrev pub open_file : ℕ → List ℕ → OpenFile
-open_file number text = record { number = number; size = length text; places = places_of text; pieces = checked_pieces (settle text) }
+open_file number text =
+    record { number = number; again = false; size = length text; places = places_of text; pieces = checked_pieces (settle text) }
+
+-- whether one of these sources has a path
+abbrev pub was_read : List Source → List ℕ → Bool
+was_read sources path = list_any (λ source. pointwise nat_eq path source.name) sources
 
 -- a file that was read, as the next of the sources and open; or the fault of one that can't be read
 abbrev pub by_text : Checking → Option Spot → List ℕ → Result (List ℕ) SpecsFault → Checking × Option OpenFile
 by_text c from path (Err fault) = (noted c from (Fault fault), None)
-by_text c from path (Ok text) =
-    (record c { sources = c.sources ++ record { name = path; text = text; from = from } ∷ [] }, Some (open_file (length c.sources) text))
+by_text c from path (Ok text) = (
+  record c { sources = c.sources ++ record { name = path; text = text; from = from; again = was_read c.sources path } ∷ [] },
+  Some (record (open_file (length c.sources) text) { again = was_read c.sources path }),
+)
 
 -- the path of an included file, and its text
 abbrev pub found_text : Facts → Prefixes → Inclusion → Known (List ℕ × Result (List ℕ) SpecsFault)
@@ -109,6 +127,24 @@ stepped F prefixes levels c file piece (Some inclusion) =
 abbrev pub step : Facts → Prefixes → ℕ → Checking → OpenFile → Piece → Known (Checking × Option OpenFile)
 step F prefixes levels c file piece = stepped F prefixes levels c file piece (inclusion_in piece.text)
 
+-- Where a check ends: before each further piece and each further file of the call it may.
+
+-- whether a check ends here
+abbrev pub Limit : Type 0
+Limit = Checking → Bool
+
+-- it goes on to its end
+abbrev pub never : Limit
+never c = false
+
+-- it ends at so many faults
+abbrev pub is_full : ℕ → Limit
+is_full most c = nat_le most (length (faults_of c.findings))
+
+-- the faults at which the check of a call ends
+abbrev pub most_faults : ℕ
+most_faults = 100
+
 -- how an open file is checked
 abbrev pub Enters : Type 0
 Enters = Checking → OpenFile → Known Checking
@@ -119,32 +155,35 @@ entered enters c None = Is c
 entered enters c (Some file) = enters c file
 
 -- the pieces of a file one after another, each with the file that it opens in its place
-abbrev pub pieces_checked : Facts → Prefixes → ℕ → Enters → Checking → OpenFile → List Piece → Known Checking
-pieces_checked F prefixes levels enters c file [] = Is c
-pieces_checked F prefixes levels enters c file (piece ∷ pieces) =
-    step F prefixes levels c file piece >>= λ next. entered enters next.0 next.1
-    >>= λ c'. pieces_checked F prefixes levels enters c' file pieces
+abbrev pub pieces_checked : Facts → Prefixes → Limit → ℕ → Enters → Checking → OpenFile → List Piece → Known Checking
+pieces_checked F prefixes limit levels enters c file [] = Is c
+pieces_checked F prefixes limit levels enters c file (piece ∷ pieces) =
+    if limit c then Is c
+    else step F prefixes levels c file piece >>= λ next. entered enters next.0 next.1
+    >>= λ c'. pieces_checked F prefixes limit levels enters c' file pieces
 
 -- an open file, in which so many more may be within one another; where none may, no piece opens one
-unfoldable pub file_checked : Facts → Prefixes → ℕ → Enters
-file_checked F prefixes zero c file = pieces_checked F prefixes zero (λ c' inner. Is c') c file file.pieces
-file_checked F prefixes (suc levels) c file = pieces_checked F prefixes (suc levels) (file_checked F prefixes levels) c file file.pieces
+unfoldable pub file_checked : Facts → Prefixes → Limit → ℕ → Enters
+file_checked F prefixes limit zero c file = pieces_checked F prefixes limit zero (λ c' inner. Is c') c file file.pieces
+file_checked F prefixes limit (suc levels) c file =
+    pieces_checked F prefixes limit (suc levels) (file_checked F prefixes limit levels) c file file.pieces
 
 -- how a file is checked that is opened within one where so many more may be
-abbrev pub enters_at : Facts → Prefixes → ℕ → Enters
-enters_at F prefixes zero = λ c file. Is c
-enters_at F prefixes (suc levels) = file_checked F prefixes levels
+abbrev pub enters_at : Facts → Prefixes → Limit → ℕ → Enters
+enters_at F prefixes limit zero = λ c file. Is c
+enters_at F prefixes limit (suc levels) = file_checked F prefixes limit levels
 
 -- a file of the call, found as -specs= finds it
-abbrev pub called : Facts → Prefixes → Checking → List ℕ → Known Checking
-called F prefixes c name =
+abbrev pub called : Facts → Prefixes → Limit → Checking → List ℕ → Known Checking
+called F prefixes limit c name =
     opened F prefixes most_levels (record c { files = most_files }) None (record { may_miss = false; file = name })
-    >>= λ next. entered (file_checked F prefixes 15) next.0 next.1
+    >>= λ next. entered (file_checked F prefixes limit 15) next.0 next.1
 
 -- the files of a call one after another, each over the set that the earlier ones made
-abbrev pub all_called : Facts → Prefixes → Checking → List (List ℕ) → Known Checking
-all_called F prefixes c [] = Is c
-all_called F prefixes c (name ∷ names) = called F prefixes c name >>= λ c'. all_called F prefixes c' names
+abbrev pub all_called : Facts → Prefixes → Limit → Checking → List (List ℕ) → Known Checking
+all_called F prefixes limit c [] = Is c
+all_called F prefixes limit c (name ∷ names) =
+    if limit c then Is c else called F prefixes limit c name >>= λ c'. all_called F prefixes limit c' names
 
 -- a check of nothing yet: gcc's own texts, and no findings
 abbrev pub empty_check : Names → Checking

@@ -28,7 +28,6 @@ pub mod Spots
 pub mod SwitchNames
 pub mod TokenWarnings
 pub mod Told
-pub mod UntilFault
 pub mod UnusedTexts
 pub mod Warnings
 pub mod Whole

@@ -1,5 +1,5 @@
 use Rattle.drv_check.specs.declared.unused_text.Names.TheVariants.{Driver}
-use Rattle.drv_check.specs.Checks.{all_called, empty_check}
+use Rattle.drv_check.specs.Checks.{all_called, empty_check, never}
 use Rattle.drv_check.specs.HiddenPairs.{is_key}
 use Rattle.drv_check.specs.declared.findings.Source.{Source}
 use Rattle.drv_check.specs.declared.findings.Spot.{Spot}
@@ -23,7 +23,7 @@ use Rattle.std.specs.Prelude.{nat_eq, nat_lt, reverse, slice_get, true, ℕ}
 
 -- the files of a line and those that they include, found along prefixes, in the order in which they were opened
 abbrev pub sources_found : Facts → Prefixes → List (List ℕ) → Known (List Source)
-sources_found F prefixes names = all_called F prefixes (empty_check Driver) names >>= λ c. Is c.sources
+sources_found F prefixes names = all_called F prefixes never (empty_check Driver) names >>= λ c. Is c.sources
 
 -- the files of a line and those that they include, found along the line's folders and the usual ones
 abbrev pub sources_of : Facts → List (List ℕ) → List (List ℕ) → Known (List Source)

@@ -1,5 +1,6 @@
 use Rattle.drv_check.specs.Shown.{padding, shown}
 use Rattle.drv_check.specs.declared.told.Place.{Place}
+use Rattle.drv_check.specs.declared.told.Report.{Report}
 use Rattle.drv_check.specs.declared.told.Told.{Told}
 use Rattle.drv_forms.specs.PlanJson.{list_json, number_json, option_json, word_json}
 use Rattle.drv_words.specs.Bytes.{newline}
@@ -7,7 +8,7 @@ use Rattle.json.specs.Json.{Json, Members, member, no_members, object, string}
 use Rattle.json.specs.Layout.{pretty}
 use Rattle.json.specs.Tree.{json_tokens}
 use Rattle.std.specs.List.{flat_map}
-use Rattle.std.specs.Prelude.{Bool, List, [], ◌∷◌, ◌++◌, None, Option, Some, codes, decimal, if◌then◌else◌, ℕ}
+use Rattle.std.specs.Prelude.{◌==◌, Bool, List, [], ◌∷◌, ◌++◌, None, Option, Some, codes, decimal, if◌then◌else◌, ℕ}
 
 -- What a check prints of findings: text (GNU coding standards, "Formatting Error Messages"), or JSON (RFC 8259; the names of members are
 -- this project's profile).
@@ -41,9 +42,18 @@ told_text told =
     head_text told.place ++ codes ": " ++ kind_text told.is_error ++ codes ": " ++ told.message ++ codes "\n"
     ++ excerpt told.place told.before told.after ++ flat_map from_text told.from
 
--- all findings as text
-abbrev pub report_text : List Told → List ℕ
-report_text = flat_map told_text
+-- findings as text
+abbrev pub all_told_text : List Told → List ℕ
+all_told_text = flat_map told_text
+
+-- the line about what isn't shown: how many there are, or that the check ended before its end
+abbrev pub rest_text : Option ℕ → List ℕ
+rest_text None = codes "gdrv-specs: stopped at 100 errors\n"
+rest_text (Some more) = if more == 0 then [] else codes "gdrv-specs: " ++ decimal more ++ codes " more not shown\n"
+
+-- a report as text
+abbrev pub report_text : Report → List ℕ
+report_text report = all_told_text report.told ++ rest_text report.unshown
 
 -- a place as an object
 abbrev pub place_json : Place → Json
@@ -69,6 +79,11 @@ told_json told =
     object (member (codes "place") (option_json place_json told.place)
     (member (codes "kind") (kind_json told.is_error) (told_members told)))
 
--- one object for each finding, in an array, with a newline at its end
-abbrev pub report_json : List Told → List ℕ
-report_json all = pretty (json_tokens (list_json told_json all)) ++ newline ∷ []
+-- an array with an object for each finding, and how many more there are
+abbrev pub report_members : Report → Members
+report_members report = member (codes "findings") (list_json told_json report.told)
+    (member (codes "unshown") (option_json number_json report.unshown) no_members)
+
+-- a report as an object, with a newline at its end
+abbrev pub report_json : Report → List ℕ
+report_json report = pretty (json_tokens (object (report_members report))) ++ newline ∷ []

@@ -58,9 +58,9 @@ names_in items = names_from items 0 (tokens_of items)
 abbrev pub piece_names : Piece → List (List ℕ)
 piece_names piece = names_in (own_tree piece.text)
 
--- the names of texts that the pieces of a file work
+-- the names of texts that the pieces of a file work: those of a file that was read before are known
 abbrev pub source_names : Source → List (List ℕ)
-source_names source = flat_map piece_names (checked_pieces (settle source.text))
+source_names source = if source.again then [] else flat_map piece_names (checked_pieces (settle source.text))
 
 -- A piece that puts a text which is in the set, by the names that texts work.
 

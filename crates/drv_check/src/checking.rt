@@ -1,16 +1,18 @@
-//! All faults of spec files.
+//! All faults of spec files, up to a number of them.
 
 // In clauses: `Extends F G` says that G has every answer of F. `Asked` says that a call only asked,
 // and that the table has the answers.
-ghost use Rattle.drv_check.specs.Checked.{based, checked, checked_over, faults_alone, is_fault};
-ghost use Rattle.drv_check.specs.Checks.{all_called, called, file_checked};
+ghost use Rattle.drv_check.specs.Checked.{based, checked, checked_over, faults_alone};
+ghost use Rattle.drv_check.specs.Checks.{all_called, called, file_checked, is_full};
 ghost use Rattle.drv_system.specs.Asking.{Asks, Extends};
 ghost use Rattle.drv_system.specs.Code.Asked.{Asked};
 ghost use Rattle.drv_system.specs.Facts.{Facts};
 ghost use Rattle.drv_system.specs.Known.{Is};
 ghost use Rattle.std.specs.Prelude.{◌≡◌, IfOk};
 
-use crate::findings::{Checking, MOST_FILES, Note, empty_check};
+use crate::findings::{
+    Checking, Findings, MOST_FAULTS, MOST_FILES, empty_check, is_fault, is_full,
+};
 use crate::including::Inclusion;
 use crate::judging::judge;
 use crate::opening::{FilePiece, Nesting, OpenFile, Search, open};
@@ -18,15 +20,22 @@ use crate::stepping::step;
 use crate::unused_text::Names;
 use drv_search::Prefixes;
 use drv_system::{FactTable, Outside, System};
-use drv_words::{Listing, Word};
+use drv_words::Word;
 use std::alloc::{AllocError, Global};
 
 /// The most files that include one another.
 pub(crate) const MOST_LEVELS: usize = 16;
 
+/// How files are checked: how they are found, and up to how many faults.
+#[derive(Clone, Copy)]
+pub(crate) struct Check<'a> {
+    pub(crate) search: Search<'a>,
+    pub(crate) most: usize,
+}
+
 /// Checks an open file, within which `levels` more files may be nested.
 fn check_file<S: System>(
-    search: &Search<'_>,
+    check: &Check<'_>,
     checking: &mut Checking,
     levels: usize,
     file: &OpenFile,
@@ -34,16 +43,19 @@ fn check_file<S: System>(
 ) -> Result<(), AllocError>
     ensures asks { Asked S.events outside.old outside.new }
     ensures checks { (F : Facts) → Extends outside.new.facts.now F
-        → IfOk result (λ _. file_checked F search.now.prefixes.now levels checking.old file.now
-        ≡ Is checking.new) }
+        → IfOk result (λ _. file_checked F check.now.search.prefixes.now (is_full check.now.most)
+        levels checking.old file.now ≡ Is checking.new) }
 {
     for piece in file.pieces.as_slice() {
+        if is_full(checking, check.most) {
+            return Ok(());
+        }
         let here = FilePiece { file, piece };
-        let next = step(search, checking, levels, &here, outside)?;
+        let next = step(&check.search, checking, levels, &here, outside)?;
         let Some(inner) = next else {
             continue;
         };
-        check_file(search, checking, levels - 1, &inner, outside)?;
+        check_file(check, checking, levels - 1, &inner, outside)?;
     }
     Ok(())
 }
@@ -51,14 +63,15 @@ fn check_file<S: System>(
 /// Checks a file of the call.
 #[tactic(auto, using(drv_system::proofs::AskedCalls::asked_further))]
 fn check_called<S: System>(
-    search: &Search<'_>,
+    check: &Check<'_>,
     checking: &mut Checking,
     name: &Word,
     outside: &mut Outside<'_, S>,
 ) -> Result<(), AllocError>
     ensures asks { Asked S.events outside.old outside.new }
     ensures checks { (F : Facts) → Extends outside.new.facts.now F
-        → IfOk result (λ _. called F search.now.prefixes.now checking.old name.now ≡ Is checking.new) }
+        → IfOk result (λ _. called F check.now.search.prefixes.now (is_full check.now.most) checking.old
+        name.now ≡ Is checking.new) }
 {
     checking.files = MOST_FILES;
     let inclusion = Inclusion {
@@ -69,35 +82,32 @@ fn check_called<S: System>(
         from: None,
         levels: MOST_LEVELS,
     };
-    match open(search, checking, nesting, &inclusion, outside)? {
-        Some(file) => check_file(search, checking, MOST_LEVELS - 1, &file, outside),
+    match open(&check.search, checking, nesting, &inclusion, outside)? {
+        Some(file) => check_file(check, checking, MOST_LEVELS - 1, &file, outside),
         None => Ok(()),
     }
 }
 
-/// Checks the files of the call.
+/// Checks the files of the call. After the last fault nothing more is asked.
 #[tactic(auto, using(drv_system::proofs::AskedCalls::asked_further))]
 pub(crate) fn check_all<S: System>(
-    search: &Search<'_>,
+    check: &Check<'_>,
     checking: &mut Checking,
     names: &[Word],
     outside: &mut Outside<'_, S>,
 ) -> Result<(), AllocError>
     ensures asks { Asked S.events outside.old outside.new }
     ensures checks { (F : Facts) → Extends outside.new.facts.now F
-        → IfOk result (λ _. all_called F search.now.prefixes.now checking.old names.now ≡ Is checking.new) }
+        → IfOk result (λ _. all_called F check.now.search.prefixes.now (is_full check.now.most) checking.old
+        names.now ≡ Is checking.new) }
 {
     for name in names {
-        check_called(search, checking, name, outside)?;
+        if is_full(checking, check.most) {
+            return Ok(());
+        }
+        check_called(check, checking, name, outside)?;
     }
     Ok(())
-}
-
-/// Whether it is a fault.
-pub(crate) fn is_fault(note: &Note) -> bool
-    ensures { result ≡ is_fault note.now }
-{
-    matches!(note, Note::Fault(_))
 }
 
 /// Takes what is surely not meant out of what was found.
@@ -105,7 +115,7 @@ pub(crate) fn is_fault(note: &Note) -> bool
 fn faults_alone(alloc: Global, checking: Checking) -> Result<Checking, AllocError>
     ensures { IfOk result (λ kept. kept ≡ faults_alone checking) }
 {
-    let mut findings = Listing::new(alloc);
+    let mut findings = Findings::new(alloc);
     for finding in checking.findings.into_vec() {
         if is_fault(&finding.note) {
             findings.push(finding)?;
@@ -132,8 +142,12 @@ fn check_base<S: System>(
     ensures checks { (F : Facts) → Extends outside.new.facts.now F
         → IfOk result (λ checking. based F search.now.prefixes.now whose over.now ≡ Is checking) }
 {
+    let check = Check {
+        search: *search,
+        most: MOST_FAULTS,
+    };
     let mut checking = empty_check(search.alloc, whose)?;
-    check_all(search, &mut checking, over, outside)?;
+    check_all(&check, &mut checking, over, outside)?;
     faults_alone(search.alloc, checking)
 }
 
@@ -152,18 +166,22 @@ pub struct FileCheck<'a> {
 #[tactic(auto, using(drv_system::proofs::AskedCalls::asked_further))]
 fn check_over<S: System>(
     search: &Search<'_>,
-    check: &FileCheck<'_>,
+    files: &FileCheck<'_>,
     outside: &mut Outside<'_, S>,
 ) -> Result<Checking, AllocError>
     ensures asks { Asked S.events outside.old outside.new }
     ensures checks { (F : Facts) → Extends outside.new.facts.now F
         → IfOk result (λ checking. checked_over F search.now.prefixes.now
-        check.now.whose check.now.over.now check.now.names.now ≡ Is checking) }
+        files.now.whose files.now.over.now files.now.names.now ≡ Is checking) }
 {
-    let mut checking = check_base(search, check.whose, check.over, outside)?;
+    let mut checking = check_base(search, files.whose, files.over, outside)?;
     let first = checking.sources.len();
-    check_all(search, &mut checking, check.names, outside)?;
-    judge(search.alloc, check.whose, &mut checking, first)?;
+    let check = Check {
+        search: *search,
+        most: MOST_FAULTS,
+    };
+    check_all(&check, &mut checking, files.names, outside)?;
+    judge(search.alloc, files.whose, &mut checking, first)?;
     Ok(checking)
 }
 
@@ -171,8 +189,8 @@ fn check_over<S: System>(
 /// included file in its place (GCC manual, "Spec Files"); then what shows only in the whole of them.
 /// Each file is loaded over the built-in set and what the earlier ones made of it, and found as
 /// `-specs=` finds it; `over` are loaded first, and of them only the faults are given. A directive
-/// that is refused changes nothing, and the check goes on. A text that counts as run needs no text
-/// that names it. It asks the system only where the table has no answer.
+/// that is refused changes nothing, and the check goes on up to `MOST_FAULTS` faults. A text that
+/// counts as run needs no text that names it. It asks the system only where the table has no answer.
 ///
 /// # Errors
 /// Lack of memory; nothing else is refused.

@@ -11,11 +11,10 @@ ghost use Rattle.drv_system.specs.Known.{Is};
 ghost use Rattle.std.specs.Option.{option_map};
 ghost use Rattle.std.specs.Prelude.{◌≡◌, IfOk, Some};
 
-use crate::checking::is_fault;
-use crate::findings::{Checking, Finding, MOST_FILES, Source, Spot};
+use crate::checking::{Check, check_all};
+use crate::findings::{Checking, Finding, Findings, MOST_FILES, Source, Spot, is_fault};
 use crate::opening::Search;
 use crate::spots::place_in;
-use crate::stopping::check_until;
 use crate::told::push_place;
 use crate::unused_text::Names;
 use drv_search::Prefixes;
@@ -33,7 +32,7 @@ pub(crate) fn unchecked_over(alloc: Global, set: SpecSet) -> Checking
         set,
         files: MOST_FILES,
         sources: Listing::new(alloc),
-        findings: Listing::new(alloc),
+        findings: Findings::new(alloc),
     }
 }
 
@@ -95,7 +94,11 @@ fn note_along<S: System>(
         → IfOk result (λ note. noted_along F search.now.prefixes.now set names.now ≡ Is note) }
 {
     let mut checking = unchecked_over(search.alloc, set);
-    check_until(search, &mut checking, names, outside)?;
+    let check = Check {
+        search: *search,
+        most: 1,
+    };
+    check_all(&check, &mut checking, names, outside)?;
     note_of(search.alloc, &checking)
 }
 

@@ -1,12 +1,15 @@
 //! What a check finds, and in which files.
 
-ghost use Rattle.drv_check.specs.Checks.{empty_check, noted};
-ghost use Rattle.std.specs.Prelude.{◌≡◌, IfOk, OnOk};
+ghost use Rattle.drv_check.specs.Agreement.{faults_of};
+ghost use Rattle.drv_check.specs.Checked.{is_fault};
+ghost use Rattle.drv_check.specs.Checks.{empty_check, is_full, noted, was_read};
+ghost use Rattle.std.specs.Prelude.{◌≡◌, ◌∷◌, ◌++◌, [], IfOk, OnOk, length};
 
 use crate::unused_text::Names;
 use drv_specs::{SpecSet, SpecsFault, builtin};
 use drv_words::{Listing, Word};
 use std::alloc::{AllocError, Global};
+use std::marker::Model;
 
 /// A byte of a source.
 #[derive(Clone, Copy, Debug)]
@@ -26,6 +29,15 @@ pub struct Source {
     pub text: Word,
     /// What includes it; nothing where the call names it.
     pub from: Option<Spot>,
+    /// Whether it was read before, by another directive or name.
+    pub again: bool,
+}
+
+/// Whether one of these sources has a path.
+pub(crate) fn was_read(sources: &[Source], path: &[u8]) -> bool
+    ensures { result ≡ was_read sources.now path.now }
+{
+    sources.iter().any(|source| path == source.name.as_bytes())
 }
 
 /// What is legal and surely not meant.
@@ -85,6 +97,82 @@ pub struct Finding {
     pub note: Note,
 }
 
+/// Whether it is a fault.
+pub fn is_fault(note: &Note) -> bool
+    ensures { result ≡ is_fault note.now }
+{
+    matches!(note, Note::Fault(_))
+}
+
+/// What was found, in its order, and how many faults it has. Contracts see what was found.
+#[derive(Drop)]
+pub struct Findings {
+    all: Listing<Finding>,
+    faults: usize,
+}
+
+impl Model for Findings {
+    ghost use Rattle.drv_check.specs.Agreement.{faults_of};
+    ghost use Rattle.drv_check.specs.declared.findings.Finding.{Finding};
+    ghost use Rattle.std.specs.Prelude.{◌≡◌, List, length};
+
+    ghost Value = { List Finding };
+
+    ghost view = { λ f. f.all };
+
+    ghost invariant = { λ f. f.faults ≡ length (faults_of f.all) };
+}
+
+impl Findings {
+    /// Nothing yet.
+    pub(crate) fn new(alloc: Global) -> Findings
+        ensures { result ≡ [] }
+    {
+        Findings {
+            all: Listing::new(alloc),
+            faults: 0,
+        }
+    }
+
+    /// Adds one thing that was found.
+    #[tactic(auto, using(crate::proofs::FaultsCounted::fault_counted, crate::proofs::FaultsCounted::warning_counted))]
+    pub(crate) fn push(&mut self, finding: Finding) -> Result<(), AllocError>
+        ensures { OnOk result (self.new ≡ self.old ++ finding ∷ []) }
+    {
+        if !is_fault(&finding.note) {
+            self.all.push(finding)?;
+            return Ok(());
+        }
+        let Some(faults) = self.faults.checked_add(1) else {
+            return Err(AllocError);
+        };
+        self.all.push(finding)?;
+        self.faults = faults;
+        Ok(())
+    }
+
+    /// What was found.
+    pub fn as_slice(&self) -> &[Finding]
+        ensures { result.now ≡ self.now }
+    {
+        self.all.as_slice()
+    }
+
+    /// What was found, by itself.
+    pub fn into_vec(self) -> Vec<Finding>
+        ensures { result.items ≡ self }
+    {
+        self.all.into_vec()
+    }
+
+    /// The number of faults.
+    fn faults(&self) -> usize
+        ensures { result ≡ length (faults_of self.now) }
+    {
+        self.faults
+    }
+}
+
 /// A check as far as it has come.
 #[derive(Drop)]
 pub struct Checking {
@@ -97,11 +185,22 @@ pub struct Checking {
     /// The files that were read.
     pub sources: Listing<Source>,
     /// What was found.
-    pub findings: Listing<Finding>,
+    pub findings: Findings,
 }
 
 /// How many files may be read for each file of the call.
 pub(crate) const MOST_FILES: usize = 2000;
+
+/// The faults at which the check of a call ends (the options -fmax-errors of gcc, -ferror-limit of
+/// clang).
+pub const MOST_FAULTS: usize = 100;
+
+/// Whether a check ends at so many faults.
+pub fn is_full(checking: &Checking, most: usize) -> bool
+    ensures { result ≡ is_full most checking.now }
+{
+    most <= checking.findings.faults()
+}
 
 /// A check of nothing yet, over the built-in set.
 pub(crate) fn empty_check(alloc: Global, whose: Names) -> Result<Checking, AllocError>
@@ -112,7 +211,7 @@ pub(crate) fn empty_check(alloc: Global, whose: Names) -> Result<Checking, Alloc
         set: builtin(alloc)?,
         files: MOST_FILES,
         sources: Listing::new(alloc),
-        findings: Listing::new(alloc),
+        findings: Findings::new(alloc),
     })
 }
 

@@ -3,6 +3,7 @@
 ghost use Rattle.drv_check.specs.Agreement.{Agrees, all_loaded, faults_of};
 ghost use Rattle.drv_check.specs.Branches.{covers, names_all};
 ghost use Rattle.drv_check.specs.Checked.{checked};
+ghost use Rattle.drv_check.specs.Checks.{all_called, is_full};
 ghost use Rattle.drv_check.specs.Coverage.{is_true, pattern_of};
 ghost use Rattle.drv_check.specs.Differing.{pairs_of, texts_difference};
 ghost use Rattle.drv_check.specs.FaultNotes.{IsFirst, first_fault, unchecked_over};
@@ -11,7 +12,6 @@ ghost use Rattle.drv_check.specs.MarkWords.{Marked, marked_text};
 ghost use Rattle.drv_check.specs.Numbers.{AreRead};
 ghost use Rattle.drv_check.specs.Origins.{byte_at, spot_at, text_spots};
 ghost use Rattle.drv_check.specs.Pieces.{pieces_of};
-ghost use Rattle.drv_check.specs.UntilFault.{all_until};
 ghost use Rattle.drv_check.specs.declared.findings.Checking.{Checking};
 ghost use Rattle.drv_check.specs.declared.findings.Source.{Source};
 ghost use Rattle.drv_check.specs.declared.findings.Spot.{Spot};
@@ -41,7 +41,7 @@ pub fn pieces_are_directives()
 /// The law that a check finds no fault exactly where the driver loads the files, those that are
 /// loaded first among them, and that its first fault is the driver's refusal. It takes and gives
 /// nothing.
-#[tactic(auto, using(crate::proofs::Agreeing::checked_agrees))]
+#[tactic(auto, using(crate::proofs::CheckAgrees::checked_agrees))]
 pub fn first_fault_is_refusal()
     ensures { (F : Facts) (prefixes : Prefixes) (whose : Names) (over names : List (List ℕ))
         (c : Checking)
@@ -54,7 +54,7 @@ pub fn first_fault_is_refusal()
 #[tactic(auto, using(crate::proofs::FaultNotes::noted_first))]
 pub fn noted_fault_is_refusal()
     ensures { (F : Facts) (prefixes : Prefixes) (set : Set) (names : List (List ℕ)) (c : Checking)
-        → all_until F prefixes (unchecked_over set) names ≡ Is c
+        → all_called F prefixes (is_full 1) (unchecked_over set) names ≡ Is c
         → IsFirst (first_fault c.findings) (all_loaded F prefixes set names) }
 {}
 

@@ -17,7 +17,9 @@ mod pointing;
 mod seeking;
 mod spots;
 
-pub use findings::{Checking, Finding, Note, Source, Spot, Warning};
+pub use findings::{
+    Checking, Finding, Findings, MOST_FAULTS, Note, Source, Spot, Warning, is_fault, is_full,
+};
 pub use loading_order::LoadedFiles;
 pub use pieces::{Piece, pieces_of};
 pub use seeking::sources_of;
@@ -32,7 +34,6 @@ mod judging;
 mod lost_marks;
 mod never_true;
 mod stepping;
-mod stopping;
 mod token_warning;
 mod unused_text;
 mod warning;
@@ -42,10 +43,12 @@ pub use fault_notes::{SpecFiles, fault_note};
 pub use unused_text::Names;
 
 // What is printed of that.
+mod escaping;
 mod told;
 mod told_json;
 
-pub use told::{Place, Told, report_text};
+pub use escaping::visible;
+pub use told::{Place, Report, Told, push_back, push_front, report_text};
 pub use told_json::report_json;
 
 // The texts of a set: which of them a plan can use, what in them names switches, and marks before their parts.

@@ -10,7 +10,7 @@ ghost use Rattle.drv_system.specs.Facts.{Facts};
 ghost use Rattle.drv_system.specs.Known.{Is};
 ghost use Rattle.std.specs.Prelude.{◌≡◌, ◌<◌, IfOk, IfSome};
 
-use crate::findings::{Checking, Note, Source, Spot, add_note};
+use crate::findings::{Checking, Note, Source, Spot, add_note, was_read};
 use crate::including::Inclusion;
 use crate::pieces::{Piece, checked_pieces};
 use drv_place::{Places, settle};
@@ -48,6 +48,8 @@ pub(crate) struct FilePiece<'a> {
 pub(crate) struct OpenFile {
     /// Its place among the sources.
     pub(crate) number: usize,
+    /// Whether it was read before, so that its warnings are told.
+    pub(crate) again: bool,
     /// The size of its text.
     pub(crate) size: usize,
     /// Where each byte is in that text that is left of it.
@@ -64,6 +66,7 @@ pub(crate) fn open_file(alloc: Global, number: usize, text: &[u8]) -> Result<Ope
     let pieces = checked_pieces(alloc, settled.text.as_bytes())?;
     Ok(OpenFile {
         number,
+        again: false,
         size: text.len(),
         places: settled.places,
         pieces,
@@ -122,11 +125,14 @@ fn take_text(
 {
     match text {
         Ok(text) => {
-            let file = open_file(alloc, checking.sources.len(), text.as_bytes())?;
+            let again = was_read(checking.sources.as_slice(), path.as_bytes());
+            let mut file = open_file(alloc, checking.sources.len(), text.as_bytes())?;
+            file.again = again;
             checking.sources.push(Source {
                 name: path,
                 text,
                 from,
+                again,
             })?;
             Ok(Some(file))
         }

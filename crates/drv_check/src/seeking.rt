@@ -2,7 +2,7 @@
 
 // In clauses: `Extends F G` says that G has every answer of F. `Asked` says that a call only asked,
 // and that the table has the answers.
-ghost use Rattle.drv_check.specs.Checks.{all_called, called, file_checked};
+ghost use Rattle.drv_check.specs.Checks.{all_called, called, file_checked, never};
 ghost use Rattle.drv_check.specs.Code.Seeking.{IsFile, Seeks, sought};
 ghost use Rattle.drv_check.specs.Origins.{sources_found, sources_of};
 ghost use Rattle.drv_system.specs.Asking.{Asks, Extends};
@@ -63,7 +63,7 @@ fn seek_file<S: System>(
     ensures asks { Asked S.events outside.old outside.new }
     ensures seeks { (F : Facts) → Extends outside.new.facts.now F → IsFile file.now
         → IfOk result (λ _. Seeks checking.old checking.new
-        (λ c. file_checked F search.now.prefixes.now levels c file.now)) }
+        (λ c. file_checked F search.now.prefixes.now never levels c file.now)) }
 {
     for piece in file.pieces.as_slice() {
         let here = FilePiece { file, piece };
@@ -87,7 +87,7 @@ fn seek_called<S: System>(
     ensures asks { Asked S.events outside.old outside.new }
     ensures seeks { (F : Facts) → Extends outside.new.facts.now F
         → IfOk result (λ _. Seeks checking.old checking.new
-        (λ c. called F search.now.prefixes.now c name.now)) }
+        (λ c. called F search.now.prefixes.now never c name.now)) }
 {
     checking.files = MOST_FILES;
     let inclusion = Inclusion {
@@ -115,7 +115,7 @@ fn seek_all<S: System>(
     ensures asks { Asked S.events outside.old outside.new }
     ensures seeks { (F : Facts) → Extends outside.new.facts.now F
         → IfOk result (λ _. Seeks checking.old checking.new
-        (λ c. all_called F search.now.prefixes.now c names.now)) }
+        (λ c. all_called F search.now.prefixes.now never c names.now)) }
 {
     for name in names {
         seek_called(search, checking, name, outside)?;

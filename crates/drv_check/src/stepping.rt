@@ -2,8 +2,10 @@
 
 // In clauses: `Extends F G` says that G has every answer of F. `Asked` says that a call only asked,
 // and that the table has the answers.
-ghost use Rattle.drv_check.specs.Checks.{changed, faulty, finding_of, spot_in, step, warned};
+ghost use Rattle.drv_check.specs.Checks.{changed, faulty, finding_of, new_marks, spot_in, step};
+ghost use Rattle.drv_check.specs.Checks.{warned};
 ghost use Rattle.drv_check.specs.Checks.{with_number};
+ghost use Rattle.drv_check.specs.Warnings.{marks_of};
 ghost use Rattle.drv_specs.specs.Loading.{loaded};
 ghost use Rattle.drv_system.specs.Asking.{Extends};
 ghost use Rattle.drv_system.specs.Code.Asked.{Asked};
@@ -12,7 +14,7 @@ ghost use Rattle.drv_system.specs.Known.{Is};
 ghost use Rattle.std.specs.Prelude.{◌≡◌, ◌<◌, ◌++◌, IfOk, IfSome, OnOk, map, Some};
 
 use crate::bytes::blanks_before;
-use crate::findings::{Checking, Finding, Note, Spot, add_note};
+use crate::findings::{Checking, Finding, Findings, Note, Spot, add_note};
 use crate::including::inclusion_in;
 use crate::opening::{FilePiece, Nesting, OpenFile, Search, open};
 use crate::pieces::Piece;
@@ -21,7 +23,6 @@ use crate::warning::{Mark, marks_of};
 use drv_search::Prefixes;
 use drv_specs::SpecsFault;
 use drv_system::{Outside, System};
-use drv_words::Listing;
 use std::alloc::{AllocError, Global};
 
 /// A fault with this number, if it is of a line.
@@ -75,7 +76,7 @@ fn note_fault(
 
 /// Adds the warnings of a piece.
 pub(crate) fn push_warnings(
-    findings: &mut Listing<Finding>,
+    findings: &mut Findings,
     file: &OpenFile,
     piece: &Piece,
     marks: &[Mark],
@@ -92,6 +93,22 @@ pub(crate) fn push_warnings(
     Ok(())
 }
 
+/// What is told of a piece that is surely not meant.
+fn new_marks(
+    alloc: Global,
+    checking: &Checking,
+    file: &OpenFile,
+    piece: &Piece,
+) -> Result<Vec<Mark>, AllocError>
+    ensures { IfOk result (λ marks. marks.items
+        ≡ new_marks file.now.again (marks_of checking.now.whose checking.now.set piece.now.text)) }
+{
+    if file.again {
+        return Ok(Vec::new(alloc));
+    }
+    marks_of(alloc, checking.whose, &checking.set, piece.text.as_bytes())
+}
+
 /// Adds what is surely not meant in a piece.
 fn warn(
     alloc: Global,
@@ -101,7 +118,7 @@ fn warn(
 ) -> Result<(), AllocError>
     ensures { OnOk result (checking.new ≡ warned checking.old file.now piece.now) }
 {
-    let marks = marks_of(alloc, checking.whose, &checking.set, piece.text.as_bytes())?;
+    let marks = new_marks(alloc, checking, file, piece)?;
     push_warnings(&mut checking.findings, file, piece, marks.as_slice())
 }
 

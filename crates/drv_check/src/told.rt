@@ -1,11 +1,14 @@
 //! What a check prints of findings, as text.
 
-ghost use Rattle.drv_check.specs.Shown.{is_continuing, pad_byte, padding, shown, takes_no_column};
-ghost use Rattle.drv_check.specs.Told.{excerpt, from_text, head_text, kind_text, place_text, report_text};
-ghost use Rattle.drv_check.specs.Told.{told_text};
+ghost use Rattle.drv_check.specs.Shown.{is_continuing, line_back, line_front, pad, pad_byte};
+ghost use Rattle.drv_check.specs.Shown.{padding, shown, takes_no_column};
+ghost use Rattle.drv_check.specs.Told.{all_told_text, excerpt, from_text, head_text, kind_text};
+ghost use Rattle.drv_check.specs.Told.{place_text, report_text};
+ghost use Rattle.drv_check.specs.Told.{rest_text, told_text};
 ghost use Rattle.std.specs.List.{flat_map};
-ghost use Rattle.std.specs.Prelude.{◌≡◌, ◌++◌, IfOk, OnOk, decimal};
+ghost use Rattle.std.specs.Prelude.{◌≡◌, ◌≤◌, ◌++◌, IfOk, OnOk, decimal, length, take};
 
+use crate::escaping::is_control;
 use drv_words::{Listing, Word};
 use itoa::Buffer;
 use std::alloc::{AllocError, Global};
@@ -30,12 +33,56 @@ pub struct Told {
     pub is_error: bool,
     /// What it is.
     pub message: Word,
-    /// Its line up to the place.
+    /// Its line up to the place, as far as it is shown.
     pub before: Word,
-    /// The rest of that line.
+    /// The rest of that line, as far as it is shown.
     pub after: Word,
     /// Where its file is included, and where that one is, and so on.
     pub from: Listing<Place>,
+}
+
+/// What a check prints.
+#[derive(Debug, Drop)]
+pub struct Report {
+    /// The first findings.
+    pub told: Listing<Told>,
+    /// How many more there are; unknown where the check ended at `MOST_FAULTS` faults.
+    pub unshown: Option<usize>,
+}
+
+/// The most bytes of a line that are shown before a place.
+const MOST_BEFORE: usize = 60;
+/// The most from it on.
+const MOST_AFTER: usize = 40;
+
+/// Adds what is shown of a line before a place.
+pub fn push_front(text: &mut Word, line: &[u8]) -> Result<(), AllocError>
+    ensures { OnOk result (text.new ≡ text.old ++ line_front line.now) }
+{
+    if line.len() <= MOST_BEFORE {
+        return text.extend_from_slice(line);
+    }
+    text.extend_from_slice(b"..")?;
+    text.extend_from_slice(&line[line.len() - MOST_BEFORE..])
+}
+
+/// The first bytes of a line.
+fn first_bytes(line: &[u8], most: usize) -> &[u8]
+    requires { most ≤ length line.now }
+    ensures { result.now ≡ take most line.now }
+{
+    &line[..most]
+}
+
+/// Adds what is shown of a line from a place on.
+pub fn push_back(text: &mut Word, line: &[u8]) -> Result<(), AllocError>
+    ensures { OnOk result (text.new ≡ text.old ++ line_back line.now) }
+{
+    if line.len() <= MOST_AFTER {
+        return text.extend_from_slice(line);
+    }
+    text.extend_from_slice(first_bytes(line, MOST_AFTER))?;
+    text.extend_from_slice(b"..")
 }
 
 /// Adds a number in decimal digits.
@@ -111,13 +158,24 @@ fn takes_no_column(byte: u8) -> bool
     byte == b'\r' || is_continuing(byte)
 }
 
+/// Adds what a byte that takes a column has below it.
+fn push_pad(text: &mut Word, byte: u8) -> Result<(), AllocError>
+    ensures { OnOk result (text.new ≡ text.old ++ pad byte) }
+{
+    if is_control(byte) {
+        text.extend_from_slice(b"    ")
+    } else {
+        text.push(pad_byte(byte))
+    }
+}
+
 /// Adds the bytes that those of a line before the caret have below them.
 fn push_padding(text: &mut Word, line: &[u8]) -> Result<(), AllocError>
     ensures { OnOk result (text.new ≡ text.old ++ padding line.now) }
 {
     for &byte in line {
         if !takes_no_column(byte) {
-            text.push(pad_byte(byte))?;
+            push_pad(text, byte)?;
         }
     }
     Ok(())
@@ -181,14 +239,38 @@ fn push_told(text: &mut Word, told: &Told) -> Result<(), AllocError>
     push_all_from(text, told.from.as_slice())
 }
 
-/// The text of findings: for each its place and what it is, then its line with a caret below its
-/// byte, and where its file is included.
-pub fn report_text(alloc: Global, all: &[Told]) -> Result<Word, AllocError>
-    ensures { IfOk result (λ text. text ≡ report_text all.now) }
+/// Adds the text of findings.
+fn push_all_told(text: &mut Word, all: &[Told]) -> Result<(), AllocError>
+    ensures { OnOk result (text.new ≡ text.old ++ all_told_text all.now) }
+{
+    for told in all {
+        push_told(text, told)?;
+    }
+    Ok(())
+}
+
+/// Adds the line about what isn't shown.
+fn push_rest(text: &mut Word, unshown: Option<usize>) -> Result<(), AllocError>
+    ensures { OnOk result (text.new ≡ text.old ++ rest_text unshown) }
+{
+    match unshown {
+        None => text.extend_from_slice(b"gdrv-specs: stopped at 100 errors\n"),
+        Some(0) => Ok(()),
+        Some(more) => {
+            text.extend_from_slice(b"gdrv-specs: ")?;
+            push_number(text, more)?;
+            text.extend_from_slice(b" more not shown\n")
+        }
+    }
+}
+
+/// The text of a report: for each finding its place and what it is, then its line with a caret below
+/// its byte, and where its file is included; at the end how many more there are.
+pub fn report_text(alloc: Global, report: &Report) -> Result<Word, AllocError>
+    ensures { IfOk result (λ text. text ≡ report_text report.now) }
 {
     let mut text = Word::empty(alloc);
-    for told in all {
-        push_told(&mut text, told)?;
-    }
+    push_all_told(&mut text, report.told.as_slice())?;
+    push_rest(&mut text, report.unshown)?;
     Ok(text)
 }

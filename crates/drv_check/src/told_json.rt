@@ -1,11 +1,13 @@
 //! What a check prints of findings, as JSON.
 
-ghost use Rattle.drv_check.specs.Told.{kind_json, place_json, report_json, told_json, told_members};
-ghost use Rattle.drv_forms.specs.PlanJson.{list_json, option_json};
+ghost use Rattle.drv_check.specs.Told.{kind_json, place_json, report_json, report_members};
+ghost use Rattle.drv_check.specs.Told.{told_json, told_members};
+ghost use Rattle.drv_forms.specs.PlanJson.{list_json, number_json, option_json};
+ghost use Rattle.json.specs.Json.{object};
 ghost use Rattle.json.specs.Tree.{json_tokens, members_tokens};
 ghost use Rattle.std.specs.Prelude.{◌≡◌, ◌++◌, IfOk, OnOk};
 
-use crate::told::{Place, Told, kind_text};
+use crate::told::{Place, Report, Told, kind_text};
 use drv_forms::{put_number, put_word};
 use drv_words::Word;
 use json::{Pretty, Token};
@@ -87,13 +89,42 @@ fn put_all(out: &mut Pretty, all: &[Told]) -> Result<(), AllocError>
     out.token(Token::EndArray)
 }
 
-/// Findings as JSON: an array with an object for each, and a newline at its end. A word is a string,
-/// or the list of its bytes where these aren't UTF-8.
-pub fn report_json(alloc: Global, all: &[Told]) -> Result<Word, AllocError>
-    ensures { IfOk result (λ text. text ≡ report_json all.now) }
+/// Writes how many more findings there are, or `null`.
+fn put_unshown(out: &mut Pretty, unshown: Option<usize>) -> Result<(), AllocError>
+    ensures { OnOk result (out.new ≡ out.old ++ json_tokens (option_json number_json unshown)) }
+{
+    match unshown {
+        Some(more) => put_number(out, more),
+        None => out.token(Token::Null),
+    }
+}
+
+/// Writes the members of a report, and ends the object.
+fn put_report_members(out: &mut Pretty, report: &Report) -> Result<(), AllocError>
+    ensures { OnOk result (out.new ≡ out.old ++ members_tokens (report_members report.now)) }
+{
+    out.token(Token::Key("findings"))?;
+    put_all(out, report.told.as_slice())?;
+    out.token(Token::Key("unshown"))?;
+    put_unshown(out, report.unshown)?;
+    out.token(Token::EndObject)
+}
+
+/// Writes a report as an object.
+fn put_report(out: &mut Pretty, report: &Report) -> Result<(), AllocError>
+    ensures { OnOk result (out.new ≡ out.old ++ json_tokens (object (report_members report.now))) }
+{
+    out.token(Token::BeginObject)?;
+    put_report_members(out, report)
+}
+
+/// A report as JSON: an array with an object for each finding, and how many more there are, with a
+/// newline at its end. A word is a string, or the list of its bytes where these aren't UTF-8.
+pub fn report_json(alloc: Global, report: &Report) -> Result<Word, AllocError>
+    ensures { IfOk result (λ text. text ≡ report_json report.now) }
 {
     let mut out = Pretty::new(alloc);
-    put_all(&mut out, all)?;
+    put_report(&mut out, report)?;
     let mut text = Word::from_vec(out.into_inner());
     text.push(b'\n')?;
     Ok(text)

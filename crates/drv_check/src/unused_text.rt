@@ -163,10 +163,13 @@ fn push_pieces(alloc: Global, names: &mut Vec<Word>, pieces: &[Piece]) -> Result
     Ok(())
 }
 
-/// Adds the names that the texts of a source work.
+/// Adds the names that the texts of a source work, if it wasn't read before.
 fn push_source(alloc: Global, names: &mut Vec<Word>, source: &Source) -> Result<(), AllocError>
     ensures { OnOk result (names.new.items ≡ names.old.items ++ source_names source.now) }
 {
+    if source.again {
+        return Ok(());
+    }
     let file = open_file(alloc, 0, source.text.as_bytes())?;
     push_pieces(alloc, names, file.pieces.as_slice())
 }

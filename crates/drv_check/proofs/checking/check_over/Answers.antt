@@ -9,7 +9,7 @@ use Rattle.drv_system.proofs.AskedCalls.{extends_before}
 
 pub returns-clause-checks : goal.returns-clause-checks
 returns-clause-checks g c F e =
-    over_checked F c.args.search.now.prefixes.now c.args.check.now.over.now c.args.check.now.whose c.args.check.now.names.now
+    over_checked F c.args.search.now.prefixes.now c.args.files.now.over.now c.args.files.now.whose c.args.files.now.names.now
     c.in_ok-checking.checking c.check_all.new.checking
     c.judge.new.checking
     c.len-first.result (c.in_ok-checking.ensures.checks F (extends_before c.check_all.ensures.asks e)) c.len-first.ensures

@@ -1,6 +1,6 @@
 use Rattle.drv_check.proofs.FilesSought.{all_sought, none_sought, opens_inner, opens_no_file, piece_sought}
 use Rattle.drv_check.proofs.seeking.+seek_file.Goals as goal
-use Rattle.drv_check.specs.Checks.{file_checked}
+use Rattle.drv_check.specs.Checks.{file_checked, never}
 use Rattle.drv_system.proofs.AskedCalls.{asked_further, asked_none, extends_before}
 
 -- seek_file (src/seeking.rt). Opens what an open file includes, and what is included there.
@@ -25,7 +25,7 @@ loop-piece-preserved g t c = record {
   rest = λ F e is_file.
       piece_sought F c.args.search.now.prefixes.now c.args.levels c.args.checking.now c.loop-piece.checking c.open_next.new.checking
       c.seek_file.new.checking c.args.file.now c.as_slice-piece-items.result.now c.loop-piece.piece-index c.piece-item.result
-      c.in_ok-next.next (λ x. file_checked F c.args.search.now.prefixes.now c.args.levels x c.args.file.now) is_file
+      c.in_ok-next.next (λ x. file_checked F c.args.search.now.prefixes.now never c.args.levels x c.args.file.now) is_file
       c.as_slice-piece-items.ensures
       c.loop-piece-test.true c.piece-item.is (c.in_ok-next.ensures.opens F (extends_before c.seek_file.ensures.asks e))
       (opens_inner F c.args.search.now.prefixes.now c.args.levels c.open_next.new.checking c.seek_file.new.checking c.in_ok-next.next
@@ -40,7 +40,7 @@ loop-piece-preserved-in_default g t c = record {
   rest = λ F e is_file.
       piece_sought F c.args.search.now.prefixes.now c.args.levels c.args.checking.now c.loop-piece.checking c.open_next.new.checking
       c.open_next.new.checking c.args.file.now c.as_slice-piece-items.result.now c.loop-piece.piece-index c.piece-item.result
-      c.in_ok-next.next (λ x. file_checked F c.args.search.now.prefixes.now c.args.levels x c.args.file.now) is_file
+      c.in_ok-next.next (λ x. file_checked F c.args.search.now.prefixes.now never c.args.levels x c.args.file.now) is_file
       c.as_slice-piece-items.ensures
       c.loop-piece-test.true c.piece-item.is (c.in_ok-next.ensures.opens F e)
       (opens_no_file F c.args.search.now.prefixes.now c.args.levels c.open_next.new.checking c.in_ok-next.next c.in_default.is)
@@ -50,6 +50,6 @@ loop-piece-preserved-in_default g t c = record {
 pub returns-clause-seeks : goal.returns-clause-seeks
 returns-clause-seeks g t c F e is_file =
     all_sought F c.args.search.now.prefixes.now c.args.levels c.args.checking.now c.loop-piece.checking c.args.file.now
-    c.as_slice-piece-items.result.now c.loop-piece.piece-index (λ x. file_checked F c.args.search.now.prefixes.now c.args.levels x
+    c.as_slice-piece-items.result.now c.loop-piece.piece-index (λ x. file_checked F c.args.search.now.prefixes.now never c.args.levels x
     c.args.file.now)
     c.as_slice-piece-items.ensures c.loop-piece-test.false (c.loop-piece.invariant.rest F e is_file)
