@@ -8,7 +8,7 @@ use Rattle.drv_system.specs.Facts.{Facts, no_facts}
 use Rattle.drv_system.specs.declared.event.Event.{Event}
 use Rattle.gdrv_specs.proofs.Told.{known}
 use Rattle.gdrv_specs.specs.Differences.{ComesTwice, TellsDifference, TellsWorks, difference_in, path_of, stopped_with, with_specs}
-use Rattle.gdrv_specs.specs.Told.{PutsText}
+use Rattle.gdrv_specs.specs.Told.{ShowsText}
 use Rattle.gdrv_specs.specs.declared.differing.Comparison.{Comparison}
 use Rattle.gdrv_specs.specs.declared.differing.Side.TheVariants.{First, Second}
 use Rattle.gdrv_specs.specs.declared.differing.Stop.{Stop}
@@ -28,7 +28,7 @@ use Rattle.std.proofs.lemmas.List.{append-nil}
 
 -- what differs was printed
 pub tells_put : (journal journal' : List Event) (text : List ℕ) (status : ℕ) (work work' : Work)
-    → PutsText journal journal' text status → difference_in work work' ≡ Some text
+    → ShowsText journal journal' text status → difference_in work work' ≡ Some text
     → TellsWorks journal journal' work work' (Ended (Done status))
 tells_put journal journal' text status work work' puts is = (puts.0, puts.1, (text, is, puts.2))
 

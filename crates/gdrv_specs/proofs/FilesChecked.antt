@@ -1,4 +1,5 @@
 use Rattle.drv_check.specs.Checked.{checked}
+use Rattle.drv_check.specs.Checks.{is_full, most_faults}
 use Rattle.drv_check.specs.Spots.{place_in}
 use Rattle.drv_check.specs.declared.findings.Checking.{Checking}
 use Rattle.drv_check.specs.declared.findings.Finding.{Finding}
@@ -13,9 +14,9 @@ use Rattle.drv_system.specs.Facts.{Facts, no_facts}
 use Rattle.drv_system.specs.Known.{Is}
 use Rattle.drv_system.specs.declared.event.Event.{Event}
 use Rattle.gdrv_specs.proofs.Told.{known}
-use Rattle.gdrv_specs.specs.Checks.{PutsReport, TellsCheck, TellsFound, all_told, included_at, is_shown, place_of, places_from, report}
-use Rattle.gdrv_specs.specs.Checks.{status_with, told_of, verdict}
-use Rattle.gdrv_specs.specs.Told.{Puts, PutsText}
+use Rattle.gdrv_specs.specs.Checks.{PutsReport, TellsCheck, TellsFound, first_findings, included_at, is_on, is_shown, place_of, places_from}
+use Rattle.gdrv_specs.specs.Checks.{report, shown_findings, status_with, told_of, unshown, verdict}
+use Rattle.gdrv_specs.specs.Told.{Shows, ShowsText}
 use Rattle.gdrv_specs.specs.declared.outcome.Outcome.TheVariants.{Ended}
 use Rattle.gdrv_specs.specs.declared.outcome.Outcome.{Outcome}
 use Rattle.gdrv_specs.specs.declared.requesting.Request.{Request}
@@ -34,16 +35,24 @@ use Rattle.std.specs.Prelude.{filter, get_or, map, slice_get}
 -- the code's call gives. `outcome` is how the call ends. `is_shown` says that a finding is shown, `told_of` is the finding as it is
 -- printed, and `places_from` is the places where a source is included (specs/Checks).
 
--- For `put_report`: if the findings that are shown were written, in JSON or in lines, then the exit status is the one by them.
-pub puts_report : (journal journal' : List Event) (request : Request) (c : Checking) (all : List Told) (text : List ℕ) (written : ℕ)
-    → all ≡ all_told request c.sources c.findings → text ≡ report request.json all → PutsText journal journal' text written
-    → PutsReport journal journal' request c (status_with written (verdict request.strict all))
-puts_report journal journal' request c all text written are is puts = (
+-- For `put_report`: if the report of the findings that are on was written, then the exit status is the one by them.
+pub puts_report : (journal journal' : List Event) (request : Request) (c : Checking) (findings first : List Finding) (told : List Told)
+    (ended : Bool) (more : Option ℕ) (text : List ℕ) (written : ℕ)
+    → ended ≡ is_full most_faults c → findings ≡ filter (is_shown request) c.findings → first ≡ first_findings findings
+    → told ≡ map (told_of c.sources) first → more ≡ unshown ended findings
+    → text ≡ report request.json (record { told = told; unshown = more }) → ShowsText journal journal' text written
+    → PutsReport journal journal' request c (status_with written (verdict request.strict findings))
+puts_report journal journal' request c findings first told ended more text written ends are cut tells rest is puts = (
   puts.0,
   puts.1,
   (
     written,
-    subst (λ t. Puts t written puts.0) (is ∙ ap (report request.json) are) puts.2,
+    subst (λ t. Shows t written puts.0) (is
+        ∙ ap (λ r. report request.json r)
+        (ap (λ ts. record { told = ts; unshown = more })
+        (tells ∙ ap (map (told_of c.sources)) (cut ∙ ap first_findings are))
+        ∙ ap (λ m. record { told = map (told_of c.sources) (first_findings (shown_findings request c)); unshown = m })
+        (rest ∙ ap (λ e. unshown e findings) ends ∙ ap (unshown (is_full most_faults c)) are))) puts.2,
     ap (λ a. status_with written (verdict request.strict a)) are,
   ),
 )
@@ -113,43 +122,42 @@ module _ (sources : List Source) (places : List Place) where
       ∙ ap (λ s. places ++ (place_of s spot.at ++ places_from sources more (included_at s))) (sym found)
       ∙ ap (λ f. places ++ places_from sources (suc more) f) (sym is)
 
--- what a check prints of one more finding
+-- a finding more is shown or not
 
-module _ (request : Request) (sources : List Source) (findings : List Finding) (n : ℕ) (finding : Finding) where
-  -- one finding more: it is printed first, or not at all if it is off
-  left : (on : Bool) → n < length findings → finding ≡ get_or findings n finding → is_shown request finding ≡ on
-      → map (told_of sources) (filter (is_shown request) (drop n findings))
-      ≡ (if on then told_of sources finding ∷ map (told_of sources) (filter (is_shown request) (drop (n + 1) findings))
-      else map (told_of sources) (filter (is_shown request) (drop (n + 1) findings)))
-  left on below here is =
-      ap (λ fs. map (told_of sources) (filter (is_shown request) fs)) (drop_more findings n finding below
-      ∙ ap (λ f. f ∷ drop (n + 1) findings) (sym here)) ∙ by on is
+module _ (request : Request) where
+  -- One finding more is shown or not, by itself.
+  more_shown : (findings : List Finding) (finding : Finding)
+      → filter (is_shown request) (findings ++ finding ∷ [])
+      ≡ filter (is_shown request) findings ++ filter (is_shown request) (finding ∷ [])
+  more_shown [] finding = refl
+  more_shown (first ∷ findings) finding = by (is_shown request first) (more_shown findings finding)
     where
-      -- Plan: `by` goes by both answers of `is_shown request finding`.
-      by : (on : Bool) → is_shown request finding ≡ on
-          → map (told_of sources) (filter (is_shown request) (finding ∷ drop (n + 1) findings))
-          ≡ (if on then told_of sources finding ∷ map (told_of sources) (filter (is_shown request) (drop (n + 1) findings))
-          else map (told_of sources) (filter (is_shown request) (drop (n + 1) findings)))
-      by true is = rw is refl
-      by false is = rw is refl
+      -- Plan: `by` goes by both answers of `is_shown request first`.
+      by : (t : Bool)
+          → filter (is_shown request) (findings ++ finding ∷ [])
+          ≡ filter (is_shown request) findings ++ filter (is_shown request) (finding ∷ [])
+          → (if t then first ∷ filter (is_shown request) (findings ++ finding ∷ [])
+          else filter (is_shown request) (findings ++ finding ∷ []))
+          ≡ (if t then first ∷ filter (is_shown request) findings else filter (is_shown request) findings)
+          ++ filter (is_shown request) (finding ∷ [])
+      by true more = ap (λ fs. first ∷ fs) more
+      by false more = more
 
-  -- For `all_told`: if the findings so far and those left are all that are shown, then they still are after one more that is on.
-  pub told_more : (before after whole : List Told) → n < length findings → finding ≡ get_or findings n finding
-      → is_shown request finding ≡ true
-      → after ≡ before ++ told_of sources finding ∷ []
-      → before ++ map (told_of sources) (filter (is_shown request) (drop n findings)) ≡ whole
-      → after ++ map (told_of sources) (filter (is_shown request) (drop (n + 1) findings)) ≡ whole
-  told_more before after whole below here is grows rest =
-      ap (λ a. a ++ map (told_of sources) (filter (is_shown request) (drop (n + 1) findings))) grows
-      ∙ append_assoc before (told_of sources finding ∷ []) (map (told_of sources) (filter (is_shown request) (drop (n + 1) findings)))
-      ∙ ap (λ ts. before ++ ts) (sym (left true below here is)) ∙ rest
+  -- For `shown_findings`: if those so far are the findings that are on, then they still are after one more that is on.
+  pub finding_stays : (shown after yielded : List Finding) (finding : Finding) → is_on request finding.note ≡ true
+      → shown ≡ filter (is_shown request) yielded
+      → after ≡ shown ++ finding ∷ [] → after ≡ filter (is_shown request) (yielded ++ finding ∷ [])
+  finding_stays shown after yielded finding is before grows =
+      grows ∙ ap (λ fs. fs ++ finding ∷ []) before
+      ∙ ap (λ t. filter (is_shown request) yielded ++ (if t then finding ∷ [] else [])) (sym is) ∙ sym (more_shown yielded finding)
 
-  -- For `all_told`: the same after one that is off, which is passed over.
-  pub told_passed : (before whole : List Told) → n < length findings → finding ≡ get_or findings n finding
-      → is_shown request finding ≡ false
-      → before ++ map (told_of sources) (filter (is_shown request) (drop n findings)) ≡ whole
-      → before ++ map (told_of sources) (filter (is_shown request) (drop (n + 1) findings)) ≡ whole
-  told_passed before whole below here is rest = ap (λ ts. before ++ ts) (sym (left false below here is)) ∙ rest
+  -- For `shown_findings`: the same after one that is off, which is left out.
+  pub finding_goes : (shown yielded : List Finding) (finding : Finding) → is_on request finding.note ≡ false
+      → shown ≡ filter (is_shown request) yielded
+      → shown ≡ filter (is_shown request) (yielded ++ finding ∷ [])
+  finding_goes shown yielded finding is before =
+      before ∙ sym (append-nil (filter (is_shown request) yielded))
+      ∙ ap (λ t. filter (is_shown request) yielded ++ (if t then finding ∷ [] else [])) (sym is) ∙ sym (more_shown yielded finding)
 
 -- A call that checks files: where memory lacked first, and with what was found.
 

@@ -31,7 +31,7 @@ use Rattle.gdrv_specs.proofs.SwitchesTold.{loading_ends}
 use Rattle.gdrv_specs.proofs.Told.{known}
 use Rattle.gdrv_specs.specs.Code.Explaining.{HasSpecs, reason_of}
 use Rattle.gdrv_specs.specs.Reasons.{Answers, AnswersAll, Gives, Reports, TellsText, TellsWhy}
-use Rattle.gdrv_specs.specs.Told.{PutsText, Stops}
+use Rattle.gdrv_specs.specs.Told.{ShowsText, Stops}
 use Rattle.gdrv_specs.specs.declared.outcome.Outcome.TheVariants.{Ended}
 use Rattle.gdrv_specs.specs.declared.outcome.Outcome.{Outcome}
 use Rattle.std.proofs.Common.{◌≡◌, ◌∙◌, ◌<◌, ◌≤◌, ◌+◌, ◌++◌, ◌∷◌, ◌&&◌, Bool, Err, IfOk, List, Ok, Result, Some, [], ap}
@@ -55,7 +55,7 @@ use Rattle.std.specs.Prelude.{get_or, nat_eq}
 -- (specs/Code/Explaining). `Answers`, `AnswersAll` and `Reports` are what is said of one part, of several, and of a line (specs/Reasons).
 
 -- the reasons were printed
-pub tells_put : (journal journal' : List Event) (text : List ℕ) (status : ℕ) → PutsText journal journal' text status
+pub tells_put : (journal journal' : List Event) (text : List ℕ) (status : ℕ) → ShowsText journal journal' text status
     → TellsText journal journal' text (Ended (Done status))
 tells_put journal journal' text status puts = puts
 

@@ -1,4 +1,6 @@
-use Rattle.drv_check.specs.Checked.{checked}
+use Rattle.drv_check.specs.Checked.{checked, tells_fault}
+use Rattle.drv_check.specs.Checks.{is_full, most_faults}
+use Rattle.drv_check.specs.Shown.{line_back, line_front}
 use Rattle.drv_check.specs.Spots.{place_in}
 use Rattle.drv_check.specs.Told.{report_json, report_text}
 use Rattle.drv_check.specs.declared.findings.Checking.{Checking}
@@ -9,6 +11,7 @@ use Rattle.drv_check.specs.declared.findings.Source.{Source}
 use Rattle.drv_check.specs.declared.findings.Spot.{Spot}
 use Rattle.drv_check.specs.declared.findings.Warning.{Warning}
 use Rattle.drv_check.specs.declared.told.Place.{Place}
+use Rattle.drv_check.specs.declared.told.Report.{Report}
 use Rattle.drv_check.specs.declared.told.Told.{Told}
 use Rattle.drv_place.specs.LinePlaces.{line_after, line_before}
 use Rattle.drv_run.specs.Texts.{refusal_text}
@@ -19,14 +22,15 @@ use Rattle.drv_system.specs.Asking.{AreNew}
 use Rattle.drv_system.specs.Facts.{Facts, learn, no_facts}
 use Rattle.drv_system.specs.Known.{Is}
 use Rattle.drv_system.specs.declared.event.Event.{Event}
-use Rattle.gdrv_specs.specs.Told.{Puts}
+use Rattle.gdrv_specs.specs.Told.{Shows}
 use Rattle.gdrv_specs.specs.WarningNames.{is_name_of, warning_text}
 use Rattle.gdrv_specs.specs.declared.outcome.Outcome.TheVariants.{Ended}
 use Rattle.gdrv_specs.specs.declared.outcome.Outcome.{Outcome}
 use Rattle.gdrv_specs.specs.declared.requesting.Request.{Request}
 use Rattle.std.specs.List.{list_any}
-use Rattle.std.specs.Prelude.{◌≡◌, ◌⊎◌, ◌&&◌, ◌==◌, Bool, List, [], ◌∷◌, ◌++◌, None, Option, Some, false, filter, if◌then◌else◌, map, not}
-use Rattle.std.specs.Prelude.{slice_get, suc, true, zero, ℕ}
+use Rattle.std.specs.Prelude.{◌≡◌, ◌⊎◌, ◌-◌, ◌&&◌, ◌==◌, Bool, List, [], ◌∷◌, ◌++◌, None, Option, Some, false, filter, if◌then◌else◌}
+use Rattle.std.specs.Prelude.{length}
+use Rattle.std.specs.Prelude.{map, nat_le, not, slice_get, suc, take, true, zero, ℕ}
 
 -- What checking spec files is (GCC manual, "Spec Files"; the names of warnings and the exit statuses are this project's profile): what was
 -- found is written to standard output once, and nothing else is done.
@@ -69,12 +73,12 @@ places_from sources (suc more) (Some spot) =
 abbrev pub told_nowhere : Note → Told
 told_nowhere note = record { place = None; is_error = is_error note; message = note_text note; before = []; after = []; from = [] }
 
--- with a byte of a source, its line, and where that source is included
+-- with a byte of a source, a window of its line, and where that source is included
 abbrev pub filled : List Source → Source → ℕ → Told → Told
 filled sources source at told = record told {
   place = Some (place_in source at);
-  before = told.before ++ line_before source.text at;
-  after = told.after ++ line_after source.text at;
+  before = told.before ++ line_front (line_before source.text at);
+  after = told.after ++ line_back (line_after source.text at);
   from = told.from ++ places_from sources most_levels source.from;
 }
 
@@ -107,28 +111,43 @@ is_on request (Warned warning) = not (list_any (is_named warning) request.off)
 abbrev pub is_shown : Request → Finding → Bool
 is_shown request finding = is_on request finding.note
 
--- all findings that are shown, as they are printed
-abbrev pub all_told : Request → List Source → List Finding → List Told
-all_told request sources findings = map (told_of sources) (filter (is_shown request) findings)
+-- the findings that are not switched off
+abbrev pub shown_findings : Request → Checking → List Finding
+shown_findings request c = filter (is_shown request) c.findings
 
--- the text of a check, in JSON or in lines
-abbrev pub report : Bool → List Told → List ℕ
-report json all = if json then report_json all else report_text all
+-- so many of them are printed
+abbrev pub most_told : ℕ
+most_told = 100
+
+-- the first of findings, as many as are printed
+abbrev pub first_findings : List Finding → List Finding
+first_findings findings = if nat_le (length findings) most_told then findings else take most_told findings
+
+-- how many more there are; it is not known where the check ended at its most faults
+abbrev pub unshown : Bool → List Finding → Option ℕ
+unshown ended findings = if ended then None else Some (length findings - most_told)
+
+-- what is printed of a check
+abbrev pub report_of : Request → Checking → Report
+report_of request c = record {
+  told = map (told_of c.sources) (first_findings (shown_findings request c));
+  unshown = unshown (is_full most_faults c) (shown_findings request c);
+}
+
+-- its text, in JSON or in lines
+abbrev pub report : Bool → Report → List ℕ
+report json told = if json then report_json told else report_text told
 
 -- 2 for errors, and 1 for warnings that count as such
 
--- whether a finding that is shown is an error
-abbrev pub told_error : Told → Bool
-told_error told = told.is_error
-
--- whether anything is shown
-abbrev pub has_any : List Told → Bool
+-- whether there is any finding
+abbrev pub has_any : List Finding → Bool
 has_any [] = false
-has_any (told ∷ all) = true
+has_any (finding ∷ findings) = true
 
--- the exit status of a check by what is shown; `strict` is -Werror
-abbrev pub verdict : Bool → List Told → ℕ
-verdict strict all = if list_any told_error all then 2 else if strict && has_any all then 1 else 0
+-- the exit status of a check by all findings that are not switched off; `strict` is -Werror
+abbrev pub verdict : Bool → List Finding → ℕ
+verdict strict findings = if list_any tells_fault findings then 2 else if strict && has_any findings then 1 else 0
 
 -- 1 where what was found couldn't be written
 abbrev pub status_with : ℕ → ℕ → ℕ
@@ -137,8 +156,8 @@ status_with written status = if written == 0 then status else written
 -- what was found was written once, and gave this status
 abbrev pub Reports : Request → Checking → ℕ → List Event → Type 0
 Reports request c status told =
-    (written : ℕ) × Puts (report request.json (all_told request c.sources c.findings)) written told
-    × (status ≡ status_with written (verdict request.strict (all_told request c.sources c.findings)))
+    (written : ℕ) × Shows (report request.json (report_of request c)) written told
+    × (status ≡ status_with written (verdict request.strict (shown_findings request c)))
 
 -- the report was written, and nothing else was done, of two journals
 abbrev pub PutsReport : List Event → List Event → Request → Checking → ℕ → Type 0

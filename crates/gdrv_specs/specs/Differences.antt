@@ -11,7 +11,7 @@ use Rattle.drv_system.specs.Facts.{Facts, learn, no_facts}
 use Rattle.drv_system.specs.declared.event.Event.{Event}
 use Rattle.drv_words.specs.declared.plan.Plan.{Plan}
 use Rattle.gdrv_specs.specs.Plans.{dump_in, plan_in}
-use Rattle.gdrv_specs.specs.Told.{Puts}
+use Rattle.gdrv_specs.specs.Told.{Shows}
 use Rattle.gdrv_specs.specs.declared.differing.Comparison.{Comparison}
 use Rattle.gdrv_specs.specs.declared.differing.Side.TheVariants.{First, Second}
 use Rattle.gdrv_specs.specs.declared.differing.Side.{Side}
@@ -91,7 +91,7 @@ difference_in work other = first_of (dumps_difference (dump_in work) (dump_in ot
 -- what is printed of two works, by how that ended: what differs, once; where memory lacked nothing was done
 abbrev pub TellsBoth : Work → Work → Outcome → List Event → Type 0
 TellsBoth work other (Ended (Done status)) told =
-    (text : List ℕ) × (difference_in work other ≡ Some text) × Puts text status told
+    (text : List ℕ) × (difference_in work other ≡ Some text) × Shows text status told
 TellsBoth work other (Ended OutOfMemory) told = told ≡ []
 TellsBoth work other NoPlan told = (difference_in work other ≡ None) × (told ≡ [])
 TellsBoth work other outcome told = ⊥

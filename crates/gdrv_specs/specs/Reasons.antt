@@ -17,7 +17,7 @@ use Rattle.drv_why.specs.declared.reasons.Rest.{Rest}
 use Rattle.drv_why.specs.declared.report.Report.{Report}
 use Rattle.gdrv_specs.specs.Differences.{dumps_difference, plans_changes}
 use Rattle.gdrv_specs.specs.Plans.{dump_in, plan_in}
-use Rattle.gdrv_specs.specs.Told.{Puts, Stops}
+use Rattle.gdrv_specs.specs.Told.{Shows, Stops}
 use Rattle.gdrv_specs.specs.declared.outcome.Outcome.TheVariants.{Ended}
 use Rattle.gdrv_specs.specs.declared.outcome.Outcome.{Outcome}
 use Rattle.std.specs.Prelude.{◌≡◌, ◌⊎◌, Err, List, [], ◌∷◌, ◌++◌, None, Ok, Option, Result, Some, ℕ}
@@ -72,7 +72,7 @@ Gives F report line seed (Err ending) = Comes F line seed (Err ending)
 
 -- what is done with them, by how that ended: they are written, once; where memory lacked nothing was done
 abbrev pub WritesText : List ℕ → Outcome → List Event → Type 0
-WritesText text (Ended (Done status)) told = Puts text status told
+WritesText text (Ended (Done status)) told = Shows text status told
 WritesText text (Ended OutOfMemory) told = told ≡ []
 WritesText text outcome told = ⊥
 

@@ -12,7 +12,7 @@ use Rattle.drv_run.specs.declared.work.Work.{Work}
 use Rattle.drv_system.specs.declared.event.Event.{Event}
 use Rattle.drv_words.specs.declared.plan.Plan.{Plan}
 use Rattle.drv_words.specs.declared.steps.RunEvent.{RunEvent}
-use Rattle.gdrv_specs.specs.Told.{Puts, PutsText, Tells}
+use Rattle.gdrv_specs.specs.Told.{Shows, ShowsText, Tells}
 use Rattle.gdrv_specs.specs.declared.answers.AnswerFault.TheVariants.{BadAnswer}
 use Rattle.gdrv_specs.specs.declared.answers.AnswerFault.{AnswerFault}
 use Rattle.gdrv_specs.specs.declared.outcome.Outcome.TheVariants.{Ended, NoPlan, NoRun, Unanswered}
@@ -55,7 +55,7 @@ pub record IsStory (plan : Plan) (manner : Manner) (given : List Given) (text : 
 -- that text was written to standard output, and nothing else was done
 abbrev pub PutsRun : List Event → List Event → Plan → Manner → List Given → ℕ → Type 0
 PutsRun journal journal' plan manner given status =
-    (text : List ℕ) × IsStory plan manner given text × PutsText journal journal' text status
+    (text : List ℕ) × IsStory plan manner given text × ShowsText journal journal' text status
 
 -- A run is printed, over the answers that words give.
 pub record TellsRun (plan : Plan) (manner : Manner) (words : List (List ℕ)) (status : ℕ) (told : List Event) : Type 0 where
@@ -63,7 +63,7 @@ pub record TellsRun (plan : Plan) (manner : Manner) (words : List (List ℕ)) (s
   pub text : List ℕ
   pub reads : answers_of plan words ≡ Ok given
   pub is_story : IsStory plan manner given text
-  pub puts : Puts text status told
+  pub puts : Shows text status told
 
 -- what is printed of a work, by how that ended: its run, once, if it has one; where memory lacked nothing was done
 abbrev pub AfterOf : List (List ℕ) → Work → Outcome → List Event → Type 0

@@ -1,3 +1,4 @@
+use Rattle.drv_check.specs.Shown.{visible}
 use Rattle.drv_run.specs.Calls.{status_of}
 use Rattle.drv_run.specs.Drives.{Drives, Refuses}
 use Rattle.drv_run.specs.declared.ending.Ending.TheVariants.{OutOfMemory, Refused}
@@ -21,6 +22,14 @@ Puts text status told = (answer : TellAnswer) × (told ≡ Put text answer ∷ [
 -- a text was written once and nothing else was done, of two journals
 abbrev pub PutsText : List Event → List Event → List ℕ → ℕ → Type 0
 PutsText journal journal' text status = (told : List Event) × (journal' ≡ journal ++ told) × Puts text status told
+
+-- a text was written for a reader, in which no byte steers a terminal; JSON has no such byte and stays as it is
+abbrev pub Shows : List ℕ → ℕ → List Event → Type 0
+Shows text status told = Puts (visible text) status told
+
+-- it was written once and nothing else was done, of two journals
+abbrev pub ShowsText : List Event → List Event → List ℕ → ℕ → Type 0
+ShowsText journal journal' text status = PutsText journal journal' (visible text) status
 
 -- what is printed of a work, by how that ended
 abbrev pub Telling : Type 1

@@ -1,27 +1,30 @@
 //! Prints what is found in spec files.
 
-ghost use Rattle.drv_check.specs.Checked.{checked};
+ghost use Rattle.drv_check.specs.Checked.{checked, tells_fault};
 ghost use Rattle.drv_check.specs.declared.findings.Checking.{Checking};
 ghost use Rattle.drv_run.specs.declared.ending.Refusal.TheVariants.{Specs};
 ghost use Rattle.drv_system.specs.Known.{Is};
-ghost use Rattle.gdrv_specs.specs.Checks.{PutsReport, TellsCheck, TellsFound, all_told, filled, has_any, included_at};
-ghost use Rattle.gdrv_specs.specs.Checks.{is_error, is_named, is_on};
+ghost use Rattle.gdrv_specs.specs.Checks.{PutsReport, TellsCheck, TellsFound, filled};
+ghost use Rattle.gdrv_specs.specs.Checks.{first_findings, has_any};
+ghost use Rattle.gdrv_specs.specs.Checks.{included_at, is_error, is_named, is_on, is_shown};
 ghost use Rattle.gdrv_specs.specs.Checks.{note_text, places_from, report, status_with, told_at};
-ghost use Rattle.gdrv_specs.specs.Checks.{told_error, told_in, told_nowhere, told_of, verdict};
-ghost use Rattle.gdrv_specs.specs.Told.{PutsText};
+ghost use Rattle.gdrv_specs.specs.Checks.{told_in, told_nowhere, told_of, unshown, verdict};
 ghost use Rattle.std.specs.List.{list_any};
 ghost use Rattle.std.specs.Option.{option_map};
-ghost use Rattle.std.specs.Prelude.{◌≡◌, ◌++◌, IfOk, OnErr, OnOk, Some, slice_get};
+ghost use Rattle.std.specs.Prelude.{◌≡◌, ◌≤◌, ◌++◌, IfOk, OnErr, OnOk, Some, filter, length, map};
+ghost use Rattle.std.specs.Prelude.{slice_get, take};
 
 use crate::outcome::Outcome;
+use crate::printing::put_visible;
 use crate::requesting::Request;
 use crate::warning_names::{is_name_of, warning_text};
 use drv_check::{
-    Checking, FileCheck, Finding, Note, Place, Source, Spot, Told, Warning, check_files, place_in,
-    report_json, report_text,
+    Checking, FileCheck, Finding, Findings, MOST_FAULTS, Note, Place, Report, Source, Spot, Told,
+    Warning, check_files, is_fault, is_full, place_in, push_back, push_front, report_json,
+    report_text,
 };
 use drv_place::{line_after, line_before};
-use drv_run::{Ending, Refusal, refusal_text, status_of};
+use drv_run::{Ending, Refusal, refusal_text};
 use drv_specs::SpecsFault;
 use drv_syntax::SyntaxFault;
 use drv_system::{FactTable, System};
@@ -30,6 +33,9 @@ use std::alloc::{AllocError, Global};
 
 /// The most files that include one another.
 const MOST_LEVELS: usize = 16;
+
+/// The most findings that are printed.
+const MOST_TOLD: usize = 100;
 
 /// A copy of why a text has no tree.
 fn syntax_copy(fault: &SyntaxFault) -> SyntaxFault
@@ -135,13 +141,13 @@ fn told_nowhere(alloc: Global, note: &Note) -> Result<Told, AllocError>
     })
 }
 
-/// Adds the place of what a check prints, its line, and where its file is included.
+/// Adds the place of what a check prints, a window of its line, and where its file is included.
 fn fill(told: &mut Told, sources: &[Source], source: &Source, at: usize) -> Result<(), AllocError>
     ensures { OnOk result (told.new ≡ filled sources.now source.now at told.old) }
 {
     let text = source.text.as_bytes();
-    told.before.extend_from_slice(line_before(text, at))?;
-    told.after.extend_from_slice(line_after(text, at))?;
+    push_front(&mut told.before, line_before(text, at))?;
+    push_back(&mut told.after, line_after(text, at))?;
     push_places(&mut told.from, sources, MOST_LEVELS, source.from)?;
     told.place = Some(place_in(source, at)?);
     Ok(())
@@ -197,63 +203,105 @@ fn is_on(request: &Request, note: &Note) -> bool
     }
 }
 
-/// What a check prints of all that it found.
-#[tactic(auto, using(crate::proofs::FilesChecked::told_more, crate::proofs::FilesChecked::told_passed))]
-fn all_told(
+/// The findings that are not switched off.
+#[tactic(auto, using(crate::proofs::FilesChecked::finding_stays, crate::proofs::FilesChecked::finding_goes))]
+fn shown_findings(
     alloc: Global,
     request: &Request,
+    findings: Findings,
+) -> Result<Listing<Finding>, AllocError>
+    ensures { IfOk result (λ shown. shown ≡ filter (is_shown request.now) findings) }
+{
+    let mut shown = Listing::new(alloc);
+    for finding in findings.into_vec() {
+        if is_on(request, &finding.note) {
+            shown.push(finding)?;
+        }
+    }
+    Ok(shown)
+}
+
+/// The first of findings, so many.
+fn findings_to(findings: &[Finding], most: usize) -> &[Finding]
+    requires { most ≤ length findings.now }
+    ensures { result.now ≡ take most findings.now }
+{
+    &findings[..most]
+}
+
+/// The first of findings, as many as are printed.
+fn first_findings(findings: &[Finding]) -> &[Finding]
+    ensures { result.now ≡ first_findings findings.now }
+{
+    if findings.len() <= MOST_TOLD {
+        findings
+    } else {
+        findings_to(findings, MOST_TOLD)
+    }
+}
+
+/// What a check prints of findings.
+fn all_told(
+    alloc: Global,
     sources: &[Source],
     findings: &[Finding],
-) -> Result<Vec<Told>, AllocError>
-    ensures { IfOk result
-        (λ all. all.items ≡ all_told request.now sources.now findings.now) }
+) -> Result<Listing<Told>, AllocError>
+    ensures { IfOk result (λ all. all ≡ map (told_of sources.now) findings.now) }
 {
-    let mut all = Vec::new(alloc);
+    let mut all = Listing::new(alloc);
     for finding in findings {
-        if !is_on(request, &finding.note) {
-            continue;
-        }
         all.push(told_of(alloc, sources, finding)?)?;
     }
     Ok(all)
 }
 
+/// How many more findings there are than are printed; unknown where the check ended.
+fn unshown(ended: bool, findings: &[Finding]) -> Option<usize>
+    ensures { result ≡ unshown ended findings.now }
+{
+    if ended {
+        None
+    } else {
+        Some(findings.len().saturating_sub(MOST_TOLD))
+    }
+}
+
 /// What is written of it.
-fn report(alloc: Global, json: bool, all: &[Told]) -> Result<Word, AllocError>
-    ensures { IfOk result (λ text. text ≡ report json all.now) }
+fn report(alloc: Global, json: bool, told: &Report) -> Result<Word, AllocError>
+    ensures { IfOk result (λ text. text ≡ report json told.now) }
 {
     if json {
-        report_json(alloc, all)
+        report_json(alloc, told)
     } else {
-        report_text(alloc, all)
+        report_text(alloc, told)
     }
 }
 
 /// Whether there is any.
-fn has_any(all: &[Told]) -> bool
-    ensures { result ≡ has_any all.now }
+fn has_any(findings: &[Finding]) -> bool
+    ensures { result ≡ has_any findings.now }
 {
-    !matches!(all, [])
+    !matches!(findings, [])
 }
 
-/// Whether any is an error.
-fn has_errors(all: &[Told]) -> bool
-    ensures { result ≡ list_any told_error all.now }
+/// Whether any is a fault.
+fn has_faults(findings: &[Finding]) -> bool
+    ensures { result ≡ list_any tells_fault findings.now }
 {
-    all.iter().any(|told| told.is_error)
+    findings.iter().any(|finding| is_fault(&finding.note))
 }
 
-/// The exit status for what a check prints.
-fn verdict(strict: bool, all: &[Told]) -> u8
-    ensures { result ≡ verdict strict all.now }
+/// The exit status for what a check finds.
+fn verdict(strict: bool, findings: &[Finding]) -> u8
+    ensures { result ≡ verdict strict findings.now }
 {
-    if has_errors(all) {
+    if has_faults(findings) {
         return 2;
     }
     if !strict {
         return 0;
     }
-    if has_any(all) {
+    if has_any(findings) {
         return 1;
     }
     0
@@ -266,33 +314,28 @@ fn status_with(written: u8, status: u8) -> u8
     if written == 0 { status } else { written }
 }
 
-/// Writes a text to standard output, and answers the exit status.
-fn put_text<S: System>(sys: &mut S, text: &Word) -> Result<u8, AllocError>
-    ensures puts { IfOk result
-        (λ status. PutsText (S.events sys.old) (S.events sys.new) text.now status) }
-    ensures memory { OnErr result (S.events sys.new ≡ S.events sys.old) }
-{
-    Ok(status_of(sys.put(text)?))
-}
-
 /// Writes what was found to standard output, and answers the exit status.
 #[tactic(auto, using(crate::proofs::FilesChecked::puts_report))]
 fn put_report<S: System>(
     alloc: Global,
     sys: &mut S,
     request: &Request,
-    checking: &Checking,
+    checking: Checking,
 ) -> Result<u8, AllocError>
     ensures puts { IfOk result
-        (λ status. PutsReport (S.events sys.old) (S.events sys.new)
-        request.now checking.now status) }
+        (λ status. PutsReport (S.events sys.old) (S.events sys.new) request.now checking status) }
     ensures memory { OnErr result (S.events sys.new ≡ S.events sys.old) }
 {
-    let sources = checking.sources.as_slice();
-    let all = all_told(alloc, request, sources, checking.findings.as_slice())?;
-    let text = report(alloc, request.json, all.as_slice())?;
-    let written = put_text(sys, &text)?;
-    Ok(status_with(written, verdict(request.strict, all.as_slice())))
+    let ended = is_full(&checking, MOST_FAULTS);
+    let found = shown_findings(alloc, request, checking.findings)?;
+    let findings = found.as_slice();
+    let told = Report {
+        told: all_told(alloc, checking.sources.as_slice(), first_findings(findings))?,
+        unshown: unshown(ended, findings),
+    };
+    let text = report(alloc, request.json, &told)?;
+    let written = put_visible(alloc, sys, &text)?;
+    Ok(status_with(written, verdict(request.strict, findings)))
 }
 
 /// Prints what was found.
@@ -301,9 +344,9 @@ fn tell_found<S: System>(
     alloc: Global,
     sys: &mut S,
     request: &Request,
-    checking: &Checking,
+    checking: Checking,
 ) -> Outcome
-    ensures { TellsFound (S.events sys.old) (S.events sys.new) request.now checking.now result }
+    ensures { TellsFound (S.events sys.old) (S.events sys.new) request.now checking result }
 {
     match put_report(alloc, sys, request, checking) {
         Ok(status) => Outcome::Ended(Ending::Done(status)),
@@ -311,8 +354,8 @@ fn tell_found<S: System>(
     }
 }
 
-/// Writes every fault of spec files to standard output and what is surely not meant, each with its
-/// place (GCC manual, "Spec Files"). It reads the files and those that they include, and does
+/// Writes the faults of spec files to standard output and what is surely not meant, 100 of them at
+/// most, each with its place (GCC manual, "Spec Files"). It reads the files and those that they include, and does
 /// nothing else: it starts no program and makes, changes and removes no file.
 pub fn tell_check<S: System>(alloc: Global, sys: &mut S, request: &Request) -> Outcome
     ensures { TellsCheck (S.events sys.old) (S.events sys.new) request.now result }
@@ -326,7 +369,7 @@ pub fn tell_check<S: System>(alloc: Global, sys: &mut S, request: &Request) -> O
         names: files,
     };
     match check_files(alloc, &check, sys, facts) {
-        Ok(checking) => tell_found(alloc, sys, request, &checking),
+        Ok(checking) => tell_found(alloc, sys, request, checking),
         Err(_) => Outcome::Ended(Ending::OutOfMemory),
     }
 }

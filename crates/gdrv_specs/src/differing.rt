@@ -17,6 +17,7 @@ ghost use Rattle.std.specs.Option.{option_map};
 ghost use Rattle.std.specs.Prelude.{◌≡◌, IfOk, OnErr, Some};
 
 use crate::outcome::Outcome;
+use crate::printing::put_visible;
 use drv_check::texts_difference;
 use drv_forms::{LineChange, changes, difference};
 use drv_run::{Ending, Refusal, Work, status_of, work_of_call};
@@ -270,22 +271,13 @@ fn difference_in(alloc: Global, work: &Work, other: &Work) -> Result<Option<Word
     plans_difference(alloc, plan_of(work), plan_of(other))
 }
 
-/// Writes a text to standard output, and answers the exit status.
-fn put_difference<S: System>(sys: &mut S, text: &Word) -> Result<u8, AllocError>
-    ensures puts { IfOk result
-        (λ status. PutsText (S.events sys.old) (S.events sys.new) text.now status) }
-    ensures memory { OnErr result (S.events sys.new ≡ S.events sys.old) }
-{
-    Ok(status_of(sys.put(text)?))
-}
-
 /// Prints what differs between two works.
 #[tactic(auto, using(crate::proofs::Differences::tells_put, crate::proofs::Differences::tells_short))]
-fn tell_text<S: System>(sys: &mut S, text: &Word) -> Outcome
+fn tell_text<S: System>(alloc: Global, sys: &mut S, text: &Word) -> Outcome
     ensures { (work work' : Work) → difference_in work work' ≡ Some text.now
         → TellsWorks (S.events sys.old) (S.events sys.new) work work' result }
 {
-    match put_difference(sys, text) {
+    match put_visible(alloc, sys, text) {
         Ok(status) => Outcome::Ended(Ending::Done(status)),
         Err(_) => Outcome::Ended(Ending::OutOfMemory),
     }
@@ -297,7 +289,7 @@ fn compare_works<S: System>(alloc: Global, sys: &mut S, work: &Work, other: &Wor
     ensures { TellsWorks (S.events sys.old) (S.events sys.new) work.now other.now result }
 {
     match difference_in(alloc, work, other) {
-        Ok(Some(text)) => tell_text(sys, &text),
+        Ok(Some(text)) => tell_text(alloc, sys, &text),
         Ok(None) => Outcome::NoPlan,
         Err(_) => Outcome::Ended(Ending::OutOfMemory),
     }

@@ -16,6 +16,7 @@ ghost use Rattle.std.specs.Prelude.{◌≡◌, IfOk, OnErr, Some, nat_eq, true};
 
 use crate::differing::{changes_of, dumps_of};
 use crate::outcome::Outcome;
+use crate::printing::put_visible;
 use crate::switches::{read_line, set_of};
 use drv_args::{Line, Settings};
 use drv_plan::Specified;
@@ -305,21 +306,12 @@ fn reasons<S: System>(
     }
 }
 
-/// Writes a text to standard output, and answers the exit status.
-fn put_reasons<S: System>(sys: &mut S, text: &Word) -> Result<u8, AllocError>
-    ensures puts { IfOk result
-        (λ status. PutsText (S.events sys.old) (S.events sys.new) text.now status) }
-    ensures memory { OnErr result (S.events sys.new ≡ S.events sys.old) }
-{
-    Ok(status_of(sys.put(text)?))
-}
-
 /// Prints the reasons of a line.
 #[tactic(auto, using(crate::proofs::Reasons::tells_put, crate::proofs::Reasons::tells_short))]
-pub(crate) fn tell_reasons<S: System>(sys: &mut S, text: &Word) -> Outcome
+pub(crate) fn tell_reasons<S: System>(alloc: Global, sys: &mut S, text: &Word) -> Outcome
     ensures { TellsText (S.events sys.old) (S.events sys.new) text.now result }
 {
-    match put_reasons(sys, text) {
+    match put_visible(alloc, sys, text) {
         Ok(status) => Outcome::Ended(Ending::Done(status)),
         Err(_) => Outcome::Ended(Ending::OutOfMemory),
     }
@@ -345,7 +337,7 @@ pub fn tell_why<S: System>(
         seed,
     };
     match reasons(alloc, &asked, &mut Outside { sys, facts }) {
-        Ok(text) => tell_reasons(sys, &text),
+        Ok(text) => tell_reasons(alloc, sys, &text),
         Err(ending) => Outcome::Ended(ending),
     }
 }

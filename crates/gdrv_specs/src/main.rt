@@ -16,6 +16,7 @@ mod help;
 mod noting;
 mod outcome;
 mod planning;
+mod printing;
 mod requesting;
 mod running;
 mod switches;
@@ -28,6 +29,7 @@ use calling::{Call, call_of};
 use checks::tell_check;
 use databases::tell_database;
 use differing::{Comparison, tell_difference};
+use drv_check::visible;
 use drv_run::{Ending, Refusal};
 use drv_system::{Event, HostSystem, Reporter, System, arguments, clock_seed, complain};
 use drv_why::Report;
@@ -56,12 +58,20 @@ const BAD_ARGUMENT: &[u8] = b"gdrv-specs: bad argument\n";
 /// The length of the longest path of a working directory.
 const LONGEST_PATH: usize = 4096;
 
+/// Writes a text to standard error, of whose bytes none steers a terminal.
+fn say(rt: &HostRuntime, text: &Word) {
+    match visible(rt.alloc(), text) {
+        Ok(shown) => complain(rt, shown.as_bytes()),
+        Err(_) => complain(rt, OUT_OF_MEMORY),
+    }
+}
+
 /// Tells the user of an outcome, and gives its exit status.
 fn finish(rt: &HostRuntime, outcome: &Outcome) -> ExitCode
     ensures { result.status ≡ status_of outcome.now }
 {
     match outcome.text(rt.alloc()) {
-        Ok(text) => complain(rt, text.as_bytes()),
+        Ok(text) => say(rt, &text),
         Err(_) => complain(rt, OUT_OF_MEMORY),
     }
     ExitCode::from(outcome.status())
@@ -215,7 +225,7 @@ fn tell_place(rt: &HostRuntime, outcome: &Outcome, journal: &[Event]) {
         return;
     };
     if let Ok(note) = call_note(rt.alloc(), &call, journal) {
-        complain(rt, note.as_bytes());
+        say(rt, &note);
     }
 }
 

@@ -7,8 +7,9 @@ ghost use Rattle.std.specs.Prelude.{◌≡◌, IfOk, List, OnErr, Ok, ℕ};
 
 use crate::answers::{AnswerFault, answers_of};
 use crate::outcome::Outcome;
+use crate::printing::put_visible;
 use drv_after::{Given, after, story};
-use drv_run::{Ending, Manner, Work, status_of, work_of_call};
+use drv_run::{Ending, Manner, Work, work_of_call};
 use drv_system::{FactTable, System};
 use drv_words::{Listing, Plan, Word};
 use std::alloc::{AllocError, Global};
@@ -35,7 +36,7 @@ fn put_run<S: System>(
     ensures memory { OnErr result (S.events sys.new ≡ S.events sys.old) }
 {
     let text = run_text(alloc, plan, manner, given)?;
-    Ok(status_of(sys.put(&text)?))
+    put_visible(alloc, sys, &text)
 }
 
 /// Tells the run of a plan over the answers that words gave.

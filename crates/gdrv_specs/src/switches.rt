@@ -146,7 +146,7 @@ pub fn tell_switches<S: System>(
 {
     let facts = &mut FactTable::new(alloc);
     match fates_of_call(alloc, report, line, &mut Outside { sys, facts }) {
-        Ok(text) => tell_reasons(sys, &text),
+        Ok(text) => tell_reasons(alloc, sys, &text),
         Err(ending) => Outcome::Ended(ending),
     }
 }

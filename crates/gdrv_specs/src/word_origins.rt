@@ -373,11 +373,11 @@ fn said_of_call<S: System>(
 
 /// Prints a text, or that there is no plan.
 #[tactic(auto, using(crate::proofs::WordsTold::tells_no_plan))]
-fn tell_said<S: System>(sys: &mut S, said: &Option<Word>) -> Outcome
+fn tell_said<S: System>(alloc: Global, sys: &mut S, said: &Option<Word>) -> Outcome
     ensures { TellsSaid (S.events sys.old) (S.events sys.new) said.now result }
 {
     match said {
-        Some(text) => tell_reasons(sys, text),
+        Some(text) => tell_reasons(alloc, sys, text),
         None => Outcome::NoPlan,
     }
 }
@@ -400,7 +400,7 @@ pub fn tell_words<S: System>(
 {
     let facts = &mut FactTable::new(alloc);
     match said_of_call(alloc, view, line, seed, &mut Outside { sys, facts }) {
-        Ok(said) => tell_said(sys, &said),
+        Ok(said) => tell_said(alloc, sys, &said),
         Err(ending) => Outcome::Ended(ending),
     }
 }
