@@ -241,9 +241,12 @@ module _ (F : Facts) (prefixes : Prefixes) where
       → (IsFile inner → Seeks new after (λ x. file_checked F prefixes never (levels - 1) x inner))
       → IfSome next IsFile → Seeks new after (λ x. entered (enters_at F prefixes never levels) x next)
   opens_inner levels new after next inner some within seeks is_file set findings =
-      let there = seeks (subst (λ o. IfSome o IsFile) some is_file) set findings in
-      (there.0, there.1, enters F prefixes never levels (beside new set findings) (beside after there.0 there.1) next inner some within
-      there.2)
+      let there = seeks (subst (λ o. IfSome o IsFile) some is_file) set findings in (
+        there.0,
+        there.1,
+        enters F prefixes never levels (beside new set findings) (beside after there.0 there.1) next inner some within
+            there.2,
+      )
 
   -- After the last piece none is left.
   pub all_sought : (levels : ℕ) (before c : Checking) (file : OpenFile) (items : List Piece) (n : ℕ) (whole : Checking → Known Checking)
@@ -295,7 +298,7 @@ module _ (F : Facts) (prefixes : Prefixes) where
         last.0,
         last.1,
         sym (name_done F prefixes never (beside c first.0 first.1) (beside after last.0 last.1) names n name (whole (beside before set
-        findings))
+            findings))
             below here refl last.2 (sym first.2)),
       )
 

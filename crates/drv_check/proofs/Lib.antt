@@ -29,7 +29,6 @@ mod PlainRuns
 mod RefusedFirst
 mod Reports
 mod SpotLaws
-mod SwitchNames
 mod TextOrigins
 mod TextsReached
 mod TokenMarks

@@ -150,15 +150,34 @@ module _ (F : Facts) (prefixes : Prefixes) (limit : Limit) (alike : IsByFaults l
       let read = checked_read text in
       subst (λ known. Follows (faults_of c.findings) c' known)
       (carried_alike (including F prefixes levels) read.0 (directives_of text) (record { set = c.set; files = left }) read.2)
-      (checks (record c { files = left; sources = c.sources ++ record { name = path; text = text; from = from; again = was_read c.sources
-      path } ∷ [] }) c'
+      (checks (record c {
+        files = left;
+        sources = c.sources ++ record {
+          name = path;
+          text = text;
+          from = from;
+          again = was_read c.sources
+              path;
+        } ∷ [];
+      }) c'
       (record (open_file (length c.sources) text) { again = was_read c.sources path }) (open_file (length c.sources) text).pieces read.0
       read.1
-      (alike (record c { files = left; sources = c.sources ++ record { name = path; text = text; from = from; again = was_read c.sources
-      path } ∷ [] }) c refl ∙ goes)
+      (alike (record c {
+        files = left;
+        sources = c.sources ++ record {
+          name = path;
+          text = text;
+          from = from;
+          again = was_read c.sources
+              path;
+        } ∷ [];
+      }) c refl ∙ goes)
       (begins F prefixes limit levels
-      (record c { files = left; sources = c.sources ++ record { name = path; text = text; from = from; again = was_read c.sources path } ∷
-      [] })
+      (record c {
+        files = left;
+        sources = c.sources ++ record { name = path; text = text; from = from; again = was_read c.sources path } ∷
+            [];
+      })
       (record (open_file (length c.sources) text) { again = was_read c.sources path }) ∙ is))
 
   module _ (levels left : ℕ) (checks : Checks levels) (c c' : Checking) (from : Option Spot) (may : Bool) (name : List ℕ)

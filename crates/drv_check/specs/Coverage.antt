@@ -5,7 +5,7 @@ use Rattle.std.specs.Prelude.{Bool, List, if◌then◌else◌, length, nat_lt, n
 
 -- What a test of a switch asks of a line (GCC manual, "Spec Files", %{S:X}): whether it hits one of its switches, some of which may be
 -- hidden.
--- For clauses of src/switch_names.rt, and laws of src/laws.rt.
+-- For clauses of src/token_warning.rt, and laws of src/laws.rt.
 
 -- the pattern of switches that a test has
 abbrev pub pattern_of : Label → Pattern

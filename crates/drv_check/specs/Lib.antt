@@ -25,7 +25,6 @@ pub mod Points
 pub mod Reached
 pub mod Shown
 pub mod Spots
-pub mod SwitchNames
 pub mod TokenWarnings
 pub mod Told
 pub mod UnusedTexts

@@ -58,13 +58,11 @@ mod marking;
 mod naming;
 mod reached;
 mod run_texts;
-mod switch_names;
 
 pub use mark_words::marked_text;
 pub use marking::{Joint, MarkedPart, marked_parts};
 pub use naming::{Deed, Naming, namings_of};
 pub use reached::{Roots, reached_dump};
-pub use switch_names::names_switch;
 
 // Which texts of two sets differ.
 mod differing;

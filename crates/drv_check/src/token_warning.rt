@@ -1,5 +1,6 @@
 //! What is surely not meant in the tokens of a text.
 
+ghost use Rattle.drv_check.specs.Coverage.{pattern_of};
 ghost use Rattle.drv_check.specs.OwnTexts.{own_start};
 ghost use Rattle.drv_check.specs.Points.{name_in};
 ghost use Rattle.drv_check.specs.TokenWarnings.{byte_before, ends_before, is_quote, mark_at};
@@ -20,7 +21,6 @@ use crate::lost_marks::{lone_size, push_all_lost};
 use crate::never_true::switch_warning;
 use crate::own_text::{own_start, own_tree};
 use crate::pointing::name_in;
-use crate::switch_names::pattern_at;
 use crate::unused_text::{Names, Whole, gcc_has};
 use crate::warning::Mark;
 use drv_match::Pattern;
@@ -70,6 +70,17 @@ fn quote_warning(before: Option<u8>, word: &[u8]) -> Option<Warning>
         Some(Warning::QuotedWord)
     } else {
         None
+    }
+}
+
+/// The pattern of the part at this place.
+fn pattern_at(tree: &SpecTree, place: usize) -> Pattern<'_>
+    requires { place < length (tokens_of (tree_of tree.now)) }
+    ensures { result ≡ pattern_of (label_at (tree_of tree.now) place) }
+{
+    Pattern {
+        name: tree.word(place),
+        star: tree.is_starred(place),
     }
 }
 
