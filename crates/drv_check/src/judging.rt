@@ -65,7 +65,6 @@ fn judge_piece(
 }
 
 /// Adds what the whole of the files shows of one.
-#[tactic(auto, using(crate::proofs::Judged::pieces_next))]
 fn judge_file(
     alloc: Global,
     findings: &mut Findings,
@@ -79,11 +78,12 @@ fn judge_file(
     let hidden = HiddenPieces::new(alloc, pieces)?;
     let mut place = 0;
     while place < pieces.len() {
+        let is_hidden = hidden.has(place);
         let here = FilePiece {
             file,
             piece: &pieces[place],
         };
-        judge_piece(alloc, findings, whole, &here, hidden.has(place))?;
+        judge_piece(alloc, findings, whole, &here, is_hidden)?;
         place += 1;
     }
     Ok(())
