@@ -4,7 +4,7 @@ use Rattle.drv_check.specs.Checked.{is_fault}
 use Rattle.drv_check.specs.declared.findings.Finding.{Finding}
 use Rattle.drv_check.specs.declared.findings.Note.TheVariants.{Fault, Warned}
 use Rattle.drv_check.specs.declared.findings.Note.{Note}
-use Rattle.std.proofs.Common.{◌≡◌, ◌∙◌, ◌+◌, ◌++◌, ◌∷◌, List, [], ap, arith, false, length, length-append, refl, sym, true, ℕ}
+use Rattle.std.proofs.Common.{◌≡◌, ◌∙◌, ◌+◌, ◌++◌, ◌∷◌, List, [], ap, arith, false, if◌then◌else◌, length, length-append, refl, sym, true, ℕ}
 
 -- For Findings (src/findings.rt): the number of faults is right, also after one finding more.
 -- Names: `before` and `after` are the findings before it and with it, `finding` is that finding, and `note` what it says. `faults` and

@@ -135,19 +135,18 @@ impl Findings {
     }
 
     /// Adds one thing that was found.
-    #[tactic(auto, using(crate::proofs::FaultsCounted::fault_counted, crate::proofs::FaultsCounted::warning_counted))]
     pub(crate) fn push(&mut self, finding: Finding) -> Result<(), AllocError>
         ensures { OnOk result (self.new ≡ self.old ++ finding ∷ []) }
     {
-        if !is_fault(&finding.note) {
+        if is_fault(&finding.note) {
+            let Some(faults) = self.faults.checked_add(1) else {
+                return Err(AllocError);
+            };
             self.all.push(finding)?;
+            self.faults = faults;
             return Ok(());
         }
-        let Some(faults) = self.faults.checked_add(1) else {
-            return Err(AllocError);
-        };
         self.all.push(finding)?;
-        self.faults = faults;
         Ok(())
     }
 
