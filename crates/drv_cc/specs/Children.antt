@@ -110,5 +110,5 @@ offload_words argument =
     if begins (codes "-") argument || list_any (λ b. b == equals) argument then (codes "-foffload-options=" ++ argument) ∷ [] else []
 
 -- the words of a switch for the children
-abbrev pub child_words : Item → List (List ℕ)
+unfoldable pub child_words : Item → List (List ℕ)
 child_words i = if begins offloading i.name then offload_words (offload_argument i) else words_of i

@@ -169,9 +169,13 @@ is_switch role.Switch = true
 is_switch role.Unknown = true
 is_switch _ = false
 
+-- whether an item is one that they get: a switch, or -v, which gcc counts as one
+abbrev pub is_passed : Item → Bool
+is_passed i = is_switch i.role || same i.name (codes "-v")
+
 -- the words of the line's switches
 abbrev pub switch_words : List Item → List (List ℕ)
-switch_words items = flat_map child_words (filter (λ i. is_switch i.role) items)
+switch_words items = flat_map child_words (filter is_passed items)
 
 -- the words for how the names of side files begin; none where nothing leads them
 abbrev pub dump_option : List ℕ → List (List ℕ)

@@ -1,7 +1,7 @@
 //! The switches of a line as one text, for its children.
 
 ghost use Rattle.drv_cc.specs.Front.{assembler_line, assembler_variables, children, compiler_words};
-ghost use Rattle.drv_cc.specs.Front.{dump_option, dump_words, has_pieces, is_switch};
+ghost use Rattle.drv_cc.specs.Front.{dump_option, dump_words, has_pieces, is_passed, is_switch};
 ghost use Rattle.drv_cc.specs.Front.{piece_byte, variables, variables_by};
 ghost use Rattle.drv_cc.specs.Front.{piece_text, piece_variables, quoted, quoted_byte, quoted_line};
 ghost use Rattle.drv_cc.specs.Front.{quoted_pieces, switch_words, variable};
@@ -68,6 +68,13 @@ fn is_switch(item: &Item) -> bool
     matches!(item.role, Role::Switch | Role::Unknown)
 }
 
+/// Whether the children get an item.
+fn is_passed(item: &Item) -> bool
+    ensures { result ≡ is_passed item.now }
+{
+    is_switch(item) || is(item.name.as_bytes(), b"-v")
+}
+
 /// Adds the words of the switches.
 pub(crate) fn add_switches(
     alloc: Global,
@@ -77,7 +84,7 @@ pub(crate) fn add_switches(
     ensures { OnOk result (words.new ≡ words.old ++ switch_words items.now) }
 {
     for item in items {
-        if is_switch(item) {
+        if is_passed(item) {
             add_child_words(alloc, item, words)?;
         }
     }

@@ -177,6 +177,7 @@ fn add_offload_words(
 }
 
 /// Adds the words of a switch for the children.
+#[tactic(auto, unfolding(crate::specs::Children::child_words))]
 pub(crate) fn add_child_words(
     alloc: Global,
     item: &Item,

@@ -64,7 +64,7 @@ first_none Step xs i before so past (events, is, so_far) = (
   events,
   is,
   subst (λ e. First Step xs e None) (append-nil events)
-      (so_far [] None (subst (λ ys. First Step ys [] None) (sym (drop_all xs i past)) none_left)),
+      (so_far [] None (subst (λ ys. First Step ys [] None) (sym (drop_all i xs past)) none_left)),
 )
 
 -- Where memory lacked for a step, nothing is said of what was found.

@@ -166,22 +166,12 @@ enum Verdict {
 }
 
 /// A line with an option, if one is given, by which a driver shows its plan.
-fn shown_line(alloc: Global, line: &[u8], option: &[u8], pipe: bool) -> Result<Word, Fault> {
+fn shown_line(alloc: Global, line: &[u8], option: &[u8]) -> Result<Word, Fault> {
     let mut whole = Word::from_bytes(alloc, b"-### ")?;
     whole.extend_from_slice(line)?;
     whole.push(b' ')?;
     whole.extend_from_slice(option)?;
-    if pipe {
-        whole.extend_from_slice(b" -pipe")?;
-    }
     Ok(whole)
-}
-
-/// Whether a driver shows a pipe.
-fn has_pipe(shown: &[u8]) -> bool {
-    shown
-        .split(|byte| *byte == b'\n')
-        .any(|line| line.ends_with(b" |"))
 }
 
 impl<'a> Pair<'a> {
@@ -190,12 +180,12 @@ impl<'a> Pair<'a> {
         ask(self.rt, &self.work.lines, program, line.as_bytes())
     }
 
-    /// How the two drivers take a line with an option. This driver adds `-pipe` by itself.
+    /// How the two drivers take a line with an option.
     fn verdict(self, line: &[u8], option: &[u8]) -> Result<Verdict, Fault> {
         let alloc = self.rt.alloc();
-        let ours = self.show(&self.work.driver, &shown_line(alloc, line, option, false)?)?;
-        let pipe = has_pipe(ours.err.as_bytes());
-        let theirs = self.show(self.gcc, &shown_line(alloc, line, option, pipe)?)?;
+        let shown = shown_line(alloc, line, option)?;
+        let ours = self.show(&self.work.driver, &shown)?;
+        let theirs = self.show(self.gcc, &shown)?;
         if !theirs.is_done || !ours.is_done {
             return Ok(if ours.is_done {
                 Verdict::Other

@@ -298,6 +298,7 @@ fn check_machines(pair: Pair<'_>, gathered: &mut Gathered) -> Result<Listing<Wor
     }
     gathered.choose(pair.rt.alloc())?;
     put_specs(pair, gathered)?;
+    put_gcc(pair, gathered)?;
     let refused = pair.others(others.as_slice())?;
     refuse(gathered, refused.as_slice())?;
     if pair.is_rooted_otherwise()? {

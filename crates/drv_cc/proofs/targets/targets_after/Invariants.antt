@@ -5,4 +5,4 @@ use Rattle.std.proofs.Common.{◌≡◌, drop}
 -- The loops of targets_after (src/targets.rt). The targets after the names of an item.
 
 abbrev pub invariant-loop-name : goal.invariant-loop-name
-invariant-loop-name l = targets_after l.after (drop l.name-index l.names) ≡ targets_after l.targets l.names
+invariant-loop-name l = targets_after l.after (drop l.name-index l.names) ≡ targets_after l.fn.targets l.names

@@ -17,7 +17,7 @@ returns-in_default g c =
 
 pub returns-in_err-found : goal.returns-in_err-found
 returns-in_err-found g c =
-    short_noted _ _ _ (λ e. ⊤) _ c.from_residual-in_err-found.result _ _ (_, c.in_ok-answer.ensures.event, tt) c.in_err-found.ensures
+    short_noted _ _ _ (λ e. Unit {0}) _ c.from_residual-in_err-found.result _ _ (_, c.in_ok-answer.ensures.event, tt) c.in_err-found.ensures
     c.from_residual-in_err-found.ensures.1
 
 pub returns : goal.returns

@@ -9,7 +9,7 @@ returns-then-is_at g c =
     asked_at c.args.path.now c.args.file.now c.in_ok-answer.answer _ _ _ c.in_ok-answer.ensures.event
     (sym (ap (λ b. if b then Some c.args.file.now.read_as else None) (sym c.is_at.ensures ∙ c.if-is_at.true)))
 
-pub returns-else-is_at : goal.returns-else-is_at
-returns-else-is_at g c =
+pub returns : goal.returns
+returns g c =
     asked_at c.args.path.now c.args.file.now c.in_ok-answer.answer _ _ _ c.in_ok-answer.ensures.event
     (sym (ap (λ b. if b then Some c.args.file.now.read_as else None) (sym c.is_at.ensures ∙ c.if-is_at.false)))
