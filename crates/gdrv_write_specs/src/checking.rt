@@ -248,12 +248,7 @@ impl<'a> Pair<'a> {
 
     /// Whether the gcc compiles with options.
     pub fn takes(self, options: &Word) -> Result<bool, Fault> {
-        let line = shown_line(
-            self.rt.alloc(),
-            b"-c x.c -o made",
-            options.as_bytes(),
-            false,
-        )?;
+        let line = shown_line(self.rt.alloc(), b"-c x.c -o made", options.as_bytes())?;
         Ok(self.show(self.gcc, &line)?.is_done)
     }
 
@@ -308,7 +303,7 @@ impl<'a> Pair<'a> {
 
     /// Whether the gcc leaves an option out of the line, as one that it supports no longer.
     pub fn is_dropped(self, option: &Word) -> Result<bool, Fault> {
-        let line = shown_line(self.rt.alloc(), b"-c x.c -o made", option.as_bytes(), false)?;
+        let line = shown_line(self.rt.alloc(), b"-c x.c -o made", option.as_bytes())?;
         let said = self.show(self.gcc, &line)?;
         Ok(said.is_done && has_bytes(said.err.as_bytes(), b"is no longer supported"))
     }
