@@ -7,6 +7,7 @@ use crate::children::push_children;
 use crate::choosing::{options_text, push_choosers};
 use crate::devices::has_devices;
 use crate::fault::{Fault, push_shown};
+use crate::finding::has_bytes;
 use crate::gathering::{Gathered, gather};
 use crate::machines::{add_test, test_of};
 use crate::names::{names_of, sort_lines};
@@ -20,7 +21,7 @@ use crate::wording::{with_refused, without_dropped};
 use crate::work_folder::{WorkFolder, absolute, join, try_place};
 use drv_gcc::{gcc_file, spec_file, values};
 use drv_system::complain;
-use drv_words::{Listing, Word, copy_words, split_at_last};
+use drv_words::{Listing, Word, base, copy_words, split_at_last};
 use itoa::Buffer;
 use std::alloc::Global;
 use std::env::current_exe;
@@ -167,13 +168,25 @@ fn push_stamps(pair: Pair<'_>, cc1: &Word, lines: &mut Word) -> Result<(), Fault
     Ok(())
 }
 
+/// The gcc that a link leads to, so that questions go to the program whose compiler the plans start.
+/// A program without `gcc` in its name may act by the name that it is called by, and keeps the link.
+fn own_path(rt: &HostRuntime, gcc: &Word) -> Result<Word, Fault> {
+    if let Ok(path) = fs::canonicalize(rt, text(gcc.as_bytes())?) {
+        let path = path.as_str().as_bytes();
+        if has_bytes(base(path), b"gcc") {
+            return Ok(Word::from_bytes(rt.alloc(), path)?);
+        }
+    }
+    Ok(gcc.clone()?)
+}
+
 /// Writes the file beside the spec file that names the gcc, and has its rows.
 fn put_gcc(pair: Pair<'_>, gathered: &Gathered) -> Result<(), Fault> {
     let lines = say_of_itself(pair)?;
     let folders = gathered.toolchain.folders.as_slice();
     let mut text = gcc_file(
         pair.rt.alloc(),
-        pair.gcc.as_bytes(),
+        own_path(pair.rt, pair.gcc)?.as_bytes(),
         folders,
         lines.as_slice(),
     )?;
