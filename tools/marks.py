@@ -18,6 +18,9 @@ def mark_of(text):
 
 
 def main():
+    if sys.argv[1:] in ([], ["--help"]):
+        print(__doc__)
+        return
     for path in sys.argv[1:]:
         with open(path, "r+b") as file:
             file.write(mark_of(file.read()))
