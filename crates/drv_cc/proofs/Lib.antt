@@ -4,6 +4,7 @@ mod Cuts
 mod Folders
 mod GivenAnswers
 mod Groups
+mod Joined
 mod Left
 mod Lines
 mod LinkLeading
