@@ -7,8 +7,7 @@ use Rattle.drv_check.specs.Agreement.{Agrees, all_loaded, fault_in, fault_of, fa
 use Rattle.drv_check.specs.Checked.{based, checked, checked_over, faults_alone, is_fault, tells_fault}
 use Rattle.drv_check.specs.Checks.{Enters, all_called, by_text, called, changed, entered, enters_at, file_checked, finding_of, noted}
 use Rattle.drv_check.specs.Checks.{empty_check, open_file, opened, opened_of, pieces_checked, put_aside, spot_in, step, stepped}
-use Rattle.drv_check.specs.Checks.{with_number}
-use Rattle.drv_check.specs.Checks.{warned}
+use Rattle.drv_check.specs.Checks.{new_marks, warned, with_number}
 use Rattle.drv_check.specs.Includes.{inclusion_in, read_text}
 use Rattle.drv_check.specs.Numbers.{AreRead, IsRead}
 use Rattle.drv_check.specs.Points.{front_length}

@@ -1,6 +1,7 @@
 use Rattle.drv_check.proofs.RefusedFirst.{until_agrees}
 use Rattle.drv_check.specs.Agreement.{Agrees, all_loaded, fault_in, faults_of}
 use Rattle.drv_check.specs.Checked.{is_fault}
+use Rattle.drv_check.specs.Checks.{all_called, is_full}
 use Rattle.drv_check.specs.FaultNotes.{IsFirst, fault_note, first_fault, note_of, noted_along, unchecked_over}
 use Rattle.drv_check.specs.declared.findings.Checking.{Checking}
 use Rattle.drv_check.specs.declared.findings.Finding.{Finding}
