@@ -10,7 +10,8 @@ use Rattle.std.specs.Prelude.{◌==◌, get_or}
 -- For report_text and report_json (src/told.rt and src/told_json.rt): findings are printed one after another.
 -- Names: `before` and `after` are what is printed before a place and after it, and `whole` the whole. `place` is the one at index `n` of
 -- `places`. `old` is the tokens before an object, `t1` to `t4` those after each step, and `new` those after its end. `k` and `k'` are the
--- two keys, `value` and `values` what follows them, and `end` the object's end. `more` is how many findings aren't shown. `result` is what the code's call gives.
+-- two keys, `value` and `values` what follows them, and `end` the object's end. `unshown` is how many findings aren't shown, if that is
+-- known, and `more` that number. `result` is what the code's call gives.
 
 -- the places where files are included
 pub places_next : (before after : List ℕ) (places : List Place) (n : ℕ) (place : Place) (whole : List ℕ) → n < length places
