@@ -20,11 +20,11 @@ use Rattle.gdrv_specs.specs.Told.{Shows, ShowsText}
 use Rattle.gdrv_specs.specs.declared.outcome.Outcome.TheVariants.{Ended}
 use Rattle.gdrv_specs.specs.declared.outcome.Outcome.{Outcome}
 use Rattle.gdrv_specs.specs.declared.requesting.Request.{Request}
-use Rattle.std.proofs.Common.{◌≡◌, ◌∙◌, ◌<◌, ◌+◌, ◌-◌, ◌++◌, ◌∷◌, Bool, Bor, Err, List, None, Ok, OnOk, Option, Result, Some, [], ap}
-use Rattle.std.proofs.Common.{append_assoc, arith, drop, false, if◌then◌else◌, inl, inr, length, refl, subst, suc, sym, true, zero, ℕ}
-use Rattle.std.proofs.lemmas.List.{append-nil, drop_more}
+use Rattle.std.proofs.Common.{◌≡◌, ◌∙◌, ◌<◌, ◌-◌, ◌++◌, ◌∷◌, Bool, Bor, Err, List, None, Ok, OnOk, Option, Result, Some, [], ap}
+use Rattle.std.proofs.Common.{append_assoc, arith, false, if◌then◌else◌, inl, inr, refl, subst, suc, sym, true, zero, ℕ}
+use Rattle.std.proofs.lemmas.List.{append-nil}
 use Rattle.std.specs.Option.{option_map}
-use Rattle.std.specs.Prelude.{filter, get_or, map, slice_get}
+use Rattle.std.specs.Prelude.{filter, map, slice_get}
 
 -- For `tell_check` (src/checks.rt): the call prints what is found in spec files.
 -- Names: `journal` is the events of the system before, `journal'` after the questions, and `journal''` at the end. `F`, `F'` and `G` are
