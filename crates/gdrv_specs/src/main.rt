@@ -53,8 +53,6 @@ use word_origins::tell_words;
 
 const OUT_OF_MEMORY: &[u8] = b"gdrv-specs: out of memory\n";
 
-const BAD_ARGUMENT: &[u8] = b"gdrv-specs: bad argument\n";
-
 /// The length of the longest path of a working directory.
 const LONGEST_PATH: usize = 4096;
 
@@ -81,10 +79,9 @@ fn finish(rt: &HostRuntime, outcome: &Outcome) -> ExitCode
 fn without_arguments(rt: &HostRuntime, error: &io::Error) -> ExitCode
     ensures { result.status ≡ 1 }
 {
-    if error.kind() == ErrorKind::OutOfMemory {
-        complain(rt, OUT_OF_MEMORY);
-    } else {
-        complain(rt, BAD_ARGUMENT);
+    match format!(in rt.alloc(); "gdrv-specs: {error}\n") {
+        Ok(text) if error.kind() != ErrorKind::OutOfMemory => complain(rt, text.as_bytes()),
+        _ => complain(rt, OUT_OF_MEMORY),
     }
     ExitCode::from(1)
 }

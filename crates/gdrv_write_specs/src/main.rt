@@ -56,8 +56,6 @@ use version::VERSION;
 
 const OUT_OF_MEMORY: &[u8] = b"gdrv-write-specs: out of memory\n";
 
-const BAD_ARGUMENT: &[u8] = b"gdrv-write-specs: bad argument\n";
-
 /// Ends with status 1, and says why.
 fn refuse(rt: &HostRuntime, text: Result<Word, AllocError>) -> ExitCode {
     match text {
@@ -124,8 +122,11 @@ fn act(rt: &HostRuntime, call: Result<Call, CallFault>) -> ExitCode {
 fn main(rt: HostRuntime) -> ExitCode {
     match arguments(&rt) {
         Ok(words) => act(&rt, call_of(rt.alloc(), words.as_slice())),
-        Err(_) => {
-            complain(&rt, BAD_ARGUMENT);
+        Err(error) => {
+            match format!(in rt.alloc(); "gdrv-write-specs: {error}\n") {
+                Ok(text) => complain(&rt, text.as_bytes()),
+                Err(_) => complain(&rt, OUT_OF_MEMORY),
+            }
             ExitCode::from(1)
         }
     }
