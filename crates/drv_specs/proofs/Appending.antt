@@ -2,53 +2,46 @@ use Rattle.drv_specs.specs.Blanks.{is_white}
 use Rattle.drv_specs.specs.Sets.{Set, append, appended_text, by_tree, put, text_of, with_named}
 use Rattle.drv_specs.specs.declared.fault.SpecsFault.{SpecsFault}
 use Rattle.drv_syntax.specs.Outcome.{parsed}
-use Rattle.indexmap.specs.IndexMap.{insert_entry}
-use Rattle.std.proofs.Common.{◌≡◌, ◌∙◌, Bool, List, [], ◌∷◌, ap, false, refl, sym, true, ℕ}
-use Rattle.std.specs.Cmp.Lexicographic.{nat_list_eq_equiv, pointwise}
-use Rattle.std.specs.List.{list_all}
-use Rattle.std.specs.Prelude.{Ok, Option, Result, if◌then◌else◌, nat_eq}
+use Rattle.std.proofs.Common.{◌≡◌, ◌∙◌, ◌++◌, Bool, List, ap, append_assoc, drop, false, length, nat_eq, sym, take, true, ℕ}
+use Rattle.std.proofs.Common.{take-append-drop}
+use Rattle.std.specs.Cmp.Lexicographic.{same_text}
+use Rattle.std.specs.List.{list_all, starts_with}
+use Rattle.std.specs.Prelude.{Err, Ok, Result, if◌then◌else◌}
 
--- For `append` (a body that begins with + and a blank): the code takes the text out of the map, changes it and puts it back, which gives
--- what one put gives.
--- Names: `s` is a set. `name` is the name of a text. `text` is a text. `with_named` puts a text under a name.
+-- For `append` (a body that begins with + and a blank): the code puts a text that was made of the one that is there.
+-- Names: `set` is a set, and `new` the set after. `name` is the name of a text. `text` is a text. `with_named` puts a text under a name.
 
--- a name that is put twice has the second text
-entry_twice : (name text other : List ℕ) (es : List (List ℕ × List ℕ))
-    → insert_entry (pointwise nat_eq) (insert_entry (pointwise nat_eq) es name other) name text
-    ≡ insert_entry (pointwise nat_eq) es name text
-entry_twice name text other [] = rw (nat_list_eq_equiv.refl name) refl
-entry_twice name text other (e ∷ es) = by (pointwise nat_eq name e.0) refl (entry_twice name text other es)
-  where
-    -- Plan: by whether the first entry has the name.
-    by : (hit : Bool) → pointwise nat_eq name e.0 ≡ hit
-        → insert_entry (pointwise nat_eq) (insert_entry (pointwise nat_eq) es name other) name text
-        ≡ insert_entry (pointwise nat_eq) es name text
-        → insert_entry (pointwise nat_eq) (insert_entry (pointwise nat_eq) (e ∷ es) name other) name text
-        ≡ insert_entry (pointwise nat_eq) (e ∷ es) name text
-    by true is later = rw (is, is) refl
-    by false is later = rw (is, is) (ap (λ rest. e ∷ rest) later)
-
--- in a set, a name that is put twice has the second text
-pub named_twice : (set : Set) (name text other : List ℕ) → with_named (with_named set name other) name text ≡ with_named set name text
-named_twice set name text other = ap (λ (named : List (List ℕ × List ℕ)). named_as named) (entry_twice name text other set.named)
-  where
-    -- Plan: `named_as` is the set with other named texts.
-    named_as : List (List ℕ × List ℕ) → Set
-    named_as named = record set { named = named }
-
--- an append: the text of the name is taken, what is added goes to its end, and the text is put back
-pub appended_puts : (set mid new : Set) (name addition text : List ℕ) (old : Option (List ℕ)) → false ≡ list_all is_white addition
-    → old ≡ text_of set name → mid ≡ with_named set name []
-    → ((s : Set) → by_tree name s (parsed (appended_text old addition)) ≡ Ok s) → text ≡ appended_text old addition
-    → new ≡ with_named mid name text → append set name addition ≡ Ok new
-appended_puts set mid new name addition text old white there taken tree is back =
+-- an addition that is not white space alone is a put of the longer text
+append_put : (set : Set) (name addition : List ℕ) → false ≡ list_all is_white addition
+    → append set name addition ≡ put set name (appended_text (text_of set name) addition)
+append_put set name addition white =
     ap (λ (t : Bool). if t then Ok set else put set name (appended_text (text_of set name) addition)) (sym white)
-    ∙ ap (λ (o : Option (List ℕ)). put set name (appended_text o addition)) (sym there)
-    ∙ tree (with_named set name (appended_text old addition))
+
+-- an append: the longer text is put
+pub appended_puts : (set mid new : Set) (name addition text : List ℕ) → false ≡ list_all is_white addition → mid ≡ set
+    → ((s : Set) → by_tree name s (parsed (appended_text (text_of set name) addition)) ≡ Ok s)
+    → text ≡ appended_text (text_of set name) addition → new ≡ with_named mid name text → append set name addition ≡ Ok new
+appended_puts set mid new name addition text white same tree is there =
+    append_put set name addition white ∙ tree (with_named set name (appended_text (text_of set name) addition))
     ∙ ap (λ (s : Set). passed s)
-    (sym (back ∙ ap (λ (s : Set). with_named s name text) taken ∙ named_twice set name text []
-    ∙ ap (λ (t : List ℕ). with_named set name t) is))
+    (sym (there ∙ ap (λ (s : Set). with_named s name text) same ∙ ap (λ (t : List ℕ). with_named set name t) is))
   where
     -- Plan: `passed` is the set as the result of an append.
     passed : Set → Result Set SpecsFault
     passed s = Ok s
+
+-- a longer text that has no tree is refused
+pub appended_refused : (set : Set) (name addition : List ℕ) (fault : SpecsFault) → false ≡ list_all is_white addition
+    → by_tree name (with_named set name (appended_text (text_of set name) addition)) (parsed (appended_text (text_of set name) addition))
+    ≡ Err fault → append set name addition ≡ Err fault
+appended_refused set name addition fault white is = append_put set name addition white ∙ is
+
+-- a text that begins with another is that one and what follows it; so an addition may be made to the shorter one
+pub read_on : (text front rest added more : List ℕ) → true ≡ starts_with nat_eq text front → rest ≡ drop (length front) text
+    → added ≡ rest ++ more → front ++ added ≡ text ++ more
+read_on text front rest added more begins is whole =
+    let front_is : front ≡ take (length front) text = same_text front (take (length front) text) begins in
+    let text_is : text ≡ front ++ rest =
+    sym (take-append-drop (length front) text) ∙ ap (λ (t : List ℕ). t ++ drop (length front) text) (sym front_is)
+    ∙ ap (λ (t : List ℕ). front ++ t) (sym is) in
+    ap (λ (t : List ℕ). front ++ t) whole ∙ sym (append_assoc front rest more) ∙ ap (λ (t : List ℕ). t ++ more) (sym text_is)

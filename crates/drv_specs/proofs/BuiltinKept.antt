@@ -8,9 +8,10 @@ use Rattle.drv_specs.specs.Kept.{Each, IsPair, Kept}
 use Rattle.drv_specs.specs.Lines.{lines_of}
 use Rattle.drv_specs.specs.Loading.{all_carried, including, loaded, most_files, set_in, then_by}
 use Rattle.drv_specs.specs.Sets.{Set, no_specs}
+use Rattle.drv_specs.specs.declared.fault.SpecsFault.{SpecsFault}
 use Rattle.drv_system.specs.Facts.{no_facts}
 use Rattle.drv_system.specs.Known.{Is}
-use Rattle.std.proofs.Common.{◌≡◌, ◌∙◌, ◌∷◌, [], Bool, List, Ok, ap, false, refl, subst, sym, true}
+use Rattle.std.proofs.Common.{◌≡◌, ◌∙◌, ◌∷◌, [], Bool, List, Ok, Result, ap, false, refl, subst, sym, true}
 use Rattle.std.specs.List.{IsDistinct, filter}
 use Rattle.std.specs.Prelude.{cond}
 
@@ -68,14 +69,18 @@ suffixes_kept : Kept suffixes
 unfolding IsDistinct
 suffixes_kept = record { named = tt; pairs = each_filter IsPair has_no_text builtin_pairs builtin_kept.pairs; distinct = tt }
 
+-- a result as the maker of a set gives it
+abbrev pub given : Set → Result Set SpecsFault
+given set = Ok set
+
 -- the built-in pairs without texts alone have the invariant
-pub kept_suffixes : (set : Set) → set ≡ suffixes → Kept set
-kept_suffixes set is = subst Kept (sym is) suffixes_kept
+pub kept_suffixes : (set : Set) → given suffixes ≡ given set → Kept set
+kept_suffixes set is = let same : suffixes ≡ set = cc in subst Kept same suffixes_kept
 
 -- the empty set has the invariant
 pub kept_empty : (set : Set) → set ≡ no_specs → Kept set
 kept_empty set is = subst Kept (sym is) empty_kept
 
 -- the built-in set has the invariant
-pub kept_builtin : (set : Set) → set ≡ builtin_specs → Kept set
-kept_builtin set is = subst Kept (sym is) builtin_kept
+pub kept_builtin : (set : Set) → given builtin_specs ≡ given set → Kept set
+kept_builtin set is = let same : builtin_specs ≡ set = cc in subst Kept same builtin_kept

@@ -9,10 +9,13 @@ use Rattle.drv_specs.specs.Loading.{loaded, most_files, set_in, then_by, worked}
 use Rattle.drv_specs.specs.Sets.{Set, with_name, with_pair_body, with_text}
 use Rattle.drv_specs.specs.declared.directive.IfMissing.TheVariants.{Refuse}
 use Rattle.drv_specs.specs.declared.directive.IfMissing.{IfMissing}
+use Rattle.drv_specs.specs.declared.fault.SpecsFault.TheVariants.{Memory}
 use Rattle.drv_specs.specs.declared.fault.SpecsFault.{SpecsFault}
 use Rattle.drv_system.specs.Facts.{Facts}
+use Rattle.drv_system.specs.Gives.{GivesKnown}
 use Rattle.drv_system.specs.Known.{Is, Known, Unasked}
-use Rattle.std.proofs.Common.{◌≡◌, Err, List, [], ◌∷◌, Ok, Result, refl, subst, suc, zero, ℕ, ap, sym, ◌∙◌}
+use Rattle.std.proofs.Common.{◌≡◌, Err, List, [], ◌∷◌, None, Ok, Option, Result, Some, refl, subst, suc, zero, ℕ, ap, sym, ◌∙◌}
+use Rattle.std.specs.Prelude.{IfNone, OnErr}
 
 -- For loading_keeps: loading a text or a file keeps the invariant of a set (`Kept`), whatever files it includes.
 -- Names: `set` is the set before. `set'` is the set after. `files` is how many files may still be read. `name` is the name of a text. `inc`
@@ -100,6 +103,12 @@ module _ (F : Facts) (prefixes : Prefixes) where
   settled_keeps set set' files left settled kept is =
       worked_keeps set set' files settled.0 kept (ap (λ l. worked F prefixes set files (read_settled l)) (sym settled.1) ∙ is)
 
+  -- and so does one that was carried out alone, which is refused without a change
+  pub alone_keeps : {X : Type 0} (set set' : Set) (files : ℕ) (left : List ℕ) → IsSettled left → Kept set → (done : Result X SpecsFault)
+      → GivesKnown Memory (λ x. set') done (worked F prefixes set files (read_settled left)) → OnErr done (set' ≡ set) → Kept set'
+  alone_keeps set set' files left settled kept (Ok x) gives same = settled_keeps set set' files left settled kept gives
+  alone_keeps set set' files left settled kept (Err e) gives same = subst Kept (sym same) kept
+
   -- a text that is loaded keeps the invariant
   pub loaded_keeps : (set set' : Set) (text : List ℕ) → Kept set → loaded F prefixes set text ≡ Is (Ok set') → Kept set'
   unfolding loaded
@@ -111,3 +120,9 @@ module _ (F : Facts) (prefixes : Prefixes) where
   file_loaded_keeps set set' name kept is =
       set_by (including F prefixes 16 (record { set = set; files = most_files }) Refuse name) set' is
       (λ c given. including_keeps 16 (record { set = set; files = most_files }) Refuse name c given kept)
+
+-- a set of which nothing was carried out is as it was
+pub same_alone : {X : Type 0} (result : Option X) (set set' : Set) → ((x : X) → result ≡ Some x → ⊥) → IfNone result (set' ≡ set)
+    → Kept set → Kept set'
+same_alone None set set' none same kept = subst Kept (sym same) kept
+same_alone (Some x) set set' none same kept = absurd (none x refl)

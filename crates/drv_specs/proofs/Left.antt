@@ -12,7 +12,7 @@ use Rattle.std.specs.Global.{Vec}
 use Rattle.std.specs.List.{AllByRecursion, AllZip, IsDistinct}
 use Rattle.std.specs.Map.{keys_of, lookup, remove_entry, set_key, set_value, values_of}
 use Rattle.std.specs.Option.{option_flatten, option_map}
-use Rattle.std.specs.Prelude.{⊤, slice_get, vec_len}
+use Rattle.std.specs.Prelude.{⊤, Err, Ok, OnErr, Result, slice_get, vec_len}
 
 -- For the map of named texts (named_texts.rt): a deleted name keeps its entry, which has no text, so no other name moves. `texts_left` is
 -- the list of the texts that are left. Each change of the map changes that list as the definitions change the list of a set.
@@ -393,3 +393,9 @@ left_copied R same [] (e ∷ copies) alike = absurd alike
 left_copied R same (e ∷ es) [] alike = absurd alike
 left_copied R same (e ∷ es) (copy ∷ copies) alike =
     λ j. with_left (same_bytes e.0.items copy.0.items alike.0.0.0 j) (same e.1 copy.1 alike.0.1 j) (left_copied R same es copies alike.1 j)
+
+-- a name that has no text loses none where a call fails
+pub no_text_lost : {X E : Type 0} (result : Result X E) (found : Option (List ℕ)) (P : Type 0) → None ≡ found
+    → OnErr result (is_some found ≡ true → P)
+no_text_lost (Ok x) found P none = tt
+no_text_lost (Err e) found P none = λ has. absurd (let wrong : false ≡ true = ap is_some none ∙ has in cc)

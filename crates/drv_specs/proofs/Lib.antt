@@ -20,5 +20,4 @@ pub mod Sliced
 pub mod Tabled
 pub mod TreeChecks
 pub mod Trimming
-pub mod WrittenTrees
 mod Rows

@@ -1,178 +1,167 @@
 //! The built-in specs.
 
-// In clauses: `IsPairRow` says that the tree of a row is that of its text.
-ghost use Rattle.drv_specs.specs.Builtin.{builtin_named, builtin_pairs, builtin_specs, has_no_text};
-ghost use Rattle.drv_specs.specs.Builtin.{suffixes};
-ghost use Rattle.drv_specs.specs.Code.Tables.{IsNamedRow, IsPairRow, IsWritten, all_added, all_put};
-ghost use Rattle.drv_specs.specs.Code.Tables.{named_shown, pair_shown, text_shown, with_alone};
-ghost use Rattle.drv_specs.specs.Sets.{with_named, with_pair};
-ghost use Rattle.std.specs.List.{All, AllByRecursion, filter};
-ghost use Rattle.std.specs.Prelude.{◌≡◌, IfOk, OnOk, map};
+// In clauses: `Gives` says that a result is the defined one, or lack of memory.
+ghost use Rattle.drv_specs.specs.Builtin.{builtin_named, builtin_specs, suffixes};
+ghost use Rattle.drv_specs.specs.Code.Tables.{all_added, all_put, languages, row_shown};
+ghost use Rattle.drv_specs.specs.declared.fault.SpecsFault.TheVariants as fault;
+ghost use Rattle.drv_words.specs.Gives.{Gives};
+ghost use Rattle.std.specs.Prelude.{◌≡◌, IfOk, Ok, map};
 
-use crate::SpecSet;
-use crate::builtin_trees::{NAMED, PAIRS};
 use crate::entries::Entries;
-use crate::text::Text;
-use drv_syntax::{SpecTree, WrittenTree};
+use crate::{SpecSet, SpecsFault};
 use std::alloc::{AllocError, Global};
 
 /// Room for the named texts of a spec file for a real compiler.
 const TEXTS_OF_A_FILE: usize = 64;
 
-/// A named text.
+/// A name or a key, and its text.
 #[derive(Clone, Copy)]
-pub(crate) struct Named {
-    /// Its name.
-    pub(crate) name: &'static [u8],
-    /// The text with its tree.
-    pub(crate) tree: WrittenTree,
+struct Row {
+    name: &'static [u8],
+    text: &'static [u8],
 }
 
-/// The text of a pair.
-#[derive(Clone, Copy)]
-pub(crate) enum PairText {
-    /// An alias, or that a language isn't installed.
-    Alone(&'static [u8]),
-    /// A text that is run, with its tree.
-    Worked(WrittenTree),
-}
-
-/// A suffix or a language, and its text.
-#[derive(Clone, Copy)]
-pub(crate) struct Pair {
-    /// The suffix, or `@` and the language.
-    pub(crate) key: &'static [u8],
-    /// Its text.
-    pub(crate) text: PairText,
+/// Names or keys, each with its text.
+macro_rules! rows {
+    ($($name:literal $text:literal),*) => { [$(Row { name: $name, text: $text }),*] };
 }
 
 /// The named texts.
-fn named_rows() -> &'static [Named]
-    ensures texts { map named_shown result.now ≡ builtin_named }
-    ensures trees { AllByRecursion IsNamedRow result.now }
+const NAMED: [Row; 19] = rows!(
+    b"asm" b"%{mcpu=*}",
+    b"cpp" b"%{posix:-D_POSIX_SOURCE}",
+    b"cc1" b"%{mcpu=*}",
+    b"endfile" b"crtend.o%s crtn.o%s",
+    b"link" b"%{shared} %{static}",
+    b"lib" b"-lc",
+    b"libgcc" b"-lgcc",
+    b"link_gcc_c_sequence" b"%G %L",
+    b"linker" b"rectool link",
+    b"signed_char" b"%{funsigned-char:-D__CHAR_UNSIGNED__}",
+    b"startfile" b"crt1.o%s crti.o%s",
+    b"cpp_cmd" b"rectool cpp",
+    b"cc1_cmd" b"rectool cc1",
+    b"as_cmd" b"rectool as",
+    b"cpp_unique_options" b"%{nostdinc*} %{C} %{P} %{D*&U*} %{I*} %{M*} %{i*}",
+    b"cpp_options" b"%(cpp_unique_options) %{std=*} %C %Z",
+    b"cc1_options" b"%{O*} %{g*} %{f*} %{W*} %{w} %1",
+    b"asm_options" b"%{g*} %a %Y %{c:%W{o*}%{!o*:-o %w%b%O}}%{!c:-o %w%u%O}",
+    b"link_command" b"%{!E:%{!S:%{!c:%(linker) %l %{e*} %{r} %{s} %{t} %{T*} %{u*} %{z} %{L*} %X \
+        %W{o*}%{!o*:-o %wa.out} %{!nostdlib:%{!r:%{!nostartfiles:%S}}} %o \
+        %{!nostdlib:%{!r:%{!nodefaultlibs:%(link_gcc_c_sequence)} %{!nostartfiles:%E}}}}}}"
+);
+
+/// The pairs that have no text to run: suffixes that name a language, and languages that are not
+/// installed.
+const SUFFIXES: [Row; 23] = rows!(
+    b".c" b"@c",
+    b".i" b"@cpp-output",
+    b".s" b"@assembler",
+    b".S" b"@assembler-with-cpp",
+    b".sx" b"@assembler-with-cpp",
+    b".h" b"#C header",
+    b".cc" b"#C++",
+    b".cp" b"#C++",
+    b".cxx" b"#C++",
+    b".cpp" b"#C++",
+    b".CPP" b"#C++",
+    b".c++" b"#C++",
+    b".C" b"#C++",
+    b".ii" b"#C++",
+    b".m" b"#Objective-C",
+    b".mi" b"#Objective-C",
+    b".mm" b"#Objective-C++",
+    b".M" b"#Objective-C++",
+    b".mii" b"#Objective-C++",
+    b"@c-header" b"#C header",
+    b"@c++" b"#C++",
+    b"@c++-cpp-output" b"#C++",
+    b"@objective-c" b"#Objective-C"
+);
+
+/// The languages that have a text.
+const LANGUAGES: [Row; 4] = rows!(
+    b"@c" b"%{E:%(cpp_cmd) %(cpp_options) %i %W{o*} %V}%{!E:%(cc1_cmd) %(cpp_options) \
+        %(cc1_options) %i %{S:%W{o*}%{!o*:-o %w%b.s}}%{!S:-o %|.s |\n %(as_cmd) %(asm_options) \
+        %m.s %A}}",
+    b"@cpp-output" b"%{!E:%(cc1_cmd) %(cc1_options) %i %{S:%W{o*}%{!o*:-o %w%b.s}}%{!S:-o %|.s \
+        |\n %(as_cmd) %(asm_options) %m.s %A}}",
+    b"@assembler" b"%{!E:%{!S:%(as_cmd) %(asm_options) %i %A}}",
+    b"@assembler-with-cpp" b"%{E:%(cpp_cmd) %(cpp_options) %i %W{o*} %V}%{!E:%{!S:%(cpp_cmd) \
+        %(cpp_options) %i -o %|.s |\n %(as_cmd) %(asm_options) %m.s %A}}"
+);
+
+/// The named texts.
+fn named_rows() -> &'static [Row]
+    ensures { map row_shown result.now ≡ builtin_named }
 {
     &NAMED
 }
 
-/// The suffixes and the languages.
-fn pair_rows() -> &'static [Pair]
-    ensures texts { map pair_shown result.now ≡ builtin_pairs }
-    ensures trees { AllByRecursion IsPairRow result.now }
+/// The pairs that have no text to run.
+fn suffix_rows() -> &'static [Row]
+    ensures { map row_shown result.now ≡ suffixes.pairs }
 {
-    &PAIRS
+    &SUFFIXES
 }
 
-impl Entries {
-    /// A text with its tree.
-    #[tactic(auto, using(crate::proofs::WrittenTrees::is_tree))]
-    fn text_with_tree(&self, tree: WrittenTree) -> Result<Text, AllocError>
-        requires { IsWritten tree }
-        ensures { IfOk result (λ text. text ≡ tree.text.now) }
-    {
-        let tree = SpecTree::from_written(self.alloc(), tree)?;
-        Text::new(self.alloc(), tree)
-    }
-
-    /// Puts a named text.
-    fn put_written(&mut self, row: Named) -> Result<(), AllocError>
-        requires { IsNamedRow row }
-        ensures { OnOk result (self.new ≡ with_named self.old row.name.now row.tree.text.now) }
-    {
-        let text = self.text_with_tree(row.tree)?;
-        self.insert(row.name, text)
-    }
-
-    /// Adds a pair.
-    fn add_written(&mut self, row: Pair) -> Result<(), AllocError>
-        requires { IsPairRow row }
-        ensures { OnOk result (self.new ≡ with_pair self.old row.key.now (text_shown row.text)) }
-    {
-        match row.text {
-            PairText::Alone(text) => self.push_pair(row.key, text, None),
-            PairText::Worked(tree) => {
-                let text = self.text_with_tree(tree)?;
-                self.push_pair(row.key, tree.text, Some(text))
-            }
-        }
-    }
-
-    /// Adds a pair if it has no text to run.
-    fn add_if_alone(&mut self, row: Pair) -> Result<(), AllocError>
-        requires { IsPairRow row }
-        ensures { OnOk result (self.new ≡ with_alone self.old (pair_shown row)) }
-    {
-        match row.text {
-            PairText::Alone(text) => self.push_pair(row.key, text, None),
-            PairText::Worked(_) => Ok(()),
-        }
-    }
+/// The languages that have a text.
+fn language_rows() -> &'static [Row]
+    ensures { map row_shown result.now ≡ languages }
+{
+    &LANGUAGES
 }
 
-/// Puts the texts of rows.
-fn put_rows(entries: &mut Entries, rows: &[Named]) -> Result<(), AllocError>
-    requires { All IsNamedRow rows.now }
-    ensures { OnOk result (entries.new ≡ all_put entries.old (map named_shown rows.now)) }
+/// Puts the texts of rows under their names.
+fn put_rows(entries: &mut Entries, rows: &[Row]) -> Result<(), SpecsFault>
+    ensures { Gives fault.Memory (λ _. entries.new) result
+        (all_put entries.old (map row_shown rows.now)) }
 {
     for row in rows {
-        entries.put_written(*row)?;
+        entries.put(row.name, row.text)?;
     }
     Ok(())
 }
 
 /// Adds the pairs of rows.
-fn add_rows(entries: &mut Entries, rows: &[Pair]) -> Result<(), AllocError>
-    requires { All IsPairRow rows.now }
-    ensures { OnOk result (entries.new ≡ all_added entries.old (map pair_shown rows.now)) }
+fn add_rows(entries: &mut Entries, rows: &[Row]) -> Result<(), SpecsFault>
+    ensures { Gives fault.Memory (λ _. entries.new) result
+        (all_added entries.old (map row_shown rows.now)) }
 {
     for row in rows {
-        entries.add_written(*row)?;
-    }
-    Ok(())
-}
-
-/// Adds those pairs of rows that have no text to run.
-#[tactic(auto, using(crate::proofs::Tabled::alone_added))]
-fn add_alone(entries: &mut Entries, rows: &[Pair]) -> Result<(), AllocError>
-    requires { All IsPairRow rows.now }
-    ensures { OnOk result (entries.new ≡ all_added entries.old
-        (filter has_no_text (map pair_shown rows.now))) }
-{
-    for row in rows {
-        entries.add_if_alone(*row)?;
+        entries.add_pair_text(row.name, row.text)?;
     }
     Ok(())
 }
 
 /// The entries of the built-in specs.
-#[tactic(auto, using(crate::proofs::Tabled::builtin_put, crate::proofs::Tabled::builtin_added, crate::proofs::Tabled::named_trees, crate::proofs::Tabled::pair_trees))]
-fn builtin_entries(alloc: Global) -> Result<Entries, AllocError>
-    ensures { IfOk result (λ entries. entries ≡ builtin_specs) }
+fn builtin_entries(alloc: Global) -> Result<Entries, SpecsFault>
+    ensures { Gives fault.Memory (λ entries. entries) result (Ok builtin_specs) }
 {
-    let named = named_rows();
-    let pairs = pair_rows();
-    let mut entries = Entries::with_capacity(alloc, named.len(), pairs.len())?;
-    put_rows(&mut entries, named)?;
-    add_rows(&mut entries, pairs)?;
+    let pairs = SUFFIXES.len() + LANGUAGES.len();
+    let mut entries = Entries::with_capacity(alloc, NAMED.len(), pairs)?;
+    put_rows(&mut entries, named_rows())?;
+    add_rows(&mut entries, suffix_rows())?;
+    add_rows(&mut entries, language_rows())?;
     Ok(entries)
 }
 
-/// The built-in specs (GCC manual, "Spec Files"), with their trees. Lack of memory is the only
-/// error.
+/// The built-in specs (GCC manual, "Spec Files"). Lack of memory is the only error.
 pub fn builtin(alloc: Global) -> Result<SpecSet, AllocError>
     ensures { IfOk result (λ set. set ≡ builtin_specs) }
 {
-    let entries = builtin_entries(alloc)?;
-    Ok(SpecSet { entries })
+    match builtin_entries(alloc) {
+        Ok(entries) => Ok(SpecSet { entries }),
+        Err(_memory) => Err(AllocError),
+    }
 }
 
 /// The pairs that have no text to run, with room for the named texts of a spec file.
-#[tactic(auto, using(crate::proofs::Tabled::pair_trees, crate::proofs::Tabled::suffixes_added))]
-fn suffix_entries(alloc: Global) -> Result<Entries, AllocError>
-    ensures { IfOk result (λ entries. entries ≡ suffixes) }
+fn suffix_entries(alloc: Global) -> Result<Entries, SpecsFault>
+    ensures { Gives fault.Memory (λ entries. entries) result (Ok suffixes) }
 {
-    let pairs = pair_rows();
-    let mut entries = Entries::with_capacity(alloc, TEXTS_OF_A_FILE, pairs.len())?;
-    add_alone(&mut entries, pairs)?;
+    let mut entries = Entries::with_capacity(alloc, TEXTS_OF_A_FILE, SUFFIXES.len())?;
+    add_rows(&mut entries, suffix_rows())?;
     Ok(entries)
 }
 
@@ -181,6 +170,8 @@ fn suffix_entries(alloc: Global) -> Result<Entries, AllocError>
 pub fn suffixes(alloc: Global) -> Result<SpecSet, AllocError>
     ensures { IfOk result (λ set. set ≡ suffixes) }
 {
-    let entries = suffix_entries(alloc)?;
-    Ok(SpecSet { entries })
+    match suffix_entries(alloc) {
+        Ok(entries) => Ok(SpecSet { entries }),
+        Err(_memory) => Err(AllocError),
+    }
 }

@@ -8,20 +8,20 @@ ghost use Rattle.drv_specs.specs.Sets.{append, appended_text, appends, begins_wi
 ghost use Rattle.drv_specs.specs.Sets.{is_key, is_key_byte, is_key_text, is_name, is_name_byte};
 ghost use Rattle.drv_specs.specs.Sets.{is_no_text, is_not_installed, is_sized, pair_text, put, Set};
 ghost use Rattle.drv_specs.specs.Sets.{with_body, with_name, with_pair_body, with_pair_text};
-ghost use Rattle.drv_specs.specs.Sets.{with_text};
+ghost use Rattle.drv_specs.specs.Sets.{text_of, with_text};
 ghost use Rattle.drv_specs.specs.Blanks.{is_white};
 ghost use Rattle.drv_specs.specs.declared.fault.SpecsFault.TheVariants as fault;
 ghost use Rattle.drv_syntax.specs.Outcome.{parsed};
 ghost use Rattle.drv_words.specs.Gives.{Gives};
 ghost use Rattle.std.specs.List.{list_all};
-ghost use Rattle.std.specs.Prelude.{◌≡◌, ◌++◌, IfOk};
+ghost use Rattle.std.specs.Prelude.{◌≡◌, IfOk, OnErr, is_some, true};
 
 use crate::SpecsFault;
-use crate::bytes::{has_byte, is_blank, is_white, without_end_white, without_first, without_white};
+use crate::bytes::{has_byte, is_blank, is_white, without_end_white, without_first};
 use crate::directive::Directive;
 use crate::entries::Entries;
 use crate::settling::ends_with_backslash;
-use crate::text::{Text, join};
+use crate::text::Text;
 use drv_syntax::{SyntaxFault, parse};
 use drv_words::Word;
 use std::alloc::Global;
@@ -148,43 +148,6 @@ fn parsed_text(alloc: Global, name: &[u8], text: &[u8]) -> Result<Text, SpecsFau
     }
 }
 
-/// A text with more after it, which is refused if that has no tree.
-#[tactic(auto, using(crate::proofs::TreeChecks::tree_given, crate::proofs::TreeChecks::tree_refused))]
-fn extended_text(alloc: Global, name: &[u8], text: Text, more: &[u8]) -> Result<Text, SpecsFault>
-    ensures tree { (set : Set) → Gives fault.Memory (λ _. set) result
-        (by_tree name.now set (parsed (text ++ more.now))) }
-    ensures text { IfOk result (λ whole. whole ≡ text ++ more.now) }
-{
-    match text.extend(alloc, more) {
-        Ok(text) => Ok(text),
-        Err(SyntaxFault::Memory) => Err(SpecsFault::Memory),
-        Err(fault) => Err(SpecsFault::Syntax {
-            name: Word::from_bytes(alloc, name)?,
-            fault,
-        }),
-    }
-}
-
-/// The result of adding to the text of a name, if it has one.
-fn appended_text(
-    alloc: Global,
-    name: &[u8],
-    text: Option<Text>,
-    addition: &[u8],
-) -> Result<Text, SpecsFault>
-    ensures tree { (set : Set) → Gives fault.Memory (λ _. set) result
-        (by_tree name.now set (parsed (appended_text text addition.now))) }
-    ensures text { IfOk result (λ whole. whole ≡ appended_text text addition.now) }
-{
-    match text {
-        Some(text) => extended_text(alloc, name, text, addition),
-        None => {
-            let text = join(alloc, b" ", without_white(addition))?;
-            parsed_text(alloc, name, text.as_bytes())
-        }
-    }
-}
-
 /// Whether a body appends: it begins with `+` and a blank.
 fn appends(body: &[u8]) -> bool
     ensures { result ≡ appends body.now }
@@ -196,32 +159,59 @@ fn appends(body: &[u8]) -> bool
 }
 
 impl Entries {
-    /// Puts a text that has a tree.
+    /// Puts a text that has a tree. After an error a name that has a text still has it.
     pub(crate) fn put(&mut self, name: &[u8], text: &[u8]) -> Result<(), SpecsFault>
-        ensures { Gives fault.Memory (λ _. self.new) result (put self.old name.now text.now) }
+        ensures gives { Gives fault.Memory (λ _. self.new) result (put self.old name.now text.now) }
+        ensures kept { OnErr result
+            (is_some (text_of self.old name.now) ≡ true → self.new ≡ self.old) }
     {
         let text = parsed_text(self.alloc(), name, text)?;
         self.insert(name, text)?;
         Ok(())
     }
 
-    /// Adds to a text.
+    /// The text of a name after an addition to it.
+    #[tactic(auto, using(crate::proofs::TreeChecks::tree_given, crate::proofs::TreeChecks::tree_refused))]
+    fn added_text(&mut self, name: &[u8], addition: &[u8]) -> Result<Text, SpecsFault>
+        ensures tree { (set : Set) → Gives fault.Memory (λ _. set) result
+            (by_tree name.now set (parsed (appended_text (text_of self.old name.now) addition.now))) }
+        ensures text { IfOk result (λ text. text
+            ≡ appended_text (text_of self.old name.now) addition.now) }
+        ensures kept { self.new ≡ self.old }
+    {
+        match self.added_tree(name, addition) {
+            Ok(tree) => Ok(Text::new(self.alloc(), tree)?),
+            Err(SyntaxFault::Memory) => Err(SpecsFault::Memory),
+            Err(fault) => Err(SpecsFault::Syntax {
+                name: self.word(name)?,
+                fault,
+            }),
+        }
+    }
+
+    /// Adds to a text. After an error a name that has a text still has it.
+    #[tactic(auto, using(crate::proofs::Appending::appended_puts, crate::proofs::Appending::appended_refused))]
     fn append(&mut self, name: &[u8], addition: &[u8]) -> Result<(), SpecsFault>
-        ensures { Gives fault.Memory (λ _. self.new) result
+        ensures gives { Gives fault.Memory (λ _. self.new) result
             (append self.old name.now addition.now) }
+        ensures kept { OnErr result
+            (is_some (text_of self.old name.now) ≡ true → self.new ≡ self.old) }
     {
         if is_all_white(addition) {
             return Ok(());
         }
-        let text = self.take(name)?;
-        let text = appended_text(self.alloc(), name, text, addition)?;
-        self.insert(name, text)?;
+        let text = self.added_text(name, addition)?;
+        let older = self.insert(name, text)?;
+        self.keep_older(older);
         Ok(())
     }
 
-    /// Does what a body says to a name.
+    /// Does what a body says to a name. After an error a name that has a text still has it.
     fn put_body(&mut self, name: &[u8], body: &[u8]) -> Result<(), SpecsFault>
-        ensures { Gives fault.Memory (λ _. self.new) result (with_body self.old name.now body.now) }
+        ensures gives { Gives fault.Memory (λ _. self.new) result
+            (with_body self.old name.now body.now) }
+        ensures kept { OnErr result
+            (is_some (text_of self.old name.now) ≡ true → self.new ≡ self.old) }
     {
         if body.is_empty() {
             self.remove(name);
@@ -233,9 +223,12 @@ impl Entries {
         }
     }
 
-    /// Carries out a name with its body.
-    fn put_text(&mut self, name: &[u8], body: &[u8]) -> Result<(), SpecsFault>
-        ensures { Gives fault.Memory (λ _. self.new) result (with_text self.old name.now body.now) }
+    /// Carries out a name with its body. After an error a name that has a text still has it.
+    pub(crate) fn put_text(&mut self, name: &[u8], body: &[u8]) -> Result<(), SpecsFault>
+        ensures gives { Gives fault.Memory (λ _. self.new) result
+            (with_text self.old name.now body.now) }
+        ensures kept { OnErr result
+            (is_some (text_of self.old name.now) ≡ true → self.new ≡ self.old) }
     {
         if !is_name(name) {
             return Err(SpecsFault::BadName(self.word(name)?));
@@ -246,10 +239,11 @@ impl Entries {
         self.put_body(name, body)
     }
 
-    /// Adds a pair of this text.
+    /// Adds a pair of this text. After an error none is added.
     pub(crate) fn add_pair_text(&mut self, key: &[u8], text: &[u8]) -> Result<(), SpecsFault>
-        ensures { Gives fault.Memory (λ _. self.new) result
+        ensures gives { Gives fault.Memory (λ _. self.new) result
             (with_pair_text self.old key.now text.now) }
+        ensures kept { OnErr result (self.new ≡ self.old) }
     {
         if ends_with_backslash(text) {
             return Err(SpecsFault::TrailingBackslash(self.word(key)?));
@@ -266,10 +260,11 @@ impl Entries {
         Ok(())
     }
 
-    /// Carries out a key with its body.
-    fn add_pair(&mut self, key: &[u8], body: &[u8]) -> Result<(), SpecsFault>
-        ensures { Gives fault.Memory (λ _. self.new) result
+    /// Carries out a key with its body. After an error no pair is added.
+    pub(crate) fn add_pair(&mut self, key: &[u8], body: &[u8]) -> Result<(), SpecsFault>
+        ensures gives { Gives fault.Memory (λ _. self.new) result
             (with_pair_body self.old key.now body.now) }
+        ensures kept { OnErr result (self.new ≡ self.old) }
     {
         if !is_key(key) {
             return Err(SpecsFault::BadName(self.word(key)?));

@@ -1,17 +1,22 @@
 //! Named texts and suffix pairs, as the directives of a file change them.
 
 ghost use Rattle.drv_specs.specs.Code.Keyed.{texts_left};
-ghost use Rattle.drv_specs.specs.Sets.{deleted, no_specs, text_of, with_named, with_pair};
-ghost use Rattle.drv_specs.specs.Sets.{worked_text};
+ghost use Rattle.drv_specs.specs.Sets.{appended_text, deleted, no_specs, text_of, with_named};
+ghost use Rattle.drv_specs.specs.Sets.{with_pair, worked_text};
+ghost use Rattle.drv_syntax.specs.Outcome.{parsed};
+ghost use Rattle.drv_syntax.specs.Parsed.{tree_of};
+ghost use Rattle.drv_syntax.specs.declared.fault.SyntaxFault.TheVariants as syntax;
+ghost use Rattle.drv_words.specs.Gives.{Gives};
 ghost use Rattle.std.specs.Cmp.Lexicographic.{pointwise};
 ghost use Rattle.std.specs.Map.{set_key};
 ghost use Rattle.std.specs.Option.{option_map};
-ghost use Rattle.std.specs.Prelude.{◌≡◌, [], IfOk, None, OnOk, is_some, nat_eq, option_and_then};
-ghost use Rattle.std.specs.Prelude.{slice_get};
+ghost use Rattle.std.specs.Prelude.{◌≡◌, IfOk, None, OnErr, OnOk, is_some, nat_eq, option_and_then};
+ghost use Rattle.std.specs.Prelude.{slice_get, true};
 
+use crate::bytes::without_white;
 use crate::named_texts::NamedTexts;
-use crate::text::Text;
-use drv_syntax::SpecTree;
+use crate::text::{Text, join, longer_tree};
+use drv_syntax::{SpecTree, SyntaxFault, parse};
 use drv_words::{Listing, Word};
 use indexmap::IndexMap;
 use std::alloc::{AllocError, Global};
@@ -25,6 +30,8 @@ pub(crate) struct Entries {
     named: NamedTexts,
     pairs: Listing<(Word, Word)>,
     trees: Vec<Option<Text>>,
+    /// The tree that the text of the last addition had before it.
+    older: Option<SpecTree>,
 }
 
 impl Model for Entries {
@@ -80,6 +87,7 @@ impl Entries {
             named: NamedTexts::new(alloc),
             pairs: Listing::new(alloc),
             trees: Vec::new(alloc),
+            older: None,
         }
     }
 
@@ -96,6 +104,7 @@ impl Entries {
             named: NamedTexts::with_capacity(alloc, texts)?,
             pairs: Listing::from_vec(Vec::with_capacity(alloc, pairs)?),
             trees: Vec::with_capacity(alloc, pairs)?,
+            older: None,
         })
     }
 
@@ -151,21 +160,46 @@ impl Entries {
         }
     }
 
-    /// Takes the text of a name, if there is one. The name has an empty one then.
-    pub(crate) fn take(&mut self, name: &[u8]) -> Result<Option<Text>, AllocError>
-        ensures taken { IfOk result (λ taken. taken ≡ text_of self.old name.now) }
-        ensures left { OnOk result (self.new ≡ with_named self.old name.now []) }
+    /// Puts a text under a name: a name that is there keeps its place, a new one goes last. Returns
+    /// the text that the name had before. After an error a name that has a text still has it.
+    pub(crate) fn insert(&mut self, name: &[u8], text: Text) -> Result<Option<Text>, AllocError>
+        ensures put { OnOk result (self.new ≡ with_named self.old name.now text) }
+        ensures kept { OnErr result
+            (is_some (text_of self.old name.now) ≡ true → self.new ≡ self.old) }
     {
-        let empty = Text::new(self.alloc, SpecTree::empty(self.alloc))?;
-        self.named.insert(name, empty)
+        self.named.insert(name, text)
     }
 
-    /// Puts a text under a name: a name that is there keeps its place, a new one goes last.
-    pub(crate) fn insert(&mut self, name: &[u8], text: Text) -> Result<(), AllocError>
-        ensures { OnOk result (self.new ≡ with_named self.old name.now text) }
+    /// The tree of the text of a name with more after it, or the one of an addition to no text.
+    pub(crate) fn added_tree(
+        &mut self,
+        name: &[u8],
+        addition: &[u8],
+    ) -> Result<SpecTree, SyntaxFault>
+        ensures tree { Gives syntax.Memory tree_of result
+            (parsed (appended_text (text_of self.old name.now) addition.now)) }
+        ensures text { IfOk result (λ tree. tree
+            ≡ appended_text (text_of self.old name.now) addition.now) }
+        ensures kept { self.new ≡ self.old }
     {
-        self.named.insert(name, text)?;
-        Ok(())
+        let older = self.older.take();
+        match self.named.get(name) {
+            Some(text) => longer_tree(self.alloc, older, text.tree().text(), addition),
+            None => {
+                let text = join(self.alloc, b" ", without_white(addition))?;
+                parse(self.alloc, text.as_bytes())
+            }
+        }
+    }
+
+    /// Keeps the tree of a text that was added to, so that the next addition needn't read it again.
+    pub(crate) fn keep_older(&mut self, text: Option<Text>)
+        ensures { self.new ≡ self.old }
+    {
+        self.older = match text {
+            Some(text) => text.into_tree(),
+            None => None,
+        };
     }
 
     /// Takes a name away, if it is there.
@@ -175,7 +209,7 @@ impl Entries {
         self.named.remove(name);
     }
 
-    /// Adds a pair at the end, with its text where that is run.
+    /// Adds a pair at the end, with its text where that is run. After an error none is added.
     pub(crate) fn push_pair(
         &mut self,
         key: &[u8],
@@ -183,13 +217,14 @@ impl Entries {
         tree: Option<Text>,
     ) -> Result<(), AllocError>
         requires { tree ≡ worked_text (key.now, text.now) }
-        ensures { OnOk result (self.new ≡ with_pair self.old key.now text.now) }
+        ensures added { OnOk result (self.new ≡ with_pair self.old key.now text.now) }
+        ensures kept { OnErr result (self.new ≡ self.old) }
     {
         let key = self.word(key)?;
         let text = self.word(text)?;
         self.trees.reserve(1)?;
         self.pairs.push((key, text))?;
-        self.trees.push(tree)?;
+        self.trees.push_reserved(tree);
         Ok(())
     }
 
@@ -202,6 +237,7 @@ impl Entries {
             named: self.named.try_clone()?,
             pairs: copied_pairs(self.alloc, self.pairs.as_slice())?,
             trees: copied_texts(self.alloc, self.trees.as_slice())?,
+            older: None,
         })
     }
 

@@ -2,7 +2,6 @@
 #![tactic(auto)]
 
 mod builtin_specs;
-mod builtin_trees;
 pub mod bytes;
 mod changing;
 mod directive;

@@ -5,17 +5,18 @@
 // the table has the answers. `Asks` says that a call only asked: it added new questions to the
 // journal, and their answers to the table. `Gives` says that a result is the defined one, or lack
 // of memory.
+ghost use Rattle.drv_search.specs.declared.prefixes.Prefixes as places;
 ghost use Rattle.drv_specs.specs.Directives.{read_settled};
 ghost use Rattle.drv_specs.specs.Loading.{all_carried, file_loaded, including, loaded, text_read};
 ghost use Rattle.drv_specs.specs.Loading.{worked};
-ghost use Rattle.drv_specs.specs.Code.Slices.{IsSettled, read_left, settled_file};
+ghost use Rattle.drv_specs.specs.Code.Slices.{IsSettled, read_left, settled_file, shown};
 ghost use Rattle.drv_specs.specs.declared.fault.SpecsFault.TheVariants as fault;
 ghost use Rattle.drv_system.specs.Asking.{Asks, Extends};
 ghost use Rattle.drv_system.specs.Code.Asked.{Asked};
 ghost use Rattle.drv_system.specs.Facts.{Facts};
 ghost use Rattle.drv_system.specs.Gives.{GivesKnown};
 ghost use Rattle.drv_words.specs.Gives.{Gives};
-ghost use Rattle.std.specs.Prelude.{◌≡◌, OnErr};
+ghost use Rattle.std.specs.Prelude.{◌≡◌, ◌∷◌, [], IfNone, IfSome, OnErr, ℕ};
 
 use crate::directive::{Directive, IfMissing};
 use crate::entries::Entries;
@@ -160,9 +161,41 @@ fn draft_of<S: System>(
     worked_entries(draft, files, text, prefixes, outside)
 }
 
+/// The directive of a settled text that has no other.
+fn lone_directive(text: &[u8]) -> Option<Directive<'_>>
+    ensures { IfSome result (λ directive. read_settled text.now ≡ shown directive ∷ []) }
+{
+    let mut reader = Reader::new(text);
+    let directive = reader.next()?;
+    match reader.next() {
+        Some(_) => None,
+        None => Some(directive),
+    }
+}
+
+impl Entries {
+    /// Carries out the directive of a settled text that has no other, if no copy is called for: it
+    /// adds a pair, or changes a name that has a text. After an error the entries are as they were.
+    fn change_alone(&mut self, text: &[u8]) -> Option<Result<(), SpecsFault>>
+        ensures changes { IfSome result (λ done. (F : Facts) (prefixes : places.Prefixes) (files : ℕ)
+            → GivesKnown fault.Memory (λ _. self.new) done
+            (worked F prefixes self.old files (read_settled text.now))) }
+        ensures kept { IfSome result (λ done. OnErr done (self.new ≡ self.old)) }
+        ensures none { IfNone result (self.new ≡ self.old) }
+    {
+        match lone_directive(text) {
+            Some(Directive::Text { name, body }) if self.has(name) => {
+                Some(self.put_text(name, body))
+            }
+            Some(Directive::Pair { key, body }) => Some(self.add_pair(key, body)),
+            _ => None,
+        }
+    }
+}
+
 impl SpecSet {
     /// Carries out the directives of a settled text, which may read `files` more files, on a copy
-    /// that then takes the place of the set.
+    /// that then takes the place of the set. One directive alone may need no copy.
     #[tactic(auto, using(drv_system::proofs::AskedCalls::asked_further))]
     fn work<S: System>(
         &mut self,
@@ -178,6 +211,9 @@ impl SpecSet {
             (worked F prefixes.now self.old files (read_settled text.now)) }
         ensures kept { OnErr result (self.new ≡ self.old) }
     {
+        if let Some(done) = self.entries.change_alone(text) {
+            return done;
+        }
         let draft = draft_of(&self.entries, files, text, prefixes, outside)?;
         self.entries = draft;
         Ok(())

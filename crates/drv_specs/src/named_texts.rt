@@ -7,8 +7,8 @@ ghost use Rattle.std.specs.Cmp.Lexicographic.{pointwise};
 ghost use Rattle.std.specs.Global.{Vec};
 ghost use Rattle.std.specs.Map.{lookup, remove_entry, set_key};
 ghost use Rattle.std.specs.Option.{option_map};
-ghost use Rattle.std.specs.Prelude.{◌≡◌, [], IfOk, IfSome, None, OnOk, Some};
-ghost use Rattle.std.specs.Prelude.{is_some, nat_eq};
+ghost use Rattle.std.specs.Prelude.{◌≡◌, [], IfOk, IfSome, None, OnErr, OnOk, Some};
+ghost use Rattle.std.specs.Prelude.{is_some, nat_eq, true};
 
 use crate::places::Places;
 use crate::text::Text;
@@ -136,11 +136,13 @@ impl NamedTexts {
     }
 
     /// Puts a text under a name: a name that is there keeps its place, a new one goes last. Returns
-    /// the text that the name had before.
+    /// the text that the name had before. After an error a name that has a text still has it.
     pub(crate) fn insert(&mut self, name: &[u8], text: Text) -> Result<Option<Text>, AllocError>
         ensures old { IfOk result (λ old. old ≡ lookup (pointwise nat_eq name.now) self.old) }
         ensures put { OnOk result (self.new
             ≡ insert_entry (pointwise nat_eq) self.old name.now text) }
+        ensures kept { OnErr result
+            (is_some (lookup (pointwise nat_eq name.now) self.old) ≡ true → self.new ≡ self.old) }
     {
         let key = name.to_vec(self.alloc)?;
         let place = self.kept.len();

@@ -8,6 +8,7 @@ ghost use Rattle.drv_syntax.specs.declared.fault.SyntaxFault.TheVariants as synt
 ghost use Rattle.drv_words.specs.Gives.{Gives};
 ghost use Rattle.std.specs.Prelude.{◌≡◌, ◌++◌, IfOk};
 
+use crate::bytes::following;
 use drv_syntax::{SpecTree, SyntaxFault, parse};
 use drv_words::Word;
 use std::alloc::{AllocError, Global};
@@ -23,19 +24,24 @@ pub(crate) fn join(alloc: Global, front: &[u8], back: &[u8]) -> Result<Word, All
     Ok(text)
 }
 
-/// The tree of a text with more after it. Where no other text shares the tree of the first, that
-/// one is read on.
-fn extended_tree(alloc: Global, shared: Rc<SpecTree>, more: &[u8]) -> Result<SpecTree, SyntaxFault>
-    ensures tree { Gives syntax.Memory tree_of result (parsed (shared.value ++ more.now)) }
-    ensures text { IfOk result (λ tree. tree ≡ shared.value ++ more.now) }
+/// The tree of a text with more after it. An older tree is read on, if its text begins this one.
+pub(crate) fn longer_tree(
+    alloc: Global,
+    older: Option<SpecTree>,
+    text: &[u8],
+    more: &[u8],
+) -> Result<SpecTree, SyntaxFault>
+    ensures tree { Gives syntax.Memory tree_of result (parsed (text.now ++ more.now)) }
+    ensures text { IfOk result (λ tree. tree ≡ text.now ++ more.now) }
 {
-    match Rc::try_unwrap(shared) {
-        Ok(tree) => tree.extend(alloc, more),
-        Err(shared) => {
-            let text = join(alloc, shared.as_ref().text(), more)?;
-            parse(alloc, text.as_bytes())
+    if let Some(tree) = older {
+        if text.starts_with(tree.text()) {
+            let added = join(alloc, following(text, tree.text().len()), more)?;
+            return tree.extend(alloc, added.as_bytes());
         }
     }
+    let whole = join(alloc, text, more)?;
+    parse(alloc, whole.as_bytes())
 }
 
 /// A text that has a tree. Its copies share the tree.
@@ -72,13 +78,9 @@ impl Text {
         })
     }
 
-    /// The text with more after it, if that has a tree.
-    pub(crate) fn extend(self, alloc: Global, more: &[u8]) -> Result<Text, SyntaxFault>
-        ensures tree { Gives syntax.Memory tree_of result (parsed (self ++ more.now)) }
-        ensures text { IfOk result (λ text. text ≡ self ++ more.now) }
-    {
-        let tree = extended_tree(alloc, self.shared, more)?;
-        Ok(Text::new(alloc, tree)?)
+    /// The tree, unless other texts share it.
+    pub(crate) fn into_tree(self) -> Option<SpecTree> {
+        Rc::try_unwrap(self.shared).ok()
     }
 
     /// The tree.

@@ -9,7 +9,6 @@ use Rattle.drv_syntax.specs.Code.Whole.{rest_given, whole_given}
 use Rattle.drv_syntax.specs.Descent.{items}
 use Rattle.drv_syntax.specs.Faults.{MemoryOrRefused, Refused}
 use Rattle.drv_syntax.specs.Labels.{Label}
-use Rattle.drv_syntax.specs.Marks.{marked_labels}
 use Rattle.drv_syntax.specs.Outcome.{judged, parsed, read}
 use Rattle.drv_syntax.specs.Parsed.{listed, tree_in, tree_of}
 use Rattle.drv_syntax.specs.Spelling.{Spells}
@@ -26,7 +25,7 @@ use Rattle.std.proofs.Common.{length, length-append, refl, subst, sym, ℕ}
 use Rattle.std.proofs.lemmas.Bool.Decides.{nat_tests}
 use Rattle.std.specs.Prelude.{Err, IfErr, IsErrAnd, Ok, Result, nat_le}
 
--- What is kept of a text (`IsKept`): its tokens and labels, if it was read (`IsRead`), or the tree that was written of it. It serves
+-- What is kept of a text (`IsKept`): its tokens and labels (`IsRead`). It serves
 -- `parse` and `SpecTree::extended`. `whole_given text` is what the code gives of a whole text, and `rest_given` of what follows a text that
 -- is kept (specs/Code/Whole).
 -- Names: `more`: more text behind. `t`: a text, or what is left of it. `b`: a byte. `parsed`: the tree of a text, or its fault.
@@ -171,22 +170,10 @@ module _ (text self more all : List ℕ) (n : ℕ) (old : TextParts) (is : IsRea
   kept_there p e h =
       subst (λ (t : List ℕ). IsRead t p) (sym e) (more_kept text more old is within goes_here p (there (Ok (p.tokens, p.labels)) h))
 
--- a text that has a tree is no longer than a text may be
-short_listed : (text : List ℕ) (parts : List Token × List Label) → listed (parsed text) ≡ Ok parts → length text ≤ 1048576
-short_listed text parts h = by (nat_le (length text) 1048576) refl
-  where
-    refused : listed (Err TextTooLong) ≡ Ok parts → length text ≤ 1048576
-    refused e = absurd cc
-
-    by : (fits : Bool) → nat_le (length text) 1048576 ≡ fits → length text ≤ 1048576
-    by true e = le_true e
-    by false e = refused (sym (ap (λ t. listed (if t then judged (read text) else Err TextTooLong)) e) ∙ h)
-
 -- a text of which anything is kept is no longer than a text may be
 pub short_kept : (text : List ℕ) (parts : Parts) → IsKept text parts → length text ≤ 1048576
 short_kept text (kept.Read p) is = is.1
 short_kept text (kept.Said p) is = is.0.1
-short_kept text (kept.Written tree) is = short_listed text (tree.tokens.now, marked_labels tree.words.now tree.marks.now) is.0
 
 -- what is kept of a text that was read is its tokens and labels
 pub read_of : (text : List ℕ) {parts : Parts} {p : TextParts} → parts ≡ kept.Read p → IsKept text parts → IsRead text p

@@ -262,3 +262,19 @@ labels_longer words second third more marks now m start end k e w f g kept place
     ap (λ (ls : List Label). with_last (λ label. lengthened label more) ls) (sym e)
     ∙ sym (longer_at words rest more m start end marks k f w g last)
     ∙ ap (λ (ws : List ℕ). marked_labels ws (set marks k (moved_mark m start end))) whole
+
+-- labels and words that are lent as slices are those that are kept
+module _ {words lent : List ℕ} {marks others : List LabelMark} (e : lent ≡ words) (f : others ≡ marks) where
+  -- the labels of the slices are the labels
+  pub lent_labels : {now : List Label} → marked_labels words marks ≡ now → marked_labels lent others ≡ now
+  lent_labels is = ap (λ (ws : List ℕ). marked_labels ws others) e ∙ ap (λ (ms : List LabelMark). marked_labels words ms) f ∙ is
+
+  -- the words of the slices lie within them
+  pub lent_within : Within (length words) marks → Within (length lent) others
+  lent_within is =
+      subst (λ (ws : List ℕ). Within (length ws) others) (sym e) (subst (λ (ms : List LabelMark). Within (length words) ms) (sym f) is)
+
+  -- the word of the label at this place lies within them
+  pub lent_at : {now : List Label} {place : ℕ} (d : LabelMark) → marked_labels words marks ≡ now → Within (length words) marks
+      → place < length now → ((get_or others place d).start ≤ (get_or others place d).end) × ((get_or others place d).end ≤ length lent)
+  lent_at d is within h = within_at lent others _ _ d (lent_labels is) (lent_within within) h

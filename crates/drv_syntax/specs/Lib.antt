@@ -16,4 +16,3 @@ pub mod Spelling
 pub mod Stars
 pub mod Tokens
 pub mod Tree
-pub mod Written

@@ -3,14 +3,15 @@
 ghost use Rattle.drv_syntax.specs.Code.Messages.{lengthened, with_last};
 ghost use Rattle.drv_syntax.specs.Labels.{no_label, part_label, star_label, word_label};
 ghost use Rattle.drv_syntax.specs.Code.Marks.{byte_labels, byte_marks};
-ghost use Rattle.std.specs.Prelude.{◌≡◌, ◌<◌, ◌≤◌, ◌+◌, ◌-◌, ◌^◌, ◌++◌, ◌∷◌, [], IfErr, IfOk, false, length, Ok};
-ghost use Rattle.std.specs.Prelude.{drop, slice_set, take, vec_capacity, vec_len};
+ghost use Rattle.drv_syntax.specs.PlainRuns.{AreBytes, IsByte};
+ghost use Rattle.drv_syntax.specs.declared.token.TokenKind.TheVariants as kinds;
+ghost use Rattle.std.specs.Prelude.{◌≡◌, ◌<◌, ◌≤◌, ◌+◌, ◌-◌, ◌^◌, ◌++◌, ◌∷◌, [], IfErr, IfOk, IsTrue, Ok, false};
+ghost use Rattle.std.specs.Prelude.{drop, get_or, length, slice_set, take, vec_capacity, vec_len, ℕ};
 ghost use Rattle.drv_words.specs.Gives.{Gives};
 
 use crate::fault::SyntaxFault;
-use crate::lent::LentLabels;
 use crate::room::reserve_one;
-use crate::token::TestKind;
+use crate::token::{TestKind, Token, TokenKind};
 use std::alloc::Global;
 use std::marker::Model;
 
@@ -119,6 +120,20 @@ fn push_marks(start: u32, run: &[u8], marks: &mut Vec<LabelMark>)
         });
         place += 1;
     }
+}
+
+/// Whether a part is a plain byte, and its word is kept at this place.
+fn is_byte_at(token: &Token, mark: &LabelMark, place: usize) -> bool
+    requires { place + 1 < 2 ^ 64 }
+    ensures kind { IsTrue result → token.now.kind ≡ kinds.Plain }
+    ensures start { IsTrue result → mark.now.start ≡ place }
+    ensures end { IsTrue result → mark.now.end ≡ place + 1 }
+    ensures other { result ≡ false → token.now.kind ≡ kinds.Plain → mark.now.start ≡ place
+        → mark.now.end ≡ place + 1 → ⊥ }
+{
+    matches!(token.kind, TokenKind::Plain)
+        && mark.start as usize == place
+        && mark.end as usize == place + 1
 }
 
 impl Labels {
@@ -309,10 +324,69 @@ impl Labels {
         self.marks.len()
     }
 
-    /// The labels, lent.
-    pub fn lend(&self) -> LentLabels<'_>
-        ensures { result ≡ self.now }
+    /// The word of the one at this place.
+    pub fn word(&self, place: usize) -> &[u8]
+        requires { place < length self.now }
+        ensures { result.now ≡ (get_or self.now place no_label).word }
     {
-        LentLabels::new(self.words.as_slice(), self.marks.as_slice())
+        let (words, marks) = (self.words.as_slice(), self.marks.as_slice());
+        let mark = marks[place];
+        &words[mark.start as usize..mark.end as usize]
+    }
+
+    /// Whether a star follows its word.
+    pub fn is_starred(&self, place: usize) -> bool
+        requires { place < length self.now }
+        ensures { result ≡ (get_or self.now place no_label).starred }
+    {
+        self.marks[place].starred
+    }
+
+    /// Whether a `!` precedes its word.
+    pub fn is_negated(&self, place: usize) -> bool
+        requires { place < length self.now }
+        ensures { result ≡ (get_or self.now place no_label).negated }
+    {
+        self.marks[place].negated
+    }
+
+    /// What its test asks.
+    pub fn asks(&self, place: usize) -> TestKind
+        requires { place < length self.now }
+        ensures { result ≡ (get_or self.now place no_label).asks }
+    {
+        self.marks[place].asks
+    }
+
+    /// Whether the X of its alternative has a `%*` of its own.
+    pub fn holds_star(&self, place: usize) -> bool
+        requires { place < length self.now }
+        ensures { result ≡ (get_or self.now place no_label).holds_star }
+    {
+        self.marks[place].holds_star
+    }
+
+    /// The bytes of plain parts that follow one another from this place on, up to another part or to
+    /// this end, in one slice. It ends sooner where the word of a part isn't kept beside the one
+    /// before it; a plain byte that is first is in it. `tokens` are those of the labels.
+    pub fn plain_bytes(&self, tokens: &[Token], place: usize, end: usize) -> &[u8]
+        ensures bytes { AreBytes tokens.now self.now place result.now }
+        ensures within { length result.now ≤ end - place }
+        ensures begins { (b : ℕ) → place < end → IsByte tokens.now self.now place b
+            → 0 < length result.now }
+    {
+        let (words, marks) = (self.words.as_slice(), self.marks.as_slice());
+        let last = end.min(tokens.len()).min(marks.len());
+        if place >= last {
+            return &[];
+        }
+        let start = marks[place].start as usize;
+        let mut at = place;
+        let mut stop = start;
+        while at < last && is_byte_at(&tokens[at], &marks[at], stop) {
+            at += 1;
+            stop += 1;
+        }
+        &words[start..stop]
     }
 }

@@ -6,14 +6,11 @@ mod directives;
 mod fault;
 mod labels;
 mod laws;
-mod lent;
 mod room;
 mod token;
 mod tree;
-mod written;
 
 pub use fault::SyntaxFault;
-pub use labels::LabelMark;
 pub use laws::{
     cut_at_open, cut_front, descent_is_read, front_is_unrefused, front_prefix, one_tree,
     parsed_by_grammar, read_is_spelled, refusal_kinds, refused_after_front, refused_at_misfit,
@@ -21,4 +18,3 @@ pub use laws::{
 };
 pub use token::{Leaf, TempKind, TestKind, Token, TokenKind};
 pub use tree::{SpecTree, parse};
-pub use written::WrittenTree;

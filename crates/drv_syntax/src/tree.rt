@@ -9,7 +9,6 @@ ghost use Rattle.drv_syntax.specs.Parsed.{tree_of};
 ghost use Rattle.drv_syntax.specs.PlainRuns.{AreBytes, IsByte};
 ghost use Rattle.drv_syntax.specs.Spelling.{Spells};
 ghost use Rattle.drv_syntax.specs.Tokens.{tokens_of};
-ghost use Rattle.drv_syntax.specs.Written.{IsTree};
 ghost use Rattle.drv_words.specs.Gives.{Gives};
 ghost use Rattle.std.specs.Prelude.{◌≡◌, ◌<◌, ◌≤◌, ◌+◌, ◌-◌, ◌++◌, [], IfErr, IfOk, length, ℕ};
 
@@ -17,10 +16,9 @@ use crate::descent::{
     TextParts, ending_in, is_open, read_more, read_nothing, read_text, say_on, says,
 };
 use crate::fault::SyntaxFault;
-use crate::lent::LentLabels;
+use crate::labels::Labels;
 use crate::token::{TestKind, Token};
-use crate::written::WrittenTree;
-use std::alloc::{AllocError, Global};
+use std::alloc::Global;
 use std::marker::Model;
 
 /// The most bytes of a text.
@@ -33,8 +31,6 @@ enum Parts {
     Read(TextParts),
     /// The same of a text that ends in a text for the user, which could go on.
     Said(TextParts),
-    /// Constants of the code.
-    Written(WrittenTree),
 }
 
 /// A spec text that has a tree, the list of its parts and what they name. Clauses see the text; its
@@ -57,17 +53,6 @@ impl Model for SpecTree {
 }
 
 impl SpecTree {
-    /// The tree of a text that is in the code with it.
-    pub fn from_written(alloc: Global, tree: WrittenTree) -> Result<SpecTree, AllocError>
-        requires { IsTree tree }
-        ensures { IfOk result (λ t. t ≡ tree.text.now) }
-    {
-        Ok(SpecTree {
-            text: Vec::from_slice(alloc, tree.text)?,
-            parts: Parts::Written(tree),
-        })
-    }
-
     /// The tree of a text without bytes. The call allocates nothing.
     pub fn empty(alloc: Global) -> SpecTree
         ensures { result ≡ [] }
@@ -92,19 +77,16 @@ impl SpecTree {
     {
         match &self.parts {
             Parts::Read(read) | Parts::Said(read) => read.tokens.as_slice(),
-            Parts::Written(tree) => tree.tokens,
         }
     }
 
     #[tactic(auto, using(crate::proofs::TreeLists::listed_labels))]
-    fn labels(&self) -> LentLabels<'_>
-        ensures { result ≡ labels_of (tree_of self.now) }
+    fn labels(&self) -> &Labels
+        ensures { result.now ≡ labels_of (tree_of self.now) }
     {
-        let tree = match &self.parts {
-            Parts::Read(read) | Parts::Said(read) => return read.labels.lend(),
-            Parts::Written(tree) => tree,
-        };
-        LentLabels::new(tree.words, tree.marks)
+        match &self.parts {
+            Parts::Read(read) | Parts::Said(read) => &read.labels,
+        }
     }
 
     /// What the part at this place names, without escapes: a byte, a suffix, an option, a text, a
@@ -186,7 +168,6 @@ impl SpecTree {
                 }
                 return read_again(alloc, text, more);
             }
-            Parts::Written(_) => return read_again(alloc, text, more),
         };
         if !ending_in(start, old.tokens.as_slice()).goes_on(more) {
             return read_again(alloc, text, more);

@@ -3,8 +3,6 @@ use Rattle.drv_specs.proofs.bytes.without_blanks.Goals as goal
 use Rattle.drv_specs.specs.Blanks.{is_blank}
 use Rattle.std.proofs.Common.{length, refl}
 
--- without_blanks (src/bytes.rt). A text without the blanks at its front.
-
 -- Names: `is_blank`: whether a byte is a space or a tab. `front_by`: the code drops the bytes before the first that doesn't pass.
 
 pub returns-clause-bytes : goal.returns-clause-bytes

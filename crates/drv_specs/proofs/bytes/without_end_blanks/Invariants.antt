@@ -3,8 +3,6 @@ use Rattle.drv_specs.specs.Lines.{without_end}
 use Rattle.std.proofs.Common.{◌≡◌, ◌≤◌, length, take}
 use Rattle.drv_specs.proofs.bytes.without_end_blanks.Given as goal
 
--- The loops of without_end_blanks (src/bytes.rt). A text without the blanks at its end.
-
 -- only blanks come after this end
 abbrev pub invariant-loop-end : goal.invariant-loop-end
 invariant-loop-end l = record {

@@ -1,8 +1,6 @@
 use Rattle.drv_specs.proofs.Keeping.{file_loaded_keeps, loaded_keeps}
 use Rattle.drv_specs.proofs.laws.loading_keeps.Goals as goal
 
--- loading_keeps (src/laws.rt). The law that what every set keeps is kept by loading a text or a file.
-
 -- Names: `file_loaded_keeps`: a file that is loaded keeps the invariant. `loaded_keeps`: a text that is loaded keeps the invariant.
 
 pub returns-clause-texts : goal.returns-clause-texts

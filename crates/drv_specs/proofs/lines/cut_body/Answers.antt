@@ -8,8 +8,6 @@ use Rattle.drv_words.specs.Bytes.{newline}
 use Rattle.std.proofs.Common.{◌≡◌, ◌+◌, ◌∷◌, ◌++◌, ◌∙◌, ap, arith, drop, flat_map, length, length-append, sym, take, true}
 use Rattle.std.proofs.lemmas.List.{append-nil}
 
--- cut_body (src/lines.rt). The lines up to the next one that is empty.
-
 -- Names: `bytes_from`: what is left, with the newline before it. `text_left`: the text that is left, if a line is left. `lines_left`: the
 -- lines that are left. `body_lines`: the lines of a body go up to an empty line.
 

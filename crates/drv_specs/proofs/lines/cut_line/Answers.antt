@@ -4,8 +4,6 @@ use Rattle.drv_specs.specs.Lines.{lines_of}
 use Rattle.std.proofs.Common.{◌+◌, ◌∙◌, ◌∷◌, ap, sym, take}
 use Rattle.std.proofs.lemmas.List.{take_rest}
 
--- cut_line (src/lines.rt). A text's first line, and what follows its newline, if it has one.
-
 -- Names: `line_first`: the line up to the first newline is the first line of a text. `lines_of`: the lines of a text, without their
 -- newlines.
 

@@ -5,8 +5,6 @@ use Rattle.drv_specs.specs.Code.Slices.{lines_from}
 use Rattle.std.proofs.Common.{◌∙◌, ap, false, sym, true}
 use Rattle.std.specs.Option.{option_map}
 
--- full_line (src/lines.rt). The next line and those after it, unless it is empty or has blanks alone, or there is none.
-
 -- Names: `lines_from`: what follows a line, where its newline is there. `read_lines`: the directives of lines, the first of which has this
 -- number and is in a body or not.
 

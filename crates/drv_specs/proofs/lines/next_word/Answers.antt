@@ -3,8 +3,6 @@ use Rattle.drv_specs.proofs.lines.next_word.Goals as goal
 use Rattle.drv_specs.specs.Lines.{words_of}
 use Rattle.std.proofs.Common.{◌∷◌, ◌∙◌, ap, sym, take}
 
--- next_word (src/lines.rt). A text's first word, cut at blanks, and what follows it.
-
 -- Names: `words_alone`: a line without a blank after its front has one word. `words_none`: the words of a line.
 
 pub returns-then-not-has_byte-clause-none : goal.returns-then-not-has_byte-clause-none

@@ -7,8 +7,6 @@ use Rattle.drv_specs.specs.Code.Slices.{shown}
 use Rattle.drv_system.proofs.AskedCalls.{asked_further, extends_before}
 use Rattle.std.proofs.Common.{◌-◌, ap, arith, inr, refl}
 
--- carry_out (src/loading.rt). Carries out the directives of a settled text, within which `levels` more files may be nested.
-
 -- Names: `set`, `files`: the fields of `Carried` (specs/Loading). `read_settled`: the directives of a settled text, and of any.
 -- `all_carried`: directives in order, up to the first refusal. `including`: a file that is included where so many more may be within one
 -- another. `shown`: a directive of the code as one of the definitions. `taken`: the next directive was taken.

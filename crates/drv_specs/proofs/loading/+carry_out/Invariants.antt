@@ -6,8 +6,6 @@ use Rattle.drv_system.specs.Facts.{Facts}
 use Rattle.std.proofs.Common.{◌≡◌, length}
 use Rattle.drv_specs.proofs.loading.+carry_out.Given as goal
 
--- The loops of carry_out (src/loading.rt). Carries out the directives of a settled text, within which `levels` more files may be nested.
-
 -- the directives that are left, carried out on the set so far, give what all of them give; the call only asked
 abbrev pub invariant-loop-directive : goal.invariant-loop-directive
 invariant-loop-directive g l = record {

@@ -4,8 +4,6 @@ use Rattle.drv_specs.specs.Directives.{read_settled}
 use Rattle.drv_specs.specs.Loading.{worked}
 use Rattle.std.proofs.Common.{ap}
 
--- draft_of (src/loading.rt). A copy of entries after the directives of a settled text, which may read `files` more files.
-
 -- Names: `F`: what is known of the outside. `e`: that `F` extends the facts of this call. `read_settled`: the directives of a settled text,
 -- and of any. `worked`: directives of a text, in which so many more files may be read.
 

@@ -4,8 +4,6 @@ use Rattle.drv_search.specs.Search.{file_found}
 use Rattle.drv_system.proofs.Asking.{asks_extends, asks_then, extends_then}
 use Rattle.std.proofs.Common.{◌∙◌, ap, refl, sym}
 
--- file_text (src/loading.rt). What is left of the text that a spec file gives.
-
 -- Names: `F`: what is known of the outside. `e`: that `F` extends the facts of this call. `asks_then`: one call that only asks after
 -- another. `text_given`: the text of a file that was found and asked for, settled, or the refusal to read it. `file_found`: a file is
 -- searched for under those of libraries.

@@ -4,8 +4,6 @@ use Rattle.drv_specs.specs.Directives.{read_settled}
 use Rattle.drv_specs.specs.Loading.{worked}
 use Rattle.std.proofs.Common.{refl}
 
--- worked_entries (src/loading.rt). Entries after the directives of a settled text, which may read `files` more files.
-
 -- Names: `F`: what is known of the outside. `e`: that `F` extends the facts of this call. `set`, `files`: the fields of `Carried`
 -- (specs/Loading). `read_settled`: the directives of a settled text, and of any. `refusal_given`: a refusal of a step is that of the call.
 

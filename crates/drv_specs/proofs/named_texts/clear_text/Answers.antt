@@ -4,8 +4,6 @@ use Rattle.drv_specs.specs.Code.Keyed.{texts_left}
 use Rattle.std.proofs.Common.{◌∙◌, None, ap, sym}
 use Rattle.std.specs.Option.{option_copied_mut}
 
--- clear_text (src/named_texts.rt). Leaves the entry of a name without its text.
-
 -- Names: `texts_left`: the named texts of a map, without the deleted ones. `left_unlisted`: the removal of a name without an entry changes
 -- nothing.
 

@@ -4,8 +4,6 @@ use Rattle.std.proofs.Common.{◌∙◌, None, ap, is_some, sym}
 use Rattle.std.specs.Map.Iter.{deref_pair}
 use Rattle.std.specs.Option.{option_flatten, option_map}
 
--- text_at (src/named_texts.rt). The text of a name, by a look-up of its hash.
-
 -- Names: `text_found`: the text that the code finds at the place of a name is that of the name. `held_left`: a name whose first entry has a
 -- text has this text.
 

@@ -6,8 +6,6 @@ use Rattle.std.proofs.Common.{◌≡◌, ◌+◌, ◌-◌, [], ◌∷◌, ◌∙
 use Rattle.std.specs.List.{position}
 use Rattle.std.specs.Option.{option_map}
 
--- begin (src/reading.rt). What the first line of a text begins, which has this number and is in no body.
-
 -- Names: `begins_body`: any other line begins a directive with a body. `begins_keyword`: a line that begins with % is a directive of one
 -- line. `begins_none`: a line that is empty or a comment begins nothing. `blanks_before`: a text without the blanks at its front is an end
 -- of it.

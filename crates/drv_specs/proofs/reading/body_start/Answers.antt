@@ -4,8 +4,6 @@ use Rattle.drv_specs.specs.Lines.{lines_of}
 use Rattle.drv_specs.specs.Code.Slices.{bytes_from, lines_left, text_left}
 use Rattle.std.proofs.Common.{◌∙◌, sym}
 
--- body_start (src/reading.rt). Where a body begins: after the colon of its line, or, where only blanks follow that, with the next line.
-
 -- Names: `text_left`: the text that is left, if a line is left. `blanks_before`: a text without the blanks at its front is an end of it.
 -- `ends_then`: an end of an end of a text is an end of the text.
 

@@ -2,8 +2,6 @@ use Rattle.drv_specs.proofs.reading.next_of.Given as goal
 use Rattle.drv_specs.specs.Code.Slices.{directives_left, size_left}
 use Rattle.std.proofs.Common.{◌≡◌, ◌≤◌, ◌+◌}
 
--- The loops of next_of (src/reading.rt). The next directive of lines, if there is one, and the lines after it.
-
 -- the lines that were passed have no directive
 abbrev pub invariant-loop-left : goal.invariant-loop-left
 invariant-loop-left l = record {

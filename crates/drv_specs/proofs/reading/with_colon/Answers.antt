@@ -6,8 +6,6 @@ use Rattle.drv_words.specs.Bytes.{newline}
 use Rattle.std.proofs.Common.{◌+◌, ◌-◌, [], ◌∷◌, ◌++◌, ◌∙◌, ap, sym, take}
 use Rattle.std.specs.List.{join_with_byte}
 
--- with_colon (src/reading.rt). What a line begins that may have a colon: `start` is the line without the blanks at its front.
-
 -- Names: `lines_left`: the lines that are left. `place_found`: the code's search finds the first colon. `by_colon`: the directive of a line
 -- by its first colon.
 

@@ -4,8 +4,6 @@ use Rattle.drv_specs.specs.Lines.{is_kept, joined_onto, settle}
 use Rattle.std.proofs.Common.{◌∙◌, ap, filter, fold, refl}
 use Rattle.std.specs.Prelude.{slice_index}
 
--- settle (src/settling.rt). What is left of a spec file's text.
-
 -- Names: `settle`: what is left of a file's text. `line_settled`: a line up to the byte that was found, and that byte, are settled.
 
 -- What is left of the lines up to here, with what is left of the rest, is what is left of the text.

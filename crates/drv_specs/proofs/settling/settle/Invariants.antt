@@ -2,8 +2,6 @@ use Rattle.drv_specs.proofs.settling.settle.Given as goal
 use Rattle.drv_specs.specs.Lines.{is_kept, joined_onto, settle}
 use Rattle.std.proofs.Common.{◌≡◌, filter, fold, length}
 
--- The loops of settle (src/settling.rt). What is left of a spec file's text.
-
 -- what is left so far, with the rest of the text, gives what the whole text gives
 abbrev pub invariant-loop-at : goal.invariant-loop-at
 invariant-loop-at l = fold joined_onto l.left.items (filter is_kept l.rest) ≡ settle l.text

@@ -2,8 +2,6 @@ use Rattle.drv_syntax.proofs.MarkedWords.{marks_step}
 use Rattle.drv_syntax.proofs.labels.push_marks.Goals as goal
 use Rattle.std.proofs.Common.{arith, ◌∙◌}
 
--- push_marks (src/labels.rt). The marks of bytes that follow one another from this place on.
-
 -- Names: `marks_step`: a step of the loop of `push_marks` keeps the list of marks that the loop leads to.
 
 -- one mark more is put, in reserved room

@@ -3,8 +3,6 @@ use Rattle.drv_syntax.specs.Code.Marks.{byte_marks}
 use Rattle.std.proofs.Common.{◌≡◌, ◌+◌, ◌++◌, drop}
 use Rattle.std.specs.Prelude.{vec_capacity, vec_len}
 
--- The loops of push_marks (src/labels.rt). The marks of bytes that follow one another from this place on.
-
 -- the marks so far and those of the bytes that are left are the marks of all; each has reserved room
 abbrev pub invariant-loop-byte : goal.invariant-loop-byte
 invariant-loop-byte l =

@@ -1,8 +1,6 @@
 use Rattle.drv_syntax.proofs.ParsedGrammar.{cut_at, cut_there}
 use Rattle.drv_syntax.proofs.laws.cut_at_open.Goals as goal
 
--- cut_at_open (src/laws.rt). A text that is cut short is cut at the place of what is open at its end, and at no other.
-
 -- Names: `cut_at`: where Descent says that a text is cut short. `cut_there`: where by the grammar a text is cut short and open at this
 -- place, Descent says so.
 

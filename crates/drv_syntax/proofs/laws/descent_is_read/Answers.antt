@@ -3,9 +3,6 @@ use Rattle.drv_syntax.proofs.laws.descent_is_read.Goals as goal
 use Rattle.drv_syntax.specs.Outcome.{descent}
 use Rattle.std.proofs.Common.{refl}
 
--- descent_is_read (src/laws.rt). The grammar as functions, one for each part of a text, makes of each text what is read of it: its tree,
--- that it is cut short, or the first byte that doesn't fit.
-
 -- Names: `allowed`: a text that isn't too long is parsed to what Descent gives. `descent`: what a text gives by the functions of Descent.
 
 -- what Descent gives is what a text gives

@@ -1,8 +1,6 @@
 use Rattle.drv_syntax.proofs.WholeRead.{front_is_read}
 use Rattle.drv_syntax.proofs.laws.front_is_unrefused.Goals as goal
 
--- front_is_unrefused (src/laws.rt). A front of a spec text is never refused.
-
 -- a front is not refused
 pub returns : goal.returns
 returns c = front_is_read

@@ -1,8 +1,6 @@
 use Rattle.drv_syntax.proofs.WholeRead.{only_tree}
 use Rattle.drv_syntax.proofs.laws.one_tree.Goals as goal
 
--- one_tree (src/laws.rt). A text has one tree at most.
-
 -- two trees of a text are one
 pub returns : goal.returns
 returns c = only_tree

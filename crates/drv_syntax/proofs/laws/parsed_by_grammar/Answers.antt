@@ -1,9 +1,6 @@
 use Rattle.drv_syntax.proofs.ParsedGrammar as kinds
 use Rattle.drv_syntax.proofs.laws.parsed_by_grammar.Goals as goal
 
--- parsed_by_grammar (src/laws.rt). What a text is parsed to, by the grammar: its tree, the fault of its shortest prefix that is no front,
--- that it is cut short, with the place of what it leaves open, or that it is too long.
-
 -- a text with a tree by the grammar is parsed to it
 pub returns-clause-tree : goal.returns-clause-tree
 returns-clause-tree c = kinds.parsed_tree

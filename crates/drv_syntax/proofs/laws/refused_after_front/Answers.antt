@@ -1,8 +1,6 @@
 use Rattle.drv_syntax.proofs.Refusals.{refused_after}
 use Rattle.drv_syntax.proofs.laws.refused_after_front.Goals as goal
 
--- refused_after_front (src/laws.rt). A text that has a front, which with the next byte is none, is refused at that byte.
-
 -- a text that follows a front with a byte that makes none is refused at that byte
 pub returns : goal.returns
 returns c = refused_after

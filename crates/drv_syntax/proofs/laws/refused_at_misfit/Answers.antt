@@ -1,8 +1,6 @@
 use Rattle.drv_syntax.proofs.Refusals.{misfit_at, misfit_refused}
 use Rattle.drv_syntax.proofs.laws.refused_at_misfit.Goals as goal
 
--- refused_at_misfit (src/laws.rt). A text is refused at the byte after its longest prefix that is a front, and at no other.
-
 -- Names: `misfit_at`: where Descent refuses a text, its byte is the first that does not fit. `misfit_refused`: where a byte follows the
 -- longest prefix that is a front, Descent refuses the text at that byte.
 

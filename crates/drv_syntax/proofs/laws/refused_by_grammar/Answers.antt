@@ -2,8 +2,6 @@ use Rattle.drv_syntax.proofs.ParsedGrammar.{parsed_refused}
 use Rattle.drv_syntax.proofs.ParsedGrammar.{refused_parsed}
 use Rattle.drv_syntax.proofs.laws.refused_by_grammar.Goals as goal
 
--- refused_by_grammar (src/laws.rt). A text is refused for a fault exactly where the grammar refuses it for that one.
-
 -- Names: `parsed_refused`: a text that is parsed to a fault is refused for it by the grammar. `refused_parsed`: a text that the grammar
 -- refuses for a fault is parsed to this fault.
 

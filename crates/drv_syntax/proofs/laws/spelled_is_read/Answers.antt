@@ -1,8 +1,6 @@
 use Rattle.drv_syntax.proofs.WholeRead as whole
 use Rattle.drv_syntax.proofs.laws.spelled_is_read.Goals as goal
 
--- spelled_is_read (src/laws.rt). A tree of a text is what the text gives.
-
 -- a tree by the grammar is what the text gives
 pub returns : goal.returns
 returns c = whole.spelled_is_read

@@ -1,8 +1,6 @@
 use Rattle.drv_syntax.proofs.MeantWhole as meant
 use Rattle.drv_syntax.proofs.laws.unrefused_is_front.Goals as goal
 
--- unrefused_is_front (src/laws.rt). A text that gives a tree, or is cut short, is a front.
-
 -- a text that is not refused is a front
 pub returns : goal.returns
 returns c = meant.unrefused_is_front

@@ -3,8 +3,6 @@ use Rattle.drv_syntax.proofs.tree.parse.Goals as goal
 use Rattle.drv_syntax.specs.Code.Parts.{IsRead}
 use Rattle.std.proofs.Common.{arith, subst, sym}
 
--- parse (src/tree.rt). The tree of a text, or its first fault.
-
 -- Names: `first_refused`: where `parse` fails, memory ran out or the grammar refuses the text for this fault. `whole_kept`: the tokens and
 -- labels that the code gives are those of the text.
 

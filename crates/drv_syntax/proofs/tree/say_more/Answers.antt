@@ -2,8 +2,6 @@ use Rattle.drv_syntax.proofs.Kept.{read_spelled, said_kept}
 use Rattle.drv_syntax.proofs.tree.say_more.Goals as goal
 use Rattle.std.proofs.Common.{◌∙◌}
 
--- say_more (src/tree.rt). The tree of a text with more after it, where the text ends in a text for the user that goes on with these bytes.
-
 -- Names: `read_spelled`: a text that was read has its tree by the grammar. `said_kept`: what is kept of a text that goes on in a message.
 
 -- the kept parts with the longer message are the whole text's, which goes on in it

@@ -2,8 +2,6 @@ use Rattle.drv_words.proofs.LastOfAKind.{nowhere_after, parted_at, parted_nowher
 use Rattle.drv_words.proofs.file_names.split_at_last.Goals as goal
 use Rattle.std.proofs.Common.{rules, sym}
 
--- split_at_last (src/file_names.rt). The bytes before the last byte of a kind, and those after it, if there is one.
-
 -- Names: `nowhere_after`: past the last index no byte of the kind follows. `parted_at`: a name that has the byte at this index, and none
 -- after it, is parted there.
 

@@ -3,8 +3,6 @@ use Rattle.std.proofs.Common.{◌≡◌, length}
 use Rattle.std.specs.Cmp.Lexicographic.{slice_cmp}
 use Rattle.std.specs.Ordering.{nat_cmp}
 
--- The loops of order (src/ordering.rt). How a text is ordered beside another one, byte by byte.
-
 -- what is left of both texts is ordered as the texts are
 abbrev pub invariant-loop-front : goal.invariant-loop-front
 invariant-loop-front l = slice_cmp nat_cmp l.left l.right ≡ slice_cmp nat_cmp l.one l.other

@@ -2,8 +2,6 @@ use Rattle.drv_words.proofs.Ordered.{eight_ordered}
 use Rattle.drv_words.proofs.ordering.order_eight.Goals as goal
 use Rattle.std.proofs.Common.{◌∙◌, rules}
 
--- order_eight (src/ordering.rt). How eight bytes are ordered beside eight others: as the numbers that they spell are.
-
 -- Names: `eight_ordered`: eight bytes and the numbers that they spell.
 
 -- eight bytes are ordered as the numbers that they spell

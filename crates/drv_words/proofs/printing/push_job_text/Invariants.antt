@@ -4,8 +4,6 @@ use Rattle.drv_words.specs.Lines.{group_lines}
 use Rattle.drv_words.specs.Printed.{lines_text}
 use Rattle.drv_words.proofs.printing.push_job_text.Given as goal
 
--- The loops of push_job_text (src/printing.rt). Adds the text of a job's lines.
-
 -- the text so far, with that of the groups that are left, is that before and of the whole job
 abbrev pub invariant-loop-group : goal.invariant-loop-group
 invariant-loop-group l = l.text.items ++ lines_text (flat_map group_lines (drop l.group-index l.group-items)) ≡ l.fn.text.items

@@ -4,8 +4,6 @@ use Rattle.std.proofs.Common.{◌≡◌, arith}
 use Rattle.std.proofs.lemmas.Grind.{common_steps}
 use Rattle.drv_words.proofs.printing.render.Goals as goal
 
--- render (src/printing.rt). The text of lines.
-
 -- the text shows the lines, since it is their printed form
 pub returns-clause-shows : goal.returns-clause-shows
 returns-clause-shows c =

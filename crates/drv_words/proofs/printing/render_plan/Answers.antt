@@ -3,8 +3,6 @@ use Rattle.drv_words.specs.Lines.{lines_of}
 use Rattle.std.proofs.lemmas.Result.{IfOk-weaker}
 use Rattle.drv_words.proofs.printing.render_plan.Goals as goal
 
--- render_plan (src/printing.rt). The text of a plan's lines: what [`render`] returns for [`plan_lines`].
-
 -- the text shows the lines of the plan, since it is their printed form
 pub returns-clause-shows : goal.returns-clause-shows
 returns-clause-shows c = IfOk-weaker _ _ _ (λ text is. shown_text text (lines_of c.args.plan.now) is) c.plan_text.ensures

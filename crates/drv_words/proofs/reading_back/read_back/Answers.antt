@@ -3,8 +3,6 @@ use Rattle.drv_words.proofs.Soundness.{found_is_shown}
 use Rattle.std.proofs.lemmas.Result.{IfOk-weaker}
 use Rattle.drv_words.proofs.reading_back.read_back.Goals as goal
 
--- read_back (src/reading_back.rt). The lines that a text shows, or `None` unless [`render`](crate::render) gives exactly this text.
-
 -- Names: `shown_is_found`: the reader finds every list of lines that a text shows. `found_is_shown`: the reader finds the lines that the
 -- text shows.
 

@@ -2,8 +2,6 @@ use Rattle.std.proofs.Common.{◌≡◌, drop}
 use Rattle.drv_words.specs.Code.LineReader.{read, start}
 use Rattle.drv_words.proofs.reading_back.read_lines.Given as goal
 
--- The loops of read_lines (src/reading_back.rt). Reads a whole text.
-
 -- the reader so far reads the rest as a new reader reads the whole text
 abbrev pub invariant-loop-byte : goal.invariant-loop-byte
 invariant-loop-byte l = read l.reader (drop l.byte-index l.text) ≡ read start l.text

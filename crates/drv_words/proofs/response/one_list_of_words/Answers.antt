@@ -2,8 +2,6 @@ use Rattle.drv_words.proofs.Counting.{counted}
 use Rattle.drv_words.proofs.Splitting.{one_list, some_words}
 use Rattle.drv_words.proofs.response.one_list_of_words.Goals as goal
 
--- one_list_of_words (src/response.rt). A law: a text has exactly one list of words, and their number is that which `words_in` says.
-
 -- Names: `counted`: the words that the grammar gives are as many as those that the code counts. `one_list`: the grammar gives a text only
 -- one list of words.
 

@@ -4,9 +4,6 @@ use Rattle.std.proofs.Common.{◌≡◌, arith}
 use Rattle.std.proofs.lemmas.Grind.{common_steps}
 use Rattle.drv_words.proofs.response.respond_text.Goals as goal
 
--- respond_text (src/response.rt). The response text of these words: a line for each, with a backslash before white space, quotes and
--- backslashes.
-
 -- to split the text gives the words again
 pub returns-clause-again : goal.returns-clause-again
 returns-clause-again c =

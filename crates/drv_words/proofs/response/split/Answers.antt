@@ -2,9 +2,6 @@ use Rattle.drv_words.proofs.Splitting.{split_is_grammar, split_is_only}
 use Rattle.std.proofs.lemmas.Result.{IfOk-weaker}
 use Rattle.drv_words.proofs.response.split.Goals as goal
 
--- split (src/response.rt). The words of a response file's text: separated by white space, with quoted runs and backslashes (GCC manual,
--- "Overall Options", `@file`).
-
 -- Names: `split_is_grammar`: what the splitter makes of a text, the grammar gives. `split_is_only`: no other words are those of the text.
 
 -- the words are those of the grammar

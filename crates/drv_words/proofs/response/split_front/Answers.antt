@@ -3,8 +3,6 @@ use Rattle.std.proofs.Common.{arith, length, ap, sym}
 use Rattle.drv_words.proofs.response.split_front.Goals.{then-loop-splitter-test+else-saturating_sub-most, else-loop-splitter-test}
 use Rattle.drv_words.proofs.response.split_front.Goals as goal
 
--- split_front (src/response.rt). Splits a text and appends its words to others, but goes no further than to one word more than `most`.
-
 -- Names: `ends_all`: at the end of a text the splitter has all its words. `words_grow`: a text takes no word away.
 
 -- if more words were made than are permitted, the text has more (`words_grow`)

@@ -2,9 +2,6 @@ use Rattle.std.proofs.Common.{◌≡◌, ◌≤◌, length}
 use Rattle.drv_words.specs.Code.Splitter.{following, words_of}
 use Rattle.drv_words.proofs.response.split_front.Given as goal
 
--- The loops of split_front (src/response.rt). Splits a text and appends its words to others, but goes no further than to one word more than
--- `most`.
-
 -- each turn leaves less of the text, so the loop ends
 abbrev pub decreases-loop-splitter : goal.decreases-loop-splitter
 decreases-loop-splitter l = length l.left

@@ -3,8 +3,6 @@ use Rattle.drv_words.specs.Code.Splitter.{following, words_of}
 use Rattle.std.proofs.Common.{◌∙◌, ap}
 use Rattle.drv_words.proofs.response.split_onto.Goals as goal
 
--- split_onto (src/response.rt). Appends the words of a response file's text, as [`split`] returns them, to others.
-
 -- Names: `split_is_onto`: the splitter's words are those of the grammar. `following`: at the start of a text, whose words are appended to
 -- others.
 

@@ -2,8 +2,6 @@ use Rattle.std.proofs.Common.{◌≡◌, length}
 use Rattle.drv_words.specs.Code.Splitter.{following, words_of}
 use Rattle.drv_words.proofs.response.split_text.Given as goal
 
--- The loops of split_text (src/response.rt). Splits a whole text, and appends its words to others.
-
 -- each turn leaves less of the text, so the loop ends
 abbrev pub decreases-loop-left : goal.decreases-loop-left
 decreases-loop-left l = length l.left

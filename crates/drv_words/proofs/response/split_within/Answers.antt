@@ -3,9 +3,6 @@ use Rattle.drv_words.specs.Response.{SplitsOnto}
 use Rattle.std.proofs.Common.{◌≡◌, ◌-◌, ◌∙◌, IsTrue, List, ap, arith, length, nat_le, subst, ℕ}
 use Rattle.drv_words.proofs.response.split_within.Goals as goal
 
--- split_within (src/response.rt). Appends the words of a response file's text, as [`split`] returns them, to others, if the text has at
--- most `most` words.
-
 -- Names: `fitting`: if the words that were made fit, they are all words of the text. `within`: words that were made of the text, no further
 -- than to one more than are permitted.
 

@@ -1,9 +1,7 @@
-use Rattle.drv_specs.proofs.Left.{moved, put_there, text_before}
+use Rattle.drv_specs.proofs.Left.{moved, no_text_lost, put_there, text_before}
 use Rattle.drv_specs.proofs.named_texts.NamedTexts.insert.Goals as goal
 use Rattle.std.proofs.Common.{◌∙◌, Some, ap, sym}
 use Rattle.std.specs.Option.{option_flatten}
-
--- insert (src/named_texts.rt). Puts a text under a name: a name that is there keeps its place, a new one goes last.
 
 -- Names: `text_before`: the text that a name had, after another was put. `put_there`: a text is put under a name that had a text, or no
 -- entry. `moved`: a text under a name that had lost its own goes behind all others.
@@ -57,3 +55,20 @@ returns-in_ok-insert-in-Some-None-clause-put c =
     c.in_ok-insert.ensures.unique c.in_ok-insert.ensures.updates.1
     (sym c.in-Some.is ∙ c.shift_remove.ensures.value) c.shift_remove.ensures.entries c.shift_remove.ensures.updates.1
     c.in_ok-insert-in-Some-None.ensures.entries)
+
+-- a name that was deleted had no text to keep
+pub returns-in_err-key-in-Some-None-clause-kept : goal.returns-in_err-key-in-Some-None-clause-kept
+returns-in_err-key-in-Some-None-clause-kept c =
+    no_text_lost _ _ _
+    (rw (← c.self.view_is) (ap option_flatten (sym (c.in-Some-None.is ∙ ap Some c.in-Some-None.field-0-is) ∙ c.in_ok-insert.ensures.old)
+    ∙ sym (text_before c.in_ok-key.key c.args.name.now c.args.text c.self.inside.kept.entries c.insert.new.self.entries
+    (c.in_ok-key.ensures.items_if_clones_equal (λ x y e. e)) c.in_ok-insert.ensures.entries
+    c.in_ok-insert.ensures.unique)))
+
+pub returns-in_err-insert-in-Some-None-clause-kept : goal.returns-in_err-insert-in-Some-None-clause-kept
+returns-in_err-insert-in-Some-None-clause-kept c =
+    no_text_lost _ _ _
+    (rw (← c.self.view_is) (ap option_flatten (sym (c.in-Some-None.is ∙ ap Some c.in-Some-None.field-0-is) ∙ c.in_ok-insert.ensures.old)
+    ∙ sym (text_before c.in_ok-key.key c.args.name.now c.args.text c.self.inside.kept.entries c.insert.new.self.entries
+    (c.in_ok-key.ensures.items_if_clones_equal (λ x y e. e)) c.in_ok-insert.ensures.entries
+    c.in_ok-insert.ensures.unique)))

@@ -5,9 +5,6 @@ use Rattle.std.specs.Cmp.Lexicographic.{pointwise}
 use Rattle.std.specs.Map.{lookup}
 use Rattle.std.specs.Option.{option_copied}
 
--- rename (src/named_texts.rt). Gives a text a new name, in its place: under the new name it goes last, and from there to the place of the
--- old one.
-
 -- Names: `left_renamed`: the code renames by a new entry, which it swaps into the place of the old one. `unnamed`: a rename of a name
 -- without a text changes nothing.
 

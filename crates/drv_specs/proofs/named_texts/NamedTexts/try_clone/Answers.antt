@@ -2,8 +2,6 @@ use Rattle.drv_specs.proofs.Left.{left_copied}
 use Rattle.drv_specs.proofs.named_texts.NamedTexts.try_clone.Goals as goal
 use Rattle.std.proofs.Common.{◌∙◌, rules}
 
--- try_clone (src/named_texts.rt). A copy, which shares the trees.
-
 pub returns : goal.returns
 returns c = left_copied _ (λ x y alike. search rules) c.self.inside.kept.entries c.in_ok-clone.field-0.entries c.in_ok-clone.ensures.cases
     ∙ c.self.view_is

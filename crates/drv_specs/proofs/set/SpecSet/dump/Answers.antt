@@ -6,9 +6,6 @@ use Rattle.drv_specs.specs.Sets.{Set, no_specs}
 use Rattle.drv_system.specs.Known.{Is}
 use Rattle.std.proofs.Common.{◌≡◌, IfOk, Ok, subst, sym}
 
--- dump (src/dumping.rt). The text of the set: its named texts and then its pairs, each with its name and a colon on a line before it and an
--- empty line after it (GCC manual, "-dumpspecs").
-
 -- Names: `F`: what is known of the outside. `plain`: the clause's condition `Plain`. `dump_given`: the text that a dump gives, loaded into
 -- the empty set, gives the set. `loaded`: a text loaded, and a file.
 

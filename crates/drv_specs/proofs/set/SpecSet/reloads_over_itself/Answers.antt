@@ -6,9 +6,6 @@ use Rattle.drv_specs.specs.Sets.{Set}
 use Rattle.drv_system.specs.Known.{Is}
 use Rattle.std.proofs.Common.{◌≡◌, Ok, subst, sym}
 
--- reloads_over_itself (src/laws.rt). The law that the dump of this set, loaded over the set, changes no named text and gives each pair once
--- more, unless a named text begins with `+` and a blank.
-
 -- Names: `F`: what is known of the outside. `plain`: the clause's condition `Plain`. `dump_doubles`: a dump loaded over the set adds its
 -- pairs once more. `dumped`: the named texts of a set, then its pairs.
 

@@ -10,9 +10,6 @@ use Rattle.drv_system.specs.Asking.{Extends}
 use Rattle.drv_system.specs.Known.{Is}
 use Rattle.std.proofs.Common.{◌≡◌, ◌⊎◌, ◌∙◌, Err, ap, rules, subst}
 
--- with_file (src/loading.rt). The set with the directives of the file of this name carried out, as `load_file` does; no copy of the set is
--- made.
-
 -- Names: `F`: what is known of the outside. `e`: that `F` extends the facts of this call. `file_read`: a file that is loaded is its settled
 -- text, carried out. `file_unread`: a file that can't be read is not loaded. `given_alike`: what a result gives of one definition it gives
 -- of an equal one. `read_file`: the file's text, as the code keeps it, is the settled one.

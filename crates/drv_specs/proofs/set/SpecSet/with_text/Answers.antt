@@ -2,8 +2,6 @@ use Rattle.drv_specs.proofs.Keeping.{settled_keeps}
 use Rattle.drv_specs.proofs.set.SpecSet.with_text.Goals as goal
 use Rattle.drv_system.proofs.Asking.{extends_refl}
 
--- with_text (src/loading.rt). The set after the directives of a settled text, which may read `files` more files.
-
 -- Names: `settled_keeps`: a settled text that was carried out keeps the invariant. `extends_refl`: facts keep their own answers.
 
 -- the set keeps what holds of every set

@@ -2,8 +2,6 @@ use Rattle.drv_syntax.proofs.descent.functions.front_length.Given as goal
 use Rattle.drv_syntax.specs.Descent.{front_size}
 use Rattle.std.proofs.Common.{[], ◌≡◌, ◌≤◌, ◌+◌, ◌-◌, drop, length, take}
 
--- The loops of front_length (src/descent/functions.rt). How many bytes of a function's name a text begins with.
-
 -- the bytes of a name that are passed and those that go on with it are all
 abbrev pub invariant-loop-length : goal.invariant-loop-length
 invariant-loop-length l = record {

@@ -4,8 +4,6 @@ use Rattle.drv_syntax.specs.Descent as d
 use Rattle.drv_syntax.specs.Descent.{Took}
 use Rattle.drv_syntax.specs.Tree.{Hide}
 
--- hide (src/descent/leaves.rt). `%<` or `%>`, after the byte.
-
 -- the pattern has a fault
 pub returns-in_err-p : goal.returns-in_err-p
 returns-in_err-p c = err_then _ _ c.args.outer _ _ (d.pattern_at c.args.at c.args.r.now.rest) (λ p rest. Took (Hide p) rest)

@@ -2,8 +2,6 @@ use Rattle.drv_syntax.proofs.Wrote.{owned_of}
 use Rattle.drv_syntax.proofs.descent.parts.close_choice.Goals as goal
 use Rattle.drv_syntax.specs.Code.Writing.{seen}
 
--- close_choice (src/descent/parts.rt). An alternative ends, whose X ends so without the white space at its end.
-
 -- Names: `owned_of`: the fields that the code leaves when it closes an alternative are those that the definition says. `seen`: what a
 -- `Reader` of the code has read.
 

@@ -12,8 +12,6 @@ use Rattle.drv_syntax.specs.Rest.{Left}
 use Rattle.std.proofs.Common.{ap, inr, length, refl, subst, sym, ◌<◌, ◌∙◌}
 use Rattle.std.specs.Prelude.{Some}
 
--- patterns (src/descent/patterns.rt). Patterns after an ampersand, with the brace that closes them.
-
 -- Names: `seen`: what a `Reader` of the code has read. `patterns_turn`: patterns (`patterns` of lists.rt), as T after & in %{S*&T*}.
 -- `fails_then`: two parts in a row have the fault of the first. `ok_same`: the values of two equal results are equal.
 

@@ -4,8 +4,6 @@ use Rattle.drv_syntax.specs.Code.Writing.{seen}
 use Rattle.drv_syntax.specs.Descent as descent
 use Rattle.std.proofs.Common.{◌≡◌, length}
 
--- The loops of patterns (src/descent/patterns.rt). Patterns after an ampersand, with the brace that closes them.
-
 -- the patterns so far and what Descent gives of the text that is left make what is given of all
 abbrev pub invariant-loop-p : goal.invariant-loop-p
 invariant-loop-p l =

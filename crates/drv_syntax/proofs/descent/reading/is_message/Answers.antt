@@ -4,8 +4,6 @@ use Rattle.drv_syntax.proofs.descent.reading.is_message.Goals as goal
 use Rattle.drv_syntax.specs.Code.Writing.{seen, spelled, words_seen}
 use Rattle.std.proofs.Common.{◌∙◌, ap, drop, false, sym}
 
--- is_message (src/descent/reading.rt). Whether a text is one text for the user, which could go on.
-
 -- Names: `h`: the clause's equation. `tokens`, `labels`, `holds`: the fields of `Parts` (specs/Code/Writing). `rest`, `parts`: the fields
 -- of `Reading` (specs/Code/Writing). `seen`: what a `Reader` of the code has read. `message_by`: the code's test finds a message
 -- (`is_message`).

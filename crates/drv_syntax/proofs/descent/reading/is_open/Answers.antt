@@ -3,8 +3,6 @@ use Rattle.drv_syntax.proofs.descent.reading.is_open.Goals as goal
 use Rattle.drv_syntax.specs.Code.Ending.{ending_in, goes_on}
 use Rattle.std.proofs.Common.{◌-◌, ◌∙◌, ap, arith, drop, length, sym, take}
 
--- is_open (src/descent/reading.rt). Whether a text with these tokens ends in a text for the user that could go on.
-
 -- Names: `h`: the clause's equation. `ending_in`: how a text of this size ends, by its last token. `goes_on`: whether what was read can be
 -- kept where this follows it.
 

@@ -3,8 +3,6 @@ use Rattle.drv_syntax.proofs.WholeGiven.{rest_given_by, written}
 use Rattle.drv_syntax.proofs.descent.reading.read.Goals as goal
 use Rattle.std.proofs.Common.{ap, ◌∙◌}
 
--- read (src/descent/reading.rt). The parts of a text, of which those of its first bytes, so many, are these.
-
 -- Names: `then_ok`: a result and what follows it, unless it is a fault. `rest_given_by`: the rest of a text gives what its items give, as
 -- the list that a whole text is.
 

@@ -3,8 +3,6 @@ use Rattle.drv_syntax.proofs.WholeGiven.{from_start}
 use Rattle.drv_syntax.proofs.descent.reading.read_text.Goals as goal
 use Rattle.std.proofs.Common.{sym, ◌∙◌}
 
--- read_text (src/descent/reading.rt). The tokens and the labels of a text.
-
 -- Names: `ok_same`: the values of two equal results are equal. `gives_err`: code that passes on the fault of a part meets its clause.
 -- `from_start`: a text that is read from its start.
 

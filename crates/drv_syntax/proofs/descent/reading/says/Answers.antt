@@ -1,8 +1,6 @@
 use Rattle.drv_syntax.proofs.Messages.{run_whole}
 use Rattle.drv_syntax.proofs.descent.reading.says.Goals as goal
 
--- says (src/descent/reading.rt). Whether these bytes neither end a text for the user nor escape a byte of it.
-
 -- the run that is counted has all bytes
 pub returns : goal.returns
 returns c h = run_whole _ c.args.more.now c.run_length.result c.run_length.ensures.run h

@@ -3,8 +3,6 @@ use Rattle.drv_syntax.specs.Code.Runs.{in_run}
 use Rattle.std.proofs.Common.{◌≡◌, ◌≤◌, ◌+◌, ◌-◌, drop, length}
 use Rattle.std.specs.List.{prefix_len}
 
--- The loops of run_length (src/descent/runs.rt). How many bytes of such a run a text begins with.
-
 -- the bytes of the run that are passed and those at the front of what is left are all
 abbrev pub invariant-loop-length : goal.invariant-loop-length
 invariant-loop-length l = record {

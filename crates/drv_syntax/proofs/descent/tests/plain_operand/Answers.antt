@@ -5,8 +5,6 @@ use Rattle.drv_syntax.specs.Descent as d
 use Rattle.drv_syntax.specs.Descent.{Took}
 use Rattle.std.proofs.Common.{refl, sym, ◌∙◌}
 
--- plain_operand (src/descent/tests.rt). What a test asks that doesn't ask for a function's result, or a pattern.
-
 -- Names: `err_then`: code that passes on the fault of a part meets its clause. `gives_same`: code that returns what a call returned meets
 -- its clause.
 

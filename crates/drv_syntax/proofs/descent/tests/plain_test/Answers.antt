@@ -5,8 +5,6 @@ use Rattle.drv_syntax.specs.Code.Tests.{alternative_of, operand_seen, order_seen
 use Rattle.drv_syntax.specs.Code.Writing.{seen}
 use Rattle.std.proofs.Common.{inr, refl, ◌∙◌}
 
--- plain_test (src/descent/tests.rt). A test that doesn't ask for a function's result, or a pattern, after its front.
-
 -- Names: `seen`: what a `Reader` of the code has read. `plain_turn`: once what a test asks is read. `alternative_of`: the alternative that
 -- is open at a test in this place, if one is.
 

@@ -2,8 +2,6 @@ use Rattle.drv_syntax.proofs.PlainTokens.{tokens_step}
 use Rattle.drv_syntax.proofs.descent.tokens.push_plains.Goals as goal
 use Rattle.std.proofs.Common.{arith, ◌∙◌}
 
--- push_plains (src/descent/tokens.rt). The tokens of plain bytes, the first of them at this place.
-
 -- Names: `tokens_step`: a step of the loop of `push_plains` keeps the list of tokens that the loop leads to.
 
 -- one token more is put, in reserved room

@@ -3,8 +3,6 @@ use Rattle.drv_syntax.specs.Code.Tokens.{plain_tokens}
 use Rattle.std.proofs.Common.{◌≡◌, ◌+◌, ◌++◌, drop, length}
 use Rattle.std.specs.Prelude.{vec_capacity, vec_len}
 
--- The loops of push_plains (src/descent/tokens.rt). The tokens of plain bytes, the first of them at this place.
-
 -- the tokens so far and those of the bytes that are left are the tokens of all; each has reserved room
 abbrev pub invariant-loop-byte : goal.invariant-loop-byte
 invariant-loop-byte l =

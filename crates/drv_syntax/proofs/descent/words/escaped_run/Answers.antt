@@ -4,9 +4,6 @@ use Rattle.drv_syntax.specs.Code.Writing.{in_class, seen}
 use Rattle.drv_syntax.specs.Rest.{first_of, second_of}
 use Rattle.std.proofs.Common.{◌∙◌, ap, sym}
 
--- escaped_run (src/descent/words.rt). More of a run of bytes of the class and of escapes, after this part of it; nothing where the text
--- ends in an escape.
-
 -- Names: `in_class`: the byte belongs to a class that `word_run` of words.rt reads. `seen`: what a `Reader` of the code has read.
 -- `first_of`: the byte that comes next, if there is one.
 

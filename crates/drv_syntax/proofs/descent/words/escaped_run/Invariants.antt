@@ -3,9 +3,6 @@ use Rattle.drv_syntax.specs.Code.Writing.{in_class, more_ran, seen}
 use Rattle.drv_syntax.specs.Descent.{quoted}
 use Rattle.std.proofs.Common.{◌≡◌, length}
 
--- The loops of escaped_run (src/descent/words.rt). More of a run of bytes of the class and of escapes, after this part of it; nothing where
--- the text ends in an escape.
-
 -- the bytes that are copied and the run at the front of what is left make the whole run
 abbrev pub invariant-loop-b : goal.invariant-loop-b
 invariant-loop-b l =

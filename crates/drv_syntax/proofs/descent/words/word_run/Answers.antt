@@ -8,8 +8,6 @@ use Rattle.std.proofs.Common.{ap, sym, ◌∙◌}
 use Rattle.std.specs.List.{prefix_len}
 use Rattle.std.specs.Prelude.{Ok}
 
--- word_run (src/descent/words.rt). The longest run of bytes of the class and of escapes; nothing where the text ends in an escape.
-
 -- Names: `runs_in`: the bytes of a class that are no backslash. `seen`: what a `Reader` of the code has read.
 
 -- no backslash follows the run: its bytes are those of the text

@@ -4,8 +4,6 @@ use Rattle.drv_syntax.proofs.labels.Labels.lengthen_last.Goals as goal
 use Rattle.std.proofs.Common.{◌-◌, ◌∙◌, ap, arith, sym}
 use Rattle.std.specs.Prelude.{Ok}
 
--- lengthen_last (src/labels.rt). The word of the last one goes on with these bytes.
-
 -- Names: `within_mark`: the word of a mark that is at this place lies within n bytes. `ok_same`: the values of two equal results are equal.
 -- `labels_longer`: where the last word is at the end of the words.
 

@@ -1,8 +1,6 @@
 use Rattle.drv_syntax.proofs.Kept.{nothing_kept}
 use Rattle.drv_syntax.proofs.tree.SpecTree.empty.Goals as goal
 
--- empty (src/tree.rt). The tree of a text without bytes.
-
 -- the text without bytes has no token and no label
 pub invariant_of-result : goal.invariant_of-result
 invariant_of-result c =

@@ -4,8 +4,6 @@ use Rattle.drv_syntax.proofs.tree.SpecTree.extend.Goals as goal
 use Rattle.drv_syntax.specs.Code.Ending.{ending_in, goes_on}
 use Rattle.std.proofs.Common.{◌∙◌, ◌++◌, ap, arith, inr, length, length-append, sym}
 
--- extend (src/tree.rt). The tree of the text with more after it, or its first fault.
-
 -- Names: `read_of`: what is kept of a text that was read is its tokens and labels. `ending_in`: how a text of this size ends, by its last
 -- token. `goes_on`: whether what was read can be kept where this follows it. `kept_there`: where `extended` succeeds, its tokens and labels
 -- are those of both texts together.

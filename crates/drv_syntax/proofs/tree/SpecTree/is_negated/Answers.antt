@@ -2,8 +2,6 @@ use Rattle.drv_syntax.proofs.TreeLists.{label_within}
 use Rattle.drv_syntax.proofs.tree.SpecTree.is_negated.Goals as goal
 use Rattle.drv_syntax.specs.Parsed.{tree_of}
 
--- is_negated (src/tree.rt). Whether a `!` precedes the test at this place.
-
 -- the place of a token is that of a label
 pub is_negated-requires : goal.is_negated-requires
-is_negated-requires c = label_within (tree_of c.args.self.now) c.args.place c.labels.result c.labels.ensures c.requires
+is_negated-requires c = label_within (tree_of c.args.self.now) c.args.place c.labels.result.now c.labels.ensures c.requires

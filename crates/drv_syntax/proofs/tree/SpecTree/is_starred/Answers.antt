@@ -2,8 +2,6 @@ use Rattle.drv_syntax.proofs.TreeLists.{label_within}
 use Rattle.drv_syntax.proofs.tree.SpecTree.is_starred.Goals as goal
 use Rattle.drv_syntax.specs.Parsed.{tree_of}
 
--- is_starred (src/tree.rt). Whether a star follows the word of the part at this place.
-
 -- the place of a token is that of a label
 pub is_starred-requires : goal.is_starred-requires
-is_starred-requires c = label_within (tree_of c.args.self.now) c.args.place c.labels.result c.labels.ensures c.requires
+is_starred-requires c = label_within (tree_of c.args.self.now) c.args.place c.labels.result.now c.labels.ensures c.requires

@@ -1,9 +1,6 @@
 use Rattle.drv_words.proofs.Runs.{run_goes, word_goes}
 use Rattle.drv_words.proofs.response.Splitter.take_run.Goals as goal
 
--- take_run (src/response.rt). Takes a run of plain bytes at the front of a text outside quotes, with the white space after it if that ends
--- a word.
-
 -- Names: `run_goes`: a run after which the word goes on. `word_goes`: a run that is a whole word, with the white space after it.
 
 -- a run that is a whole word, with the white space after it

@@ -3,8 +3,6 @@ use Rattle.drv_syntax.proofs.descent.tokens.Tokens.end_last.Goals as goal
 use Rattle.drv_syntax.specs.Code.Messages.{ended, with_last}
 use Rattle.std.proofs.Common.{◌-◌, ◌∙◌, ap, arith}
 
--- end_last (src/descent/tokens.rt). The last one ends at this place.
-
 -- Names: `end_changed`: tokens with one in the place of the last that ends elsewhere (`end_last`). `ended`: a token that ends at this
 -- place.
 

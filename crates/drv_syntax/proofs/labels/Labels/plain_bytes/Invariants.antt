@@ -1,10 +1,7 @@
-use Rattle.drv_syntax.proofs.lent.LentLabels.plain_bytes.Given as goal
+use Rattle.drv_syntax.proofs.labels.Labels.plain_bytes.Given as goal
 use Rattle.drv_syntax.specs.Marks.{marked_labels}
 use Rattle.drv_syntax.specs.PlainRuns.{AreBytes}
 use Rattle.std.proofs.Common.{◌≡◌, ◌+◌, ◌-◌, ◌≤◌, drop, length, take, ℕ}
-
--- The loops of plain_bytes (src/lent.rt). The bytes of plain parts that follow one another from this place on, up to another part or to
--- this end, in one slice.
 
 -- the parts from the first place to the one that is reached are the bytes from `start` to `stop`; so bytes that follow there follow here
 abbrev pub invariant-loop-at : goal.invariant-loop-at
