@@ -21,8 +21,11 @@ pub input_is_output : (output copy : List ℕ) (line : Line) → is_input output
 input_is_output output copy line input same = rw (same, input) refl
 
 -- a refusal that was found is the result
-pub found_is_judged : (line : Line) (found : Option ArgsFault) (fault : ArgsFault) → found ≡ Some fault → judged line found ≡ Err fault
-found_is_judged line found fault e = ap (judged line) e
+pub refused_line : (line : Line) (found : Option ArgsFault) (fault : ArgsFault) (result : Result Line ArgsFault)
+    → (fault ≡ Memory) ⊎ (found ≡ Some fault) → IsErrAnd result (λ f. f ≡ fault) → Gives Memory (λ l. l) result (judged line found)
+refused_line line found fault (Ok l) refused is = absurd is
+refused_line line found fault (Err f) (inl memory) is = inl (is ∙ memory)
+refused_line line found fault (Err f) (inr some) is = inr (ap (judged line) some ∙ ap Err (sym is))
 
 -- without one the line is
 pub none_is_judged : (line : Line) (found : Option ArgsFault) → found ≡ None → judged line found ≡ Ok line

@@ -1,4 +1,5 @@
 use Rattle.drv_words.specs.Bytes.{equals}
+use Rattle.std.specs.Option.{option_and_then}
 use Rattle.std.specs.Prelude.{◌+◌, ◌*◌, ◌-◌, ◌&&◌, ◌==◌, Bool, List, [], ◌∷◌, None, Option, Some, if◌then◌else◌, nat_le, ℕ}
 
 -- How many sources may be under way at once: a number from 1 to 64, in decimal digits without a leading zero (this project's profile).
@@ -36,11 +37,10 @@ abbrev pub most_jobs : ℕ
 most_jobs = 64
 
 -- a number from 1 to the greatest
-abbrev pub in_range : Option ℕ → Option ℕ
-in_range None = None
-in_range (Some n) = if is_within 1 most_jobs n then Some n else None
+abbrev pub in_range : ℕ → Option ℕ
+in_range n = if is_within 1 most_jobs n then Some n else None
 
 -- the number after --jobs, if an equals sign and digits follow
 abbrev pub jobs_named : List ℕ → Option ℕ
 jobs_named [] = None
-jobs_named (b ∷ digits) = if b == equals then in_range (number_of digits) else None
+jobs_named (b ∷ digits) = if b == equals then option_and_then in_range (number_of digits) else None

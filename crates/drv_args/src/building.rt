@@ -13,7 +13,7 @@ ghost use Rattle.std.specs.Prelude.{◌≡◌, ◌∷◌, ◌++◌, [], IfOk, No
 use crate::jobs::{Jobs, jobs_named};
 use crate::option_table::{Effect, Setting, Tool};
 use crate::{Input, Line, Settings, Switch};
-use drv_words::{Listing, Word};
+use drv_words::{Listing, Word, copy_word};
 use std::alloc::{AllocError, Global};
 
 /// A line so far, and the language of the last `-x`.
@@ -68,16 +68,6 @@ fn language_for(alloc: Global, argument: &[u8]) -> Result<Option<Word>, AllocErr
         return Ok(None);
     }
     Ok(Some(Word::from_bytes(alloc, argument)?))
-}
-
-/// A copy of the language of the last `-x`.
-fn language_copy(language: &Option<Word>) -> Result<Option<Word>, AllocError>
-    ensures { IfOk result (λ copy. copy ≡ language.now) }
-{
-    match language {
-        Some(word) => Ok(Some(word.clone()?)),
-        None => Ok(None),
-    }
 }
 
 impl LineBuilder {
@@ -171,7 +161,7 @@ impl LineBuilder {
             (self.new ≡ with_inputs self.old (input.File name.now self.old.language ∷ [])) }
     {
         let name = Word::from_bytes(alloc, name)?;
-        let lang = language_copy(&self.language)?;
+        let lang = copy_word(&self.language)?;
         self.add_input(Input::File { name, lang })
     }
 

@@ -8,7 +8,7 @@ ghost use Rattle.drv_words.specs.Gives.{Gives};
 ghost use Rattle.std.specs.Prelude.{◌≡◌, IfOk, OnOk};
 
 use crate::building::LineBuilder;
-use crate::judging::judge_items;
+use crate::judging::items_fault;
 use crate::{ArgsFault, Effect, Line};
 use drv_words::Word;
 use std::alloc::{AllocError, Global};
@@ -44,13 +44,6 @@ fn made_line(alloc: Global, from_file: bool, items: &[Item]) -> Result<Line, All
     Ok(builder.line)
 }
 
-/// Makes a line from items, and judges it.
-fn judged_line(alloc: Global, from_file: bool, items: &[Item]) -> Result<Line, ArgsFault>
-    ensures { Gives fault.Memory (λ line. line) result (line_judged from_file items.now) }
-{
-    judge_items(made_line(alloc, from_file, items)?)
-}
-
 /// The line of these items: the one that `read` makes of words with these items. `from_file` says
 /// whether words of a response file are in it. Which files are sources is for the caller to know, so
 /// one output for several of them isn't refused here.
@@ -58,8 +51,11 @@ fn judged_line(alloc: Global, from_file: bool, items: &[Item]) -> Result<Line, A
 /// # Errors
 /// `Memory`; then, unless the specs are dumped, the first of `NoInputs`, `StdinNeedsLanguage` and
 /// `OutputIsInput`.
+#[tactic(auto, using(crate::proofs::Verdicts::refused_line, crate::proofs::Verdicts::none_is_judged))]
 pub fn line_of(alloc: Global, from_file: bool, items: &[Item]) -> Result<Line, ArgsFault>
     ensures line { Gives fault.Memory (λ line. line) result (line_judged from_file items.now) }
 {
-    judged_line(alloc, from_file, items)
+    let line = made_line(alloc, from_file, items)?;
+    items_fault(&line)?;
+    Ok(line)
 }

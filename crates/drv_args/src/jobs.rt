@@ -9,7 +9,7 @@ use std::marker::Model;
 const MOST_JOBS: usize = 64;
 
 /// How many sources may be under way at once, from 1 to 64.
-#[derive(Clone, Copy, Debug)]
+#[derive(Clone, Copy)]
 pub struct Jobs {
     number: usize,
 }
@@ -28,6 +28,16 @@ impl Model for Jobs {
 
 impl Jobs {
     ghost use Rattle.std.specs.Prelude.{◌≡◌, ◌≤◌};
+
+    /// This many sources, if that is a number from 1 to 64.
+    pub fn new(number: usize) -> Option<Jobs>
+        ensures { result ≡ in_range number }
+    {
+        if 1 <= number && number <= MOST_JOBS {
+            return Some(Jobs { number });
+        }
+        None
+    }
 
     /// One source after another.
     pub(crate) fn one() -> Jobs
@@ -86,24 +96,13 @@ fn number(digits: &[u8]) -> Option<usize>
     }
 }
 
-/// The number, if it is from 1 to 64.
-fn in_range(number: Option<usize>) -> Option<Jobs>
-    ensures { result ≡ in_range number }
-{
-    let number = number?;
-    if 1 <= number && number <= MOST_JOBS {
-        return Some(Jobs { number });
-    }
-    None
-}
-
 /// The number of jobs after `--jobs`: an equals sign, and a number from 1 to 64 in decimal digits
 /// without a leading zero.
 pub(crate) fn jobs_named(following: &[u8]) -> Option<Jobs>
     ensures { result ≡ jobs_named following.now }
 {
     match following {
-        [b'=', digits @ ..] => in_range(number(digits)),
+        [b'=', digits @ ..] => Jobs::new(number(digits)?),
         _ => None,
     }
 }

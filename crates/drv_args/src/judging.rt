@@ -1,14 +1,11 @@
 //! The refusals of a whole line.
 
-// In clauses: `Finds` says that a test finds the defined refusal, or none. `Gives` says that a
-// result is the defined one, or lack of memory.
+// In clauses: `Finds` says that a test finds the defined refusal, or none.
 ghost use Rattle.drv_args.specs.Lines.{has_many, has_switch, is_bare_stdin, is_file_input};
 ghost use Rattle.drv_args.specs.Lines.{input_fault, inputs_fault, is_file_named, is_input, is_sink};
-ghost use Rattle.drv_args.specs.Lines.{items_fault, judged, line_fault, needs_language, output_fault};
+ghost use Rattle.drv_args.specs.Lines.{items_fault, line_fault, needs_language, output_fault};
 ghost use Rattle.drv_args.specs.Lines.{stops};
 ghost use Rattle.drv_args.specs.Code.Judging.{Finds};
-ghost use Rattle.drv_args.specs.declared.fault.ArgsFault.TheVariants as fault;
-ghost use Rattle.drv_words.specs.Gives.{Gives};
 ghost use Rattle.std.specs.List.{list_any};
 ghost use Rattle.std.specs.Prelude.{◌≡◌, Some, count_by};
 
@@ -142,7 +139,7 @@ fn inputs_fault(line: &Line) -> Result<(), ArgsFault>
 }
 
 /// The first refusal of a line; there is none if the specs are dumped.
-fn line_fault(line: &Line) -> Result<(), ArgsFault>
+pub(crate) fn line_fault(line: &Line) -> Result<(), ArgsFault>
     ensures { Finds result (line_fault line.now) }
 {
     if line.settings.dump {
@@ -156,7 +153,7 @@ fn line_fault(line: &Line) -> Result<(), ArgsFault>
 }
 
 /// The first refusal of a line of items, where any number of files may have one output.
-fn items_fault(line: &Line) -> Result<(), ArgsFault>
+pub(crate) fn items_fault(line: &Line) -> Result<(), ArgsFault>
     ensures { Finds result (items_fault line.now) }
 {
     if line.settings.dump {
@@ -166,27 +163,5 @@ fn items_fault(line: &Line) -> Result<(), ArgsFault>
     match &line.settings.output {
         Some(output) => input_fault(line, output),
         None => Ok(()),
-    }
-}
-
-/// The line, unless it is refused.
-#[tactic(auto, using(crate::proofs::Verdicts::found_is_judged, crate::proofs::Verdicts::none_is_judged))]
-pub(crate) fn judge(line: Line) -> Result<Line, ArgsFault>
-    ensures { Gives fault.Memory (λ line. line) result (judged line (line_fault line)) }
-{
-    match line_fault(&line) {
-        Ok(()) => Ok(line),
-        Err(fault) => Err(fault),
-    }
-}
-
-/// The line of items, unless it is refused.
-#[tactic(auto, using(crate::proofs::Verdicts::found_is_judged, crate::proofs::Verdicts::none_is_judged))]
-pub(crate) fn judge_items(line: Line) -> Result<Line, ArgsFault>
-    ensures { Gives fault.Memory (λ line. line) result (judged line (items_fault line)) }
-{
-    match items_fault(&line) {
-        Ok(()) => Ok(line),
-        Err(fault) => Err(fault),
     }
 }

@@ -4,14 +4,14 @@ use crate::Jobs;
 use drv_words::{Listing, Word};
 
 /// A switch: the word without its first `-`, and its argument, if it takes the next word as one.
-#[derive(Debug, Drop)]
+#[derive(Drop)]
 pub struct Switch {
     pub name: Word,
     pub arg: Option<Word>,
 }
 
 /// An input of the line or a word for the linker, in the order of the line.
-#[derive(Debug, Drop)]
+#[derive(Drop)]
 pub enum Input {
     /// A file, with the language that `-x` gave it. Without one its suffix decides.
     File { name: Word, lang: Option<Word> },
@@ -22,7 +22,7 @@ pub enum Input {
 }
 
 /// What the line says about the call itself.
-#[derive(Debug, Drop)]
+#[derive(Drop)]
 pub struct Settings {
     /// `-###`: the plan is printed and nothing is started.
     pub dry: bool,
@@ -48,7 +48,7 @@ pub struct Settings {
 }
 
 /// A command line that was read.
-#[derive(Debug, Drop)]
+#[derive(Drop)]
 pub struct Line {
     pub switches: Listing<Switch>,
     pub inputs: Listing<Input>,
@@ -60,7 +60,7 @@ pub struct Line {
 }
 
 /// Arguments after the expansion of response files.
-#[derive(Debug, Drop)]
+#[derive(Drop)]
 pub struct Expanded {
     pub words: Listing<Word>,
     /// Whether a word was replaced by the words of a response file, even if there were none.

@@ -16,7 +16,7 @@ ghost use Rattle.std.specs.Prelude.{nat_eq, true};
 
 use crate::building::{LentItem, LineBuilder};
 use crate::jobs::jobs_named;
-use crate::judging::judge;
+use crate::judging::line_fault;
 use crate::option_table::{Effect, Form, Row, rows_after};
 use crate::{ArgsFault, Expanded, Line};
 use drv_words::Word;
@@ -232,17 +232,6 @@ fn read_words(alloc: Global, expanded: &Expanded) -> Result<Line, ArgsFault>
     Ok(builder.line)
 }
 
-/// Reads the words of a line, and judges it.
-fn read_line(alloc: Global, expanded: &Expanded) -> Result<Line, ArgsFault>
-    ensures { Gives fault.Memory (λ line. line) result (line_read expanded.now) }
-{
-    if expanded.words.len() > MOST_ARGUMENTS {
-        return Err(ArgsFault::TooManyArguments);
-    }
-    let line = read_words(alloc, expanded)?;
-    judge(line)
-}
-
 /// Reads words by the option table: the first row that fits a word decides (GCC manual, "Overall
 /// Options").
 ///
@@ -254,5 +243,10 @@ fn read_line(alloc: Global, expanded: &Expanded) -> Result<Line, ArgsFault>
 pub fn read(alloc: Global, expanded: &Expanded) -> Result<Line, ArgsFault>
     ensures line { Gives fault.Memory (λ line. line) result (line_read expanded.now) }
 {
-    read_line(alloc, expanded)
+    if expanded.words.len() > MOST_ARGUMENTS {
+        return Err(ArgsFault::TooManyArguments);
+    }
+    let line = read_words(alloc, expanded)?;
+    line_fault(&line)?;
+    Ok(line)
 }

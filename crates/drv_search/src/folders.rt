@@ -2,7 +2,7 @@
 
 // In clauses: `TellsMore` says that a list got what a definition gives, by any facts that extend
 // what is known. `Asked` says that a call only asked, and that the table has the answers.
-ghost use Rattle.drv_search.specs.Search.{folder_options, folders_under, is_dir, machine_folder};
+ghost use Rattle.drv_search.specs.Search.{folder_options, folders_under, is_dir};
 ghost use Rattle.drv_search.specs.Search.{options_for, without_slash};
 ghost use Rattle.drv_search.specs.Code.Telling.{TellsMore};
 ghost use Rattle.drv_system.specs.Asking.{Asks, Extends};
@@ -44,25 +44,6 @@ fn folder_option(alloc: Global, folder: &Word) -> Result<Word, AllocError>
     Ok(option)
 }
 
-/// Adds the option for a path, if it is a folder.
-fn push_if_folder<S: System>(
-    alloc: Global,
-    options: &mut Listing<Word>,
-    path: &Word,
-    outside: &mut Outside<'_, S>,
-) -> Result<(), AllocError>
-    ensures asks { Asked S.events outside.old outside.new }
-    ensures option { TellsMore outside.new result (λ F. options_for F (path.now ∷ []))
-        options.old options.new }
-{
-    let kind = outside.facts.kind(outside.sys, path)?;
-    if !is_dir(kind) {
-        return Ok(());
-    }
-    options.push(folder_option(alloc, path)?)?;
-    Ok(())
-}
-
 /// Adds the option for a path without the slash at its end, if it is a folder.
 fn push_option<S: System>(
     alloc: Global,
@@ -75,23 +56,12 @@ fn push_option<S: System>(
         options.old options.new }
 {
     let folder = Word::from_bytes(alloc, without_slash(path))?;
-    push_if_folder(alloc, options, &folder, outside)
-}
-
-/// Adds the option for the machine's folder under a prefix.
-fn push_machine_option<S: System>(
-    alloc: Global,
-    options: &mut Listing<Word>,
-    prefix: &[u8],
-    outside: &mut Outside<'_, S>,
-) -> Result<(), AllocError>
-    ensures asks { Asked S.events outside.old outside.new }
-    ensures option { TellsMore outside.new result
-        (λ F. options_for F (without_slash (prefix.now ++ machine_folder) ∷ []))
-        options.old options.new }
-{
-    let machine = machine_folder_under(alloc, prefix)?;
-    push_option(alloc, options, machine.as_bytes(), outside)
+    let kind = outside.facts.kind(outside.sys, &folder)?;
+    if !is_dir(kind) {
+        return Ok(());
+    }
+    options.push(folder_option(alloc, &folder)?)?;
+    Ok(())
 }
 
 /// Adds the options for the folders under a prefix.
@@ -106,7 +76,8 @@ fn push_options<S: System>(
     ensures options { TellsMore outside.new result (λ F. options_for F (folders_under prefix.now))
         options.old options.new }
 {
-    push_machine_option(alloc, options, prefix, outside)?;
+    let machine = machine_folder_under(alloc, prefix)?;
+    push_option(alloc, options, machine.as_bytes(), outside)?;
     // A prefix without a slash is no folder, only the beginning of names.
     if !ends_with_slash(prefix) {
         return Ok(());

@@ -31,7 +31,7 @@ const LIBRARY_FOLDERS: [&[u8]; 4] = [
 ];
 
 /// The prefixes of a search, in order.
-#[derive(Debug, Drop)]
+#[derive(Drop)]
 pub struct Prefixes {
     /// The prefixes of programs.
     pub programs: Listing<Word>,

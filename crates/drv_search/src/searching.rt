@@ -58,35 +58,6 @@ fn plain_at<S: System>(path: Word, outside: &mut Outside<'_, S>) -> Result<Optio
     Ok(if is_plain(kind) { Some(path) } else { None })
 }
 
-/// The file in the folder of the machine under a prefix.
-fn machine_hit<S: System>(
-    alloc: Global,
-    prefix: &[u8],
-    name: &[u8],
-    outside: &mut Outside<'_, S>,
-) -> Result<Option<Word>, AllocError>
-    ensures asks { Asked S.events outside.old outside.new }
-    ensures hit { Tells outside.new result
-        (λ F. found F ((prefix.now ++ machine_folder ++ name.now) ∷ [])) }
-{
-    let path = machine_path(alloc, prefix, name)?;
-    plain_at(path, outside)
-}
-
-/// The file in a prefix itself.
-fn bare_hit<S: System>(
-    alloc: Global,
-    prefix: &[u8],
-    name: &[u8],
-    outside: &mut Outside<'_, S>,
-) -> Result<Option<Word>, AllocError>
-    ensures asks { Asked S.events outside.old outside.new }
-    ensures hit { Tells outside.new result (λ F. found F ((prefix.now ++ name.now) ∷ [])) }
-{
-    let path = bare_path(alloc, prefix, name)?;
-    plain_at(path, outside)
-}
-
 /// The file under one prefix: in the folder of the machine, or else in the prefix itself.
 #[tactic(auto, using(drv_system::proofs::AskedCalls::asked_further))]
 fn found_under<S: System>(
@@ -98,10 +69,12 @@ fn found_under<S: System>(
     ensures asks { Asked S.events outside.old outside.new }
     ensures hit { Tells outside.new result (λ F. found F (candidates_under name.now prefix.now)) }
 {
-    if let Some(hit) = machine_hit(alloc, prefix, name, outside)? {
+    let path = machine_path(alloc, prefix, name)?;
+    if let Some(hit) = plain_at(path, outside)? {
         return Ok(Some(hit));
     }
-    bare_hit(alloc, prefix, name, outside)
+    let path = bare_path(alloc, prefix, name)?;
+    plain_at(path, outside)
 }
 
 /// The first file under these prefixes. After a hit no question is asked.

@@ -10,7 +10,7 @@ use std::alloc::AllocError;
 pub const MOST_BYTES: usize = 16_777_216;
 
 /// The result of reading a whole file.
-#[derive(Debug, Drop, PartialEq)]
+#[derive(Drop, PartialEq)]
 pub enum ReadAnswer {
     /// The bytes of the file.
     Read(Word),
@@ -36,7 +36,7 @@ impl Clone for ReadAnswer {
 }
 
 /// The kind of file that a path leads to. Links are followed.
-#[derive(Clone, Copy, Debug, PartialEq, Eq)]
+#[derive(Clone, Copy, PartialEq, Eq)]
 pub enum PathKind {
     /// A plain file.
     Plain,
@@ -49,7 +49,7 @@ pub enum PathKind {
 }
 
 /// Whether a text could be written.
-#[derive(Clone, Copy, Debug, PartialEq, Eq)]
+#[derive(Clone, Copy, PartialEq, Eq)]
 pub enum TellAnswer {
     /// It was written.
     Told,
@@ -67,7 +67,7 @@ impl TellAnswer {
 }
 
 /// One call of the outside: its argument, then its answer. A step of a run has a fixed size.
-#[derive(Debug, Drop, PartialEq)]
+#[derive(Drop, PartialEq)]
 pub enum Event {
     /// The program asked for the bytes of a file.
     Read(Word, ReadAnswer),

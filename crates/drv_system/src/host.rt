@@ -63,8 +63,15 @@ impl Model for HostSystem {
 }
 
 impl HostSystem {
+    /// The system of this process, before any question. It reports in the name of `gdrv`.
+    pub fn new(rt: HostRuntime) -> HostSystem
+        ensures { result.journal ≡ [] }
+    {
+        HostSystem::reporting_as(rt, Reporter::Gdrv)
+    }
+
     /// The system of this process, before any question. It reports in the name of a program.
-    pub fn new(rt: HostRuntime, reporter: Reporter) -> HostSystem
+    pub fn reporting_as(rt: HostRuntime, reporter: Reporter) -> HostSystem
         ensures { result.journal ≡ [] }
     {
         let journal = Vec::new(rt.alloc());

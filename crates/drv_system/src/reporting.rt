@@ -119,7 +119,8 @@ impl Reports {
         let mut line = Word::from_bytes(alloc, b"gdrv-cc: cannot start ")?;
         line.extend_from_slice(program_at(plan, place))?;
         if let Some(refusal) = self.refusal {
-            line.extend_from_slice(format!(in alloc; ": {refusal}")?.as_bytes())?;
+            let said = format!(in alloc; ": {refusal}")?;
+            line.extend_from_slice(without_number(&said).as_bytes())?;
         }
         line.push(b'\n')?;
         Ok(line)
@@ -173,6 +174,14 @@ fn program_at(plan: &Plan, place: Place) -> &[u8] {
     match command_at(plan, place) {
         Some(command) => command.program.as_bytes(),
         None => b"",
+    }
+}
+
+/// What an error says, without its number, which gcc doesn't print.
+fn without_number(said: &str) -> &str {
+    match said.split_once(" (os error ") {
+        Some((reason, _)) => reason,
+        None => said,
     }
 }
 

@@ -9,7 +9,7 @@ use drv_words::{Note, Place, Plan, Word};
 use std::alloc::{AllocError, Global};
 
 /// The program in whose name a system reports.
-#[derive(Clone, Copy, Debug, PartialEq, Eq)]
+#[derive(Clone, Copy, PartialEq, Eq)]
 pub enum Reporter {
     /// `gdrv`, which reports each failed step.
     Gdrv,

@@ -338,9 +338,6 @@ impl System for ScriptSystem {
         true
     }
 
-    /// No time passes.
-    fn pause(&self) {}
-
     #[tactic(auto, using(crate::proofs::Holding::numbered_step))]
     fn remove(&mut self, plan: &Plan, place: Place) -> RemoveAnswer
         requires room { 0 < self.old.spare_events }

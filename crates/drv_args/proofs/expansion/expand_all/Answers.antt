@@ -6,8 +6,6 @@ use Rattle.std.proofs.Common.{◌≡◌, ◌-◌, ◌∷◌, ◌++◌, ◌∙◌
 use Rattle.std.proofs.lemmas.List.{nil_from_length}
 use Rattle.drv_args.proofs.expansion.expand_all.Goals as goal
 
--- expand_all (src/expansion.rt). Replaces each argument that names a file.
-
 -- Names: `F`: what is known of the outside. `e`: that `F` extends the facts of this call. `limited`: the facts with each file judged by the
 -- limit. `asked_further`: calls that only asked, one after another. `extends_before`: what extends the facts after a call extends those
 -- before it. `expands_memory`: lack of memory may be the result at any word. `end_goes`: once no word is left, those that are done are all.

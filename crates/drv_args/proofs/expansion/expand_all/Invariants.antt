@@ -6,8 +6,6 @@ use Rattle.drv_system.specs.Facts.{Facts}
 use Rattle.std.proofs.Common.{◌≤◌, ◌+◌, ◌*◌, ◌^◌, reverse, vec_len}
 use Rattle.drv_args.proofs.expansion.expand_all.Given as goal
 
--- The loops of expand_all (src/expansion.rt). Replaces each argument that names a file.
-
 -- the words that are done, with the expansion of the stack, are what all arguments give (`GoesOn`)
 abbrev pub invariant-loop-word : goal.invariant-loop-word
 invariant-loop-word g l = record {

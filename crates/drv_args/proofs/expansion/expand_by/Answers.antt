@@ -4,8 +4,6 @@ use Rattle.drv_args.specs.Expansion.{file_named, limited}
 use Rattle.std.proofs.Common.{◌∙◌, ap, is_some, sym}
 use Rattle.std.specs.List.{list_any}
 
--- expand_by (src/expansion.rt). Replaces each argument that names a file, if there is one.
-
 -- Names: `F`: what is known of the outside. `e`: that `F` extends the facts of this call. `none_expanded`: and the expansion is the words
 -- themselves. `file_named`: the file that a word @PATH names, whose path isn't empty.
 

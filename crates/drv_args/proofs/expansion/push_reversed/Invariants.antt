@@ -1,8 +1,6 @@
 use Rattle.std.proofs.Common.{◌≡◌, ◌++◌, drop, length, reverse, take}
 use Rattle.drv_args.proofs.expansion.push_reversed.Given as goal
 
--- The loops of push_reversed (src/expansion.rt). Moves the words from an index on to the stack, with the first on top.
-
 -- the stack so far, with the words that are left in reverse, is that before with all of them
 abbrev pub invariant-loop-words : goal.invariant-loop-words
 invariant-loop-words l = record {

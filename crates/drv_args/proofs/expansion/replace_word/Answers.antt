@@ -6,8 +6,6 @@ use Rattle.drv_words.specs.Response.{SplitsOnto}
 use Rattle.std.proofs.Common.{◌≡◌, List, ap, inr, not, refl, subst, sym, ◌∙◌, ℕ}
 use Rattle.drv_args.proofs.expansion.replace_word.Goals as goal
 
--- replace_word (src/expansion.rt). If a word names a response file that can be read, adds the words of that file to `words`.
-
 -- Names: `F`: what is known of the outside. `e`: that `F` extends the facts of this call. `replacement_is`: the replacement of a word, by
 -- the facts after the call that asked for its file. `is_over`: whether a text has more words than the limit. `by_answer`: by the answer for
 -- the file. `judged`: a text with too many words counts as too large.

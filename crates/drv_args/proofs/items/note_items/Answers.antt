@@ -1,8 +1,6 @@
 use Rattle.drv_args.proofs.LineSteps.{next_item}
 use Rattle.drv_args.proofs.items.note_items.Goals as goal
 
--- note_items (src/items.rt). Adds items to a line.
-
 -- Names: `next_item`: the next item of a list.
 
 pub loop-item-preserved : goal.loop-item-preserved

@@ -6,8 +6,6 @@ use Rattle.std.proofs.lemmas.Iterator.{YieldsList-from_slice}
 use Rattle.std.proofs.lemmas.List.Sums.{length-filter}
 use Rattle.std.specs.Slice.Iter.{iter_rest}
 
--- file_count (src/judging.rt). How many inputs are files.
-
 -- Names: `is_file_input`: whether an input is a file.
 
 pub returns : goal.returns

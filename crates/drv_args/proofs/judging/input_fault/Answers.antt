@@ -3,8 +3,6 @@ use Rattle.drv_args.specs.Lines.{is_input}
 use Rattle.std.proofs.Common.{ap, inr, sym, ◌∙◌}
 use Rattle.drv_args.proofs.judging.input_fault.Goals as goal
 
--- input_fault (src/judging.rt). The refusal of an output that is also an input.
-
 -- Names: `input_is_output`: an output that is an input is refused. `is_input`: whether an output is an input.
 
 pub returns-then-is_input : goal.returns-then-is_input

@@ -1,8 +1,6 @@
 use Rattle.drv_args.proofs.FrontLaws.{offends_law, reads_law}
 use Rattle.drv_args.proofs.laws.items_are_fronts.Goals as goal
 
--- items_are_fronts (src/laws.rt). A law: the items of words are those of a concatenation of fronts, each fitted by its first row.
-
 -- Names: `offends_law`: both give the same refusals. `reads_law`: both give the same items.
 
 pub returns-clause-reads : goal.returns-clause-reads

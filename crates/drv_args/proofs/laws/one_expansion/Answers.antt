@@ -1,9 +1,6 @@
 use Rattle.drv_args.proofs.OneExpansion.{refused_once, responds_alone, responds_once}
 use Rattle.drv_args.proofs.laws.one_expansion.Goals as goal
 
--- one_expansion (src/laws.rt). A law: words have one expansion, which leaves one number of replacements, or they are refused for one
--- reason, and never both.
-
 -- Names: `refused_once`: words are refused for one reason. `responds_alone`: words that expand are not refused.
 
 pub returns-clause-responds : goal.returns-clause-responds

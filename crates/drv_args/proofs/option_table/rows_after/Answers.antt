@@ -3,9 +3,6 @@ use Rattle.drv_args.specs.Options.{option_table}
 use Rattle.drv_args.proofs.option_table.rows_after.Goals as goal
 use Rattle.std.proofs.Common.{arith, refl}
 
--- rows_after (src/option_table.rt). The rows whose option begins with `-` and this byte, in the order of the table (GCC manual, "Overall
--- Options", "Directory Options", "Preprocessor Options", "Link Options"; the forms of an option are this project's profile).
-
 -- Names: `rows_at`: the rows that the code has for one letter are those of the table that may fit. `no_rows`: for other letters the table
 -- has no rows.
 

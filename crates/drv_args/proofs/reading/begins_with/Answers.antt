@@ -2,8 +2,6 @@ use Rattle.drv_args.proofs.Beginnings.{begins_apart, begins_whole}
 use Rattle.drv_args.proofs.reading.begins_with.Goals as goal
 use Rattle.std.proofs.Common.{arith}
 
--- begins_with (src/reading.rt). Whether a word begins with an option.
-
 -- Names: `begins_apart`: so if a byte differs the word doesn't begin with the option. `begins_whole`: once all its bytes were compared, the
 -- word begins with the option.
 

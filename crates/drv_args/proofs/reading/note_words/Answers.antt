@@ -3,8 +3,6 @@ use Rattle.drv_args.proofs.reading.note_words.Goals as goal
 use Rattle.drv_args.specs.declared.option_table.Effect.TheVariants as given
 use Rattle.std.proofs.Common.{[]}
 
--- note_words (src/reading.rt). Adds words to a line.
-
 -- Names: `alone_next`: the next word is a front. `last_line`: once no word is left, the line is what was built. `wants_next`: the next word
 -- needs the word after it.
 

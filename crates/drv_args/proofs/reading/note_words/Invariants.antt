@@ -3,8 +3,6 @@ use Rattle.drv_args.specs.Fronts.{items_of}
 use Rattle.std.proofs.Common.{◌≡◌, length}
 use Rattle.drv_args.proofs.reading.note_words.Given as goal
 
--- The loops of note_words (src/reading.rt). Adds words to a line.
-
 -- the line so far, with the items of the words that are left, gives what the whole line gives
 abbrev pub invariant-loop-left : goal.invariant-loop-left
 invariant-loop-left l = line_with l.builder (items_of l.left) ≡ line_with l.fn.builder (items_of l.words)

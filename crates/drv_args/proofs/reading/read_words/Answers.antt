@@ -5,8 +5,6 @@ use Rattle.drv_args.specs.Fronts.{items_of}
 use Rattle.drv_args.specs.Lines.{line_of_items}
 use Rattle.std.proofs.Common.{◌≡◌, ◌∙◌, ap, rules, sym}
 
--- read_words (src/reading.rt). Reads words into a line.
-
 -- Names: `items_of`: the items of the words. `line_with`: the line with the result of the rest of the words. `first_line`: before the first
 -- item the line of all items is still to be built.
 

@@ -2,8 +2,6 @@ use Rattle.drv_args.proofs.Beginnings.{fits_whole}
 use Rattle.drv_args.proofs.reading.start_by_row.Goals as goal
 use Rattle.std.proofs.Common.{◌++◌, ◌∙◌, ap}
 
--- start_by_row (src/reading.rt). How a word begins a front, by the row that fits it.
-
 -- Names: `fits_whole`: in each form the word is the option and what follows.
 
 pub returns-in-Joined-clause-whole : goal.returns-in-Joined-clause-whole

@@ -4,8 +4,6 @@ use Rattle.drv_args.specs.Code.Lookup.{shown}
 use Rattle.std.proofs.Common.{◌∙◌, None, Some, ap, arith, map, sym}
 use Rattle.std.specs.Option.{option_map}
 
--- start_of (src/reading.rt). How a word begins a front.
-
 -- Names: `shown`: a row of the code's table, without its references. `looked_up`: how a word begins a front, by the row that was found for
 -- it.
 

@@ -1,8 +1,6 @@
 use Rattle.drv_c99.proofs.ItemLaws.{offends_law, reads_law}
 use Rattle.drv_c99.proofs.laws.items_are_read.Goals as goal
 
--- items_are_read (src/laws.rt). A law: the rules split a line into its items, one after another.
-
 -- Names: `offends_law`: both give the same refusals. `reads_law`: both give the same items.
 
 pub returns-clause-reads : goal.returns-clause-reads

@@ -2,8 +2,6 @@ use Rattle.drv_c99.proofs.Steps.{ends_next, flag_next, joined_gives, joined_next
 use Rattle.drv_c99.proofs.translating.add_words.Goals as goal
 use Rattle.std.proofs.Common.{Ok, ap, sym}
 
--- add_words (src/translating.rt). Adds words to a front.
-
 -- Names: `memory_goes`: lack of memory may be given at any word. `ends_next`: after the end of the options the words after it give the
 -- result of the whole. `flag_next`: that, for a flag. `joined_gives`: a refused option with its argument in the same word gives the
 -- refusal.

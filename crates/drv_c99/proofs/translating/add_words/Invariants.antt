@@ -4,8 +4,6 @@ use Rattle.drv_c99.specs.Front.{items_of}
 use Rattle.std.proofs.Common.{◌≡◌, length}
 use Rattle.drv_c99.proofs.translating.add_words.Given as goal
 
--- The loops of add_words (src/translating.rt). Adds words to a front.
-
 -- the front so far, with the items of the words that are left, gives what the whole line gives
 abbrev pub invariant-loop-left : goal.invariant-loop-left
 invariant-loop-left l = front_with l.front (items_of l.side l.left) ≡ front_with l.fn.front (items_of BeforeEnd l.words)

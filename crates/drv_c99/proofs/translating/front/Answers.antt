@@ -3,9 +3,6 @@ use Rattle.drv_c99.proofs.Steps.{front_given, front_refused}
 use Rattle.drv_c99.proofs.translating.front.Goals as goal
 use Rattle.drv_c99.specs.Front.{items_of}
 
--- front (src/translating.rt). The words of the driver for a line of `c99`: `-std=c99`, the macros of `-D`, those of `-U`, and the rest in
--- order (POSIX, c99).
-
 -- Names: `items_of`: the items of the words. `front_given`: once no word is left, the words of the front are those of the line.
 
 pub returns : goal.returns

@@ -4,8 +4,6 @@ use Rattle.drv_search.specs.Search.{folders_under, options_for}
 use Rattle.drv_system.proofs.AskedCalls.{asked_further, extends_before}
 use Rattle.std.proofs.Common.{flat_map}
 
--- push_all (src/folders.rt). Adds the options for the folders under prefixes.
-
 -- Names: `after_options`: the options so far, followed by others. `prefix_done`: one more prefix, by its bytes, and the end of the list.
 
 -- one more prefix adds its options

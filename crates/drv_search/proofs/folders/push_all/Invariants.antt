@@ -6,8 +6,6 @@ use Rattle.drv_system.specs.Facts.{Facts}
 use Rattle.std.proofs.Common.{◌≡◌, drop, flat_map}
 use Rattle.drv_search.proofs.folders.push_all.Given as goal
 
--- The loops of push_all (src/folders.rt). Adds the options for the folders under prefixes.
-
 -- the options so far, with those of the prefixes that are left, are all, and the call only asked
 abbrev pub invariant-loop-prefix : goal.invariant-loop-prefix
 invariant-loop-prefix g l = record {

@@ -2,8 +2,6 @@ use Rattle.drv_search.proofs.Candidates.{prefix_more}
 use Rattle.drv_system.proofs.AskedCalls.{asked_further, extends_before}
 use Rattle.drv_search.proofs.prefixes.given_prefixes.Goals as goal
 
--- given_prefixes (src/prefixes.rt). The prefixes for the arguments of `-B`.
-
 -- Names: `prefix_more`: the prefixes so far with one more, in the code's loop. `asked_further`: calls that only asked, one after another.
 
 -- one more argument gives its prefix

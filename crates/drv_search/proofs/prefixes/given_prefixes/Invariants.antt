@@ -6,8 +6,6 @@ use Rattle.drv_system.specs.Facts.{Facts}
 use Rattle.std.proofs.Common.{◌≡◌, drop}
 use Rattle.drv_search.proofs.prefixes.given_prefixes.Given as goal
 
--- The loops of given_prefixes (src/prefixes.rt). The prefixes for the arguments of `-B`.
-
 -- the prefixes so far, with those of the arguments that are left, are all, and the call only asked
 abbrev pub invariant-loop-dir : goal.invariant-loop-dir
 invariant-loop-dir g l = record {

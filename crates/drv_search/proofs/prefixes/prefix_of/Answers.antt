@@ -3,8 +3,6 @@ use Rattle.drv_search.proofs.prefixes.prefix_of.Goals as goal
 use Rattle.drv_search.specs.Search.{is_prefix}
 use Rattle.std.proofs.Common.{◌∙◌, ap, sym}
 
--- prefix_of (src/prefixes.rt). The prefix for an argument of `-B`.
-
 -- Names: `prefix_given`: the prefix of -B, by the kind that the code asked. `is_prefix`: an argument that is empty or ends with a slash is
 -- a prefix already.
 

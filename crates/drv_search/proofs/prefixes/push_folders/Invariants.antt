@@ -1,8 +1,6 @@
 use Rattle.std.proofs.Common.{◌≡◌, ◌++◌, drop, map}
 use Rattle.drv_search.proofs.prefixes.push_folders.Given as goal
 
--- The loops of push_folders (src/prefixes.rt). Adds folders at the end.
-
 -- the prefixes so far, with the folders that are left, are those before and all folders
 abbrev pub invariant-loop-folder : goal.invariant-loop-folder
 invariant-loop-folder l = l.prefixes ++ map (λ folder. folder.now) (drop l.folder-index l.folders) ≡ l.fn.prefixes

@@ -1,8 +1,6 @@
 use Rattle.std.proofs.Common.{◌≡◌, ◌++◌, drop}
 use Rattle.drv_search.proofs.prefixes.with_folders.Given as goal
 
--- The loops of with_folders (src/prefixes.rt). These prefixes, followed by the folders.
-
 -- the prefixes so far, with those that are left, are those of -B
 abbrev pub invariant-loop-prefix : goal.invariant-loop-prefix
 invariant-loop-prefix l = l.prefixes ++ drop l.prefix-index l.given ≡ l.given

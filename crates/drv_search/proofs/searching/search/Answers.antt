@@ -3,8 +3,6 @@ use Rattle.drv_system.proofs.AskedCalls.{asked_further, extends_before}
 use Rattle.drv_search.proofs.searching.search.Goals as goal
 use Rattle.std.proofs.Common.{◌∙◌, sym}
 
--- search (src/searching.rt). The first file under these prefixes.
-
 -- Names: `extends_before`: what extends the facts after a call extends those before it. `prefix_hit`: a file under this prefix.
 -- `prefix_missed`: nothing under this prefix.
 

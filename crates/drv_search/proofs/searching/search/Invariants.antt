@@ -5,8 +5,6 @@ use Rattle.drv_system.specs.Facts.{Facts}
 use Rattle.std.proofs.Common.{◌≡◌, drop}
 use Rattle.drv_search.proofs.searching.search.Given as goal
 
--- The loops of search (src/searching.rt). The first file under these prefixes.
-
 -- a search under the prefixes that are left gives what one under all gives, and the call only asked
 abbrev pub invariant-loop-prefix : goal.invariant-loop-prefix
 invariant-loop-prefix g l = record {

@@ -2,8 +2,6 @@ use Rattle.drv_system.proofs.FirstAnswers.{kinds_first, reads_first, variables_f
 use Rattle.drv_system.proofs.facts.first_answers_law.Goals as goal
 use Rattle.drv_system.specs.Facts.{no_facts}
 
--- first_answers_law (src/facts.rt). A law: for each path and each name, the facts of a journal are its first answers.
-
 -- Names: `no_facts`: nothing is known yet. `reads_first`: after a journal the read of a path is known by the first event that reads it.
 
 -- the bytes of a file: by the first answer for its path

@@ -8,8 +8,6 @@ use Rattle.std.proofs.lemmas.Iterator.Splits.{YieldsList-from_slice_split}
 use Rattle.std.proofs.lemmas.List.{map-append}
 use Rattle.std.specs.Slice.Iter.{split_callee, split_done, split_rest}
 
--- add_pieces (src/building.rt). Adds the pieces of a text between its commas for a tool, including empty ones.
-
 -- Names: `next_pieces`: one more piece in the code's loop. `no_pieces`: no pieces change nothing. `with_pieces`: the pieces of -Wa and -Wp
 -- are options, those of -Wl are inputs.
 

@@ -6,8 +6,6 @@ use Rattle.std.specs.Cmp.Lexicographic.{pointwise}
 use Rattle.std.specs.Map.{lookup}
 use Rattle.std.specs.Prelude.{cond}
 
--- kind (src/facts.rt). The kind of a path: the table's answer, or else the system's, which the table keeps.
-
 -- Names: `appended`: a key that wasn't there goes to the end. `consulted`: the question was answered. `consults_asks`: a look-up that asks,
 -- or finds the answer, only asked. `in_order_unknown`: what the table knows, the map knows.
 

@@ -2,8 +2,6 @@ use Rattle.drv_system.proofs.AnswerMaps.{absent, place_answers, place_cleared, p
 use Rattle.drv_system.proofs.Consulting.{consulted, consults_asks, not_consulted}
 use Rattle.drv_system.proofs.facts.FactTable.variable.Goals as goal
 
--- variable (src/facts.rt). Asks for the value of a variable, unless the table knows it.
-
 -- Names: `absent`: where the code finds no answer the map has none. `consults_asks`: a look-up that asks, or finds the answer, only asked.
 -- `place_made`: after a pair was put the map has an answer to its key.
 

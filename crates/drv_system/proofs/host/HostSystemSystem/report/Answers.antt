@@ -2,8 +2,6 @@ use Rattle.drv_system.proofs.Holding.{holds_step}
 use Rattle.std.proofs.Common.{refl}
 use Rattle.drv_system.proofs.host.HostSystemSystem.report.Goals as goal
 
--- report (src/system.rt). Reports a failed step to the user, on standard error.
-
 -- the numbers of children stay below the count, and the end of a pipe is kept exactly while one is pending
 pub invariant_of-self : goal.invariant_of-self
 invariant_of-self c = holds_step _ _ c.self.invariant c.push_reserved.ensures.items refl tt refl

@@ -5,8 +5,6 @@ use Rattle.drv_system.proofs.host.HostSystemSystem.start.Goals as goal
 use Rattle.drv_system.proofs.host.HostSystemSystem.start.Goals.{else-to_pipe, then-to_pipe}
 use Rattle.drv_system.specs.Code.Output.{is_pipe}
 
--- start (src/system.rt). Starts a command of the plan.
-
 -- Names: `is_pipe`: whether a command writes into a pipe. `holds_step`: what holds, still holds after a step that starts no child.
 -- `holds_started`: what holds, still holds after a start.
 

@@ -2,8 +2,6 @@ use Rattle.drv_system.proofs.Holding.{holds_beside}
 use Rattle.std.proofs.Common.{refl}
 use Rattle.drv_system.proofs.host.HostSystemSystem.variable.Goals as goal
 
--- variable (src/system.rt). Asks for the value of a variable of the environment.
-
 -- the new event is no step of a run, so the numbers of children and the pending pipe stay as they are
 pub invariant_of-self-2 : goal.invariant_of-self-2
 invariant_of-self-2 c = holds_beside _ c.self.invariant c.in_ok-note_variable.ensures.event refl refl refl

@@ -3,8 +3,6 @@ use Rattle.std.proofs.Common.{◌+◌, ◌<◌, ap, arith, length, take}
 use Rattle.std.proofs.lemmas.Grind.{common_steps}
 use Rattle.drv_system.proofs.reading.OpenFile.read_within.Goals as goal
 
--- read_within (src/reading.rt). Reads to the end, by at most `most` reads, the first one into a room of this size.
-
 -- Names: `too_large`: more than a file may have. `whole`: at its end they are all bytes that it had left.
 
 -- at the end of the file all its bytes were read

@@ -2,8 +2,6 @@ use Rattle.std.proofs.Common.{◌≡◌, ◌<◌, ◌≤◌, length}
 use Rattle.std.specs.Io.KnownBytes.{Consumes}
 use Rattle.drv_system.proofs.reading.OpenFile.read_within.Given as goal
 
--- The loops of read_within (src/reading.rt). Reads to the end, by at most `most` reads, the first one into a room of this size.
-
 -- the bytes so far are the front of the file, within the limit, and each turn has made one read
 abbrev pub invariant-loop : goal.invariant-loop
 invariant-loop g l = record {
