@@ -1,7 +1,7 @@
 //! The text that calls a function.
 
 /// The text that calls a function.
-#[derive(Clone, Copy, Debug)]
+#[derive(Clone, Copy)]
 pub enum Site {
     /// That of a source.
     Source,

@@ -10,10 +10,10 @@ use Rattle.drv_machine.specs.declared.fault.MachineFault.TheVariants.{Memory}
 use Rattle.drv_system.specs.Facts.{Facts}
 use Rattle.drv_system.specs.Gives.{GivesKnown}
 use Rattle.drv_system.specs.Known.{Is, Unasked}
-use Rattle.std.proofs.Common.{◌≡◌, ◌∙◌, ◌⊎◌, ◌++◌, ◌||◌, List, [], ◌∷◌, Bool, Option, Result, Ok, Err, ap, arith}
+use Rattle.std.proofs.Common.{◌≡◌, ◌∙◌, ◌⊎◌, ◌++◌, ◌||◌, List, [], ◌∷◌, Bool, Option, Result, Ok, Err, ap}
 use Rattle.std.proofs.Common.{append_assoc, append-nil, false, inl, inr, length, map, refl, subst, sym, true, ℕ}
 use Rattle.std.specs.Option.{unwrap_or}
-use Rattle.std.specs.Prelude.{◌==◌, None, Some, get_or, replicate}
+use Rattle.std.specs.Prelude.{◌==◌, None, Some, replicate}
 
 -- For `Machine` (machine.rt), whose calls put atoms one list after another: its cut is that of all atoms so far. `run F C s (puts xs)` is
 -- the state after atoms xs are cut in state s, or the refusal that stops it. The lemmas put lists together: what two calls put is what one
@@ -29,12 +29,6 @@ pub or_again : (a b : Bool) → ((a || b) || b) ≡ (a || b)
 or_again true b = refl
 or_again false true = refl
 or_again false false = refl
-
--- a list of bytes of length 1 is its first byte alone
-pub one_byte : (bs : List ℕ) → length bs ≡ 1 → bs ≡ get_or bs 0 0 ∷ []
-one_byte [] long = absurd (omega (arith, long))
-one_byte (x ∷ []) long = refl
-one_byte (x ∷ y ∷ bs) long = absurd (omega (arith, long))
 
 -- bytes put into a word in two parts are in it as if put at once
 pub in_word_twice : (c : Cut) (xs ys : List ℕ) → in_word (in_word c xs) ys ≡ in_word c (xs ++ ys)

@@ -1,11 +1,9 @@
 use Rattle.drv_machine.proofs.Steps.{then_ok}
 use Rattle.drv_machine.specs.Atoms.{draw, drawn_or_new, temp_step}
 use Rattle.drv_machine.specs.Context.{Context}
-use Rattle.drv_machine.specs.Code.Held.{Lasts, NotesPath}
 use Rattle.drv_machine.specs.Code.Running.{Machine, run}
-use Rattle.drv_machine.specs.Temps.{folder, hex, is_drawn, is_same, last_drawn, temp_name}
+use Rattle.drv_machine.specs.Temps.{folder, hex, is_drawn, last_drawn, temp_name}
 use Rattle.drv_machine.specs.Working.{Step, bytes, give, look}
-use Rattle.drv_machine.specs.declared.machine.drawn_names.LastPaths.{LastPaths}
 use Rattle.drv_machine.specs.declared.machine.naming.Drawing.TheVariants.{Anew, Once}
 use Rattle.drv_machine.specs.declared.machine.naming.Drawing.{Drawing}
 use Rattle.drv_machine.specs.declared.machine.naming.Drawn.{Drawn}
@@ -14,23 +12,18 @@ use Rattle.drv_syntax.specs.declared.token.TempKind.{TempKind}
 use Rattle.drv_system.specs.Facts.{Facts, variable_of}
 use Rattle.drv_system.specs.Known.{◌>>=◌, Is, asked}
 use Rattle.drv_words.specs.Bytes.{hyphen}
-use Rattle.std.proofs.Common.{◌≡◌, ◌∙◌, ◌++◌, ◌<◌, ◌+◌, Bool, List, [], ◌∷◌, None, Option, Some, ap, append_assoc, codes, drop, false}
+use Rattle.std.proofs.Common.{◌≡◌, ◌∙◌, ◌++◌, ◌<◌, ◌+◌, List, [], ◌∷◌, None, Option, Some, ap, append_assoc, codes, drop}
 use Rattle.std.proofs.Common.{Ok, get_or, length, refl, sym, take, true, ℕ}
 use Rattle.std.proofs.lemmas.List.{drop_more, take-append-drop}
-use Rattle.std.specs.BTreeMap.{BTreeMap, get, is_at}
-use Rattle.std.specs.Cmp.Lexicographic.{pointwise, slice_cmp, texts_ties}
 use Rattle.std.specs.Fmt.{decimal}
-use Rattle.std.specs.Ordering.{nat_cmp}
-use Rattle.std.specs.Prelude.{cond, if◌then◌else◌, nat_eq}
+use Rattle.std.specs.Option.{option_map}
+use Rattle.std.specs.Prelude.{if◌then◌else◌}
 
 -- For `put_temp` (machine/naming.rt): the names of temporaries (%g, %u, %U, %| and %m), and which were drawn before. A drawing is `Once`,
--- one name for each suffix (%g), or `Anew`, a new name (%u); %U takes the last of those. The code keeps the last path of each suffix in a
--- map once it has many.
+-- one name for each suffix (%g), or `Anew`, a new name (%u); %U takes the last of those.
 -- Names: `F`: what is known of the outside. `s`: the machine: what has been cut, and the world. `C`: what the text is run for (switches,
 -- texts). `b`: a test's value, so that `by` can go by both cases. `last_drawn`: the last of these names that was drawn so. `folder`: the
--- folder that they are in, with a slash at its end. `is_drawn`: a name was drawn so with this suffix. `Lasts`: the paths of the last of
--- these names, by their suffixes. `NotesPath`: the path of a name is the last one of its suffix. `is_same`: two ways to draw a name are
--- one. `run`: runs a step after what has been cut, in its world.
+-- folder that they are in, with a slash at its end. `is_drawn`: a name was drawn so with this suffix. `run`: runs a step after what has been cut, in its world.
 
 -- six stretches of a name, put one after another by the code, are those of the definition
 regroup : (folder cc seed bar number suffix : List ℕ) → (((((([] ++ folder) ++ cc) ++ seed) ++ bar) ++ number) ++ suffix)
@@ -76,79 +69,20 @@ module _ (drawing : Drawing) (suffix : List ℕ) where
       ap Some same ∙ sym (drawn_after (take i drawn) (drop i drawn) name.path here)
       ∙ ap (last_drawn drawing suffix) (take-append-drop i drawn)
 
-  -- the last name after one more was drawn
-  last_more : (name : Drawn) (names : List Drawn) → last_drawn drawing suffix (names ++ name ∷ [])
-      ≡ (if is_drawn drawing suffix name then Some name.path else last_drawn drawing suffix names)
-  last_more name [] = refl
-  last_more name (first ∷ names) = by (is_drawn drawing suffix name) refl (last_more name names)
-    where
-      by : (b : Bool) → is_drawn drawing suffix name ≡ b
-          → last_drawn drawing suffix (names ++ name ∷ []) ≡ (if is_drawn drawing suffix name then Some name.path
-          else last_drawn drawing suffix names)
-          → last_drawn drawing suffix (first ∷ (names ++ name ∷ []))
-          ≡ (if is_drawn drawing suffix name then Some name.path else last_drawn drawing suffix (first ∷ names))
-      by true is more = rw (more, is) refl
-      by false is more = rw (more, is) refl
-
--- a map with the new name's path has the last paths of that drawing
-by_path : (drawing : Drawing) (paths after : BTreeMap (List ℕ) (List ℕ)) (name : Drawn) (names : List Drawn)
-    → is_same name.drawing drawing ≡ true → NotesPath paths after name
-    → ((suffix : List ℕ) → get (slice_cmp nat_cmp) paths suffix ≡ last_drawn drawing suffix names)
-    → (suffix : List ℕ) → get (slice_cmp nat_cmp) after suffix ≡ last_drawn drawing suffix (names ++ name ∷ [])
-by_path drawing paths after name names alike notes lasts suffix =
-    notes suffix ∙ ap (λ p. if pointwise nat_eq name.suffix suffix then Some name.path else p) (lasts suffix)
-    ∙ sym (last_more drawing suffix name names ∙ rw alike refl)
-
--- a map of the other drawing has them unchanged
-by_other : (drawing : Drawing) (paths : BTreeMap (List ℕ) (List ℕ)) (name : Drawn) (names : List Drawn)
-    → is_same name.drawing drawing ≡ false
-    → ((suffix : List ℕ) → get (slice_cmp nat_cmp) paths suffix ≡ last_drawn drawing suffix names)
-    → (suffix : List ℕ) → get (slice_cmp nat_cmp) paths suffix ≡ last_drawn drawing suffix (names ++ name ∷ [])
-by_other drawing paths name names apart lasts suffix = lasts suffix ∙ sym (last_more drawing suffix name names ∙ rw apart refl)
-
--- after one more name of %g both maps have the last paths: that of %g has the new one
-pub once_noted : (lasts : LastPaths) (after : BTreeMap (List ℕ) (List ℕ)) (name : Drawn) (names : List Drawn) → name.drawing ≡ Once
-    → NotesPath lasts.once after name → Lasts lasts names
-    → Lasts (record { once = after; anew = lasts.anew }) (names ++ name ∷ [])
-once_noted lasts after name names is notes kept Once =
-    by_path Once lasts.once after name names (ap (λ d. is_same d Once) is) notes (kept Once)
-once_noted lasts after name names is notes kept Anew = by_other Anew lasts.anew name names (ap (λ d. is_same d Anew) is) (kept Anew)
-
--- after one more name of %u both maps have the last paths: that of %u has the new one
-pub anew_noted : (lasts : LastPaths) (after : BTreeMap (List ℕ) (List ℕ)) (name : Drawn) (names : List Drawn) → name.drawing ≡ Anew
-    → NotesPath lasts.anew after name → Lasts lasts names
-    → Lasts (record { once = lasts.once; anew = after }) (names ++ name ∷ [])
-anew_noted lasts after name names is notes kept Anew =
-    by_path Anew lasts.anew after name names (ap (λ d. is_same d Anew) is) notes (kept Anew)
-anew_noted lasts after name names is notes kept Once = by_other Once lasts.once name names (ap (λ d. is_same d Once) is) (kept Once)
-
--- a map into which the path was put notes it
-pub path_noted : (paths after : BTreeMap (List ℕ) (List ℕ)) (name : Drawn) (suffix path : List ℕ) → suffix ≡ name.suffix → path ≡ name.path
-    → ((other : List ℕ) → get (slice_cmp nat_cmp) after other
-    ≡ cond (is_at (slice_cmp nat_cmp suffix) other) (Some path) (get (slice_cmp nat_cmp) paths other))
-    → NotesPath paths after name
-path_noted paths after name suffix path suffix_is path_is grows other =
-    grows other
-    ∙ ap (λ s. cond (is_at (slice_cmp nat_cmp s) other) (Some path) (get (slice_cmp nat_cmp) paths other)) suffix_is
-    ∙ ap (λ p. cond (is_at (slice_cmp nat_cmp name.suffix) other) (Some p) (get (slice_cmp nat_cmp) paths other)) path_is
-    ∙ ap (λ b. cond b (Some name.path) (get (slice_cmp nat_cmp) paths other)) (sym (texts_ties name.suffix other))
-    ∙ turned (pointwise nat_eq name.suffix other)
-  where
-    -- a condition as the code has it, as the definition has it
-    turned : (b : Bool) → cond b (Some name.path) (get (slice_cmp nat_cmp) paths other)
-        ≡ (if b then Some name.path else get (slice_cmp nat_cmp) paths other)
-    turned true = refl
-    turned false = refl
+-- where the code finds no name, none was drawn so
+pub not_found : {T : Type 0} (now : T → List ℕ) (found : Option T) (drawing : Drawing) (suffix : List ℕ) (names drawn : List Drawn)
+    → option_map now found ≡ last_drawn drawing suffix names → names ≡ drawn → found ≡ None → last_drawn drawing suffix drawn ≡ None
+not_found now found drawing suffix names drawn shows same none =
+    ap (last_drawn drawing suffix) (sym same) ∙ sym shows ∙ ap (option_map now) none
 
 -- where no name was drawn so, a new one is
-pub none_drawn : (F : Facts) (C : Context) (s : Machine) (names : List Drawn) (drawing : Drawing) (suffix : List ℕ) → names ≡ s.world.drawn
+pub none_drawn : (F : Facts) (C : Context) (s : Machine) (drawing : Drawing) (suffix : List ℕ)
     → last_drawn drawing suffix s.world.drawn ≡ None
-    → run F C (record s { world = record s.world { drawn = names } }) (draw F C drawing suffix) ≡ run F C s
-    (drawn_or_new F C drawing suffix)
-none_drawn F C s names drawing suffix same none =
-    rw same (sym (then_ok F C s (look (λ w. last_drawn drawing suffix w.drawn))
+    → run F C s (draw F C drawing suffix) ≡ run F C s (drawn_or_new F C drawing suffix)
+none_drawn F C s drawing suffix none =
+    sym (then_ok F C s (look (λ w. last_drawn drawing suffix w.drawn))
     (λ found. elim found as (λ x. Step (List ℕ)) [ None ↦ draw F C drawing suffix | Some path ↦ give path ]) None s
-    (ap (λ (found : Option (List ℕ)). Is (Ok (found, s))) none)))
+    (ap (λ (found : Option (List ℕ)). Is (Ok (found, s))) none))
 
 -- where commands are piped, %| is a hyphen
 pub piped_out : (F : Facts) (C : Context) (s : Machine) (kind : TempKind) (suffix : List ℕ) → kind ≡ PipedOut → C.is_piping ≡ true

@@ -20,7 +20,6 @@ pub mod Files
 pub mod Finished
 pub mod FunctionNames
 pub mod Functions
-pub mod Indexes
 pub mod ItemKinds
 pub mod Judging
 pub mod Laws

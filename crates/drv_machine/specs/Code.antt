@@ -3,7 +3,6 @@ pub mod ByKind
 pub mod Counting
 pub mod Grouping
 pub mod Held
-pub mod Opening
 pub mod PlainRuns
 pub mod Running
 pub mod Standing

@@ -15,7 +15,7 @@ use std::alloc::{AllocError, Global};
 use std::marker::Model;
 
 /// An input that a text is run for. It borrows its names.
-#[derive(Debug, Drop)]
+#[derive(Drop)]
 pub struct Source<'a> {
     pub name: &'a [u8],
     /// The name of its language, if it has one.
@@ -31,16 +31,33 @@ impl<'a> Model for Source<'a> {
     ghost view = { λ s. record { name = s.name.now; language = option_map (λ name. name.now) s.language } };
 }
 
-/// What a text is run for: a line, the named texts and the prefixes of its searches, which are
-/// borrowed, what goes on from one text to the next, and an input or the link.
+/// What is given for all texts of a line, which it lends.
+#[derive(Drop)]
+pub struct Given<'a> {
+    pub switches: &'a [Switch],
+    /// The pieces for the assembler.
+    pub assembler: &'a [Word],
+    /// The pieces for the preprocessor.
+    pub preprocessor: &'a [Word],
+    /// The named texts.
+    pub texts: &'a SpecSet,
+    /// Where programs and files are looked for.
+    pub prefixes: &'a Prefixes,
+    /// Whether commands are piped: `-pipe`.
+    pub is_piping: bool,
+    /// Whether words come from a response file.
+    pub from_file: bool,
+    /// The seed of the names of temporaries.
+    pub seed: u32,
+}
+
+/// What a text is run for: what is given for all texts, what goes on from one text to the next, and
+/// an input or the link.
 #[derive(Drop)]
 pub struct Context<'a> {
-    line: &'a Line,
-    /// The line's switches, ready for patterns, by their names that it lends.
+    given: Given<'a>,
+    /// The switches, ready for patterns, by their names.
     matcher: Switches<'a>,
-    texts: &'a SpecSet,
-    prefixes: &'a Prefixes,
-    seed: u32,
     number: usize,
     accumulated: Listing<Word>,
     input: Option<Source<'a>>,
@@ -54,21 +71,21 @@ impl<'a> Model for Context<'a> {
     ghost Value = { specs.Context };
 
     ghost view = { λ c. record {
-      switches = c.line.now.switches;
-      assembler = c.line.now.asm_opts;
-      preprocessor = c.line.now.cpp_opts;
-      texts = c.texts.now.named;
-      prefixes = c.prefixes.now;
-      is_piping = c.line.now.settings.pipe;
-      from_file = c.line.now.settings.from_file;
-      seed = c.seed;
+      switches = c.given.switches.now;
+      assembler = c.given.assembler.now;
+      preprocessor = c.given.preprocessor.now;
+      texts = c.given.texts.now.named;
+      prefixes = c.given.prefixes.now;
+      is_piping = c.given.is_piping;
+      from_file = c.given.from_file;
+      seed = c.given.seed;
       number = c.number;
       accumulated = c.accumulated;
       input = c.input;
       outputs = c.outputs;
     } };
 
-    ghost invariant = { λ c. c.matcher ≡ map (λ switch. switch.name) c.line.now.switches };
+    ghost invariant = { λ c. c.matcher ≡ map (λ switch. switch.name) c.given.switches.now };
 }
 
 /// The argument of the switch at this place of a line.
@@ -80,6 +97,36 @@ fn argument_at(switches: &[Switch], i: usize) -> &Option<Word>
 }
 
 impl<'a> Context<'a> {
+    /// What the first text is run for, with what is given, as it would be for a link without
+    /// outputs: no option was added, and the names of temporaries are numbered from 1. Lack of
+    /// memory is the only error.
+    pub fn of(alloc: Global, given: Given<'a>) -> Result<Context<'a>, AllocError>
+        ensures { IfOk result (λ made. made ≡ record {
+          switches = given.entry.switches.now;
+          assembler = given.entry.assembler.now;
+          preprocessor = given.entry.preprocessor.now;
+          texts = given.entry.texts.now.named;
+          prefixes = given.entry.prefixes.now;
+          is_piping = given.entry.is_piping;
+          from_file = given.entry.from_file;
+          seed = given.entry.seed;
+          number = 1;
+          accumulated = [];
+          input = None;
+          outputs = [];
+        }) }
+    {
+        let matcher = Switches::new(alloc, given.switches)?;
+        Ok(Context {
+            given,
+            matcher,
+            number: 1,
+            accumulated: Listing::new(alloc),
+            input: None,
+            outputs: Listing::new(alloc),
+        })
+    }
+
     /// What the first text of a line is run for, as it would be for a link without outputs: no
     /// option was added, and the names of temporaries are numbered from 1. Lack of memory is the
     /// only error.
@@ -105,18 +152,17 @@ impl<'a> Context<'a> {
           outputs = [];
         }) }
     {
-        let matcher = Switches::new(alloc, line.switches.as_slice())?;
-        Ok(Context {
-            line,
-            matcher,
+        let given = Given {
+            switches: line.switches.as_slice(),
+            assembler: line.asm_opts.as_slice(),
+            preprocessor: line.cpp_opts.as_slice(),
             texts,
             prefixes,
+            is_piping: line.settings.pipe,
+            from_file: line.settings.from_file,
             seed,
-            number: 1,
-            accumulated: Listing::new(alloc),
-            input: None,
-            outputs: Listing::new(alloc),
-        })
+        };
+        Context::of(alloc, given)
     }
 
     /// The texts are run for this input from here on, or for the link. The call allocates nothing.
@@ -154,56 +200,56 @@ impl<'a> Context<'a> {
         requires { i < length self.now.switches }
         ensures { result.now ≡ argument self.now i }
     {
-        argument_at(self.line.switches.as_slice(), i)
+        argument_at(self.given.switches, i)
     }
 
     /// Whether the line has `-pipe`.
     pub(crate) fn is_piping(&self) -> bool
         ensures { result ≡ self.now.is_piping }
     {
-        self.line.settings.pipe
+        self.given.is_piping
     }
 
     /// The line's pieces for the assembler.
     pub(crate) fn assembler(&self) -> &'a [Word]
         ensures { result.now ≡ self.now.assembler }
     {
-        self.line.asm_opts.as_slice()
+        self.given.assembler
     }
 
     /// The line's pieces for the preprocessor.
     pub(crate) fn preprocessor(&self) -> &'a [Word]
         ensures { result.now ≡ self.now.preprocessor }
     {
-        self.line.cpp_opts.as_slice()
+        self.given.preprocessor
     }
 
     /// The tree of the text of a name, if the set has one.
     pub(crate) fn text_named(&self, name: &[u8]) -> Option<&'a SpecTree>
         ensures { option_map (λ tree. tree.now) result ≡ text_named self.now name.now }
     {
-        self.texts.tree(name)
+        self.given.texts.tree(name)
     }
 
     /// Whether words of the line come from a response file.
     pub(crate) fn from_file(&self) -> bool
         ensures { result ≡ self.now.from_file }
     {
-        self.line.settings.from_file
+        self.given.from_file
     }
 
     /// Where programs and files are looked for.
     pub(crate) fn prefixes(&self) -> &'a Prefixes
         ensures { result.now ≡ self.now.prefixes }
     {
-        self.prefixes
+        self.given.prefixes
     }
 
     /// The seed of the names of temporaries.
     pub(crate) fn seed(&self) -> u32
         ensures { result ≡ self.now.seed }
     {
-        self.seed
+        self.given.seed
     }
 
     /// The number of the next name that is drawn.

@@ -75,23 +75,8 @@ fn words_at(context: &Context<'_>, places: &[usize]) -> usize
     count
 }
 
-/// Puts the switches at these places, for which it makes room first.
-fn put_all<S: System>(
-    context: &Context<'_>,
-    places: &[usize],
-    machine: &mut Machine,
-    outside: &mut Outside<'_, S>,
-) -> Result<(), MachineFault>
-    requires { All (λ place. place < length context.now.switches) places.now }
-    ensures asks { Asked S.events outside.old outside.new }
-    ensures does { (n : ℕ) (F : Facts) → Extends outside.new.facts.now F
-        → Does F context.now n machine.old machine.new result (puts (put_at F context.now places.now)) }
-{
-    machine.make_room(words_at(context, places))?;
-    put_switches(context, places, machine, outside)
-}
-
-/// Puts each switch that one of the patterns from one place up to another hits.
+/// Puts each switch that one of the patterns from one place up to another hits, for which it makes
+/// room first.
 #[tactic(auto, using(drv_system::proofs::AskedCalls::asked_none))]
 pub(crate) fn emit<S: System>(
     text: &SpecTree,
@@ -114,5 +99,7 @@ pub(crate) fn emit<S: System>(
     let places = context
         .switches()
         .any_hits(alloc, patterns.as_slice(), hidden)?;
-    put_all(context, places.as_slice(), machine, outside)
+    let places = places.as_slice();
+    machine.make_room(words_at(context, places))?;
+    put_switches(context, places, machine, outside)
 }

@@ -23,7 +23,7 @@ mod turns;
 mod walk;
 mod whole;
 
-pub use context::{Context, Source};
+pub use context::{Context, Given, Source};
 pub use cut_laws::{command_law, cut_law, file_law, text_law};
 pub use fault::MachineFault;
 pub use grammar::function_names;

@@ -16,11 +16,9 @@ ghost use Rattle.std.specs.Prelude.{◌≡◌, ◌∷◌, ◌++◌, ◌+◌, ◌
 ghost use Rattle.std.specs.Prelude.{length, map, ℕ};
 
 mod cutter;
-mod drawn_names;
 mod filing;
 mod finishing;
 mod functions;
-mod indexed;
 mod inside;
 mod lists;
 mod marking;
@@ -30,13 +28,11 @@ mod whole_words;
 
 use crate::{Context, MachineFault};
 pub(crate) use cutter::Cutter;
-use drawn_names::DrawnNames;
 use drv_funcs::Outputs;
 use drv_match::{Hidden, Pattern, Switches};
 use drv_system::{Outside, System};
 use drv_words::{Listing, Word, copy_words};
 pub(crate) use finishing::outcome_of;
-use indexed::IndexedWords;
 use inside::Inside;
 pub(crate) use marking::{Mark, Marking};
 pub(crate) use naming::{Drawing, Drawn, Temporary};
@@ -143,9 +139,9 @@ pub(crate) struct Machine {
     inside: Inside,
     hidden: Hidden,
     /// What `%x` has added so far.
-    accumulated: IndexedWords,
+    accumulated: Listing<Word>,
     /// The names of the job's temporaries.
-    drawn: DrawnNames,
+    drawn: Listing<Drawn>,
     /// The number of the next name that is drawn.
     number: usize,
     /// The outputs of the jobs so far.
@@ -214,8 +210,8 @@ impl Machine {
             output: None,
             inside: Inside::new(alloc),
             hidden: Hidden::new(alloc, context.switches())?,
-            accumulated: IndexedWords::new(alloc, copy_words(alloc, context.accumulated())?),
-            drawn: DrawnNames::new(alloc),
+            accumulated: copy_words(alloc, context.accumulated())?,
+            drawn: Listing::new(alloc),
             number: context.number(),
             outputs: Outputs::new(alloc, copy_words(alloc, context.outputs())?),
             notices: Listing::new(alloc),
@@ -225,14 +221,14 @@ impl Machine {
 
     /// Bytes go into the open word, or open one; no bytes change nothing. Lack of memory is the
     /// only error.
-    fn put_bytes(&mut self, bytes: &[u8]) -> Result<(), AllocError>
+    pub(crate) fn put_bytes(&mut self, bytes: &[u8]) -> Result<(), AllocError>
         ensures { (n : ℕ) (F : Facts) (C : specs.Context) → OnOk result
             (run F C (reached n self.old) (step.bytes bytes.now) ≡ Is (Ok (tt, reached n self.new))) }
     {
         if bytes.is_empty() {
             return Ok(());
         }
-        self.word.extend_from_slice(bytes)?;
+        add_bytes(&mut self.word, bytes)?;
         self.is_open = true;
         self.is_stray |= self.is_piped;
         Ok(())
@@ -245,29 +241,6 @@ impl Machine {
     {
         self.put_bytes(bytes)?;
         Ok(())
-    }
-
-    /// A byte goes into the open word, or opens one. Lack of memory is the only error.
-    fn put_byte(&mut self, byte: u8) -> Result<(), AllocError>
-        ensures { (n : ℕ) (F : Facts) (C : specs.Context) → OnOk result
-            (run F C (reached n self.old) (step.bytes (byte ∷ [])) ≡ Is (Ok (tt, reached n self.new))) }
-    {
-        self.word.push(byte)?;
-        self.is_open = true;
-        self.is_stray |= self.is_piped;
-        Ok(())
-    }
-
-    /// The bytes of an item go into the open word, or open one: mostly one byte, which has a
-    /// shorter path. Lack of memory is the only error.
-    pub(crate) fn put_item(&mut self, bytes: &[u8]) -> Result<(), AllocError>
-        ensures { (n : ℕ) (F : Facts) (C : specs.Context) → OnOk result
-            (run F C (reached n self.old) (step.bytes bytes.now) ≡ Is (Ok (tt, reached n self.new))) }
-    {
-        if bytes.len() == 1 {
-            return self.put_byte(bytes[0]);
-        }
-        self.put_bytes(bytes)
     }
 
     /// The bytes of plain items go into the open word, or open one. Lack of memory is the only error.

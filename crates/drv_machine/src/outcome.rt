@@ -3,7 +3,7 @@
 use drv_words::{Job, Listing, Word};
 
 /// The job of a text, and what goes on to the next text.
-#[derive(Debug, Drop)]
+#[derive(Drop)]
 pub struct Outcome {
     /// The plan says of which source it is.
     pub job: Job,

@@ -1,6 +1,5 @@
 //! The open parts of a walk.
 
-ghost use Rattle.drv_machine.specs.Code.Opening.{opening_lifted};
 ghost use Rattle.drv_machine.specs.Working.{most_open};
 ghost use Rattle.std.specs.Prelude.{◌≡◌, ◌⊎◌, ◌↔◌, ◌<◌, ◌∷◌, ◌++◌, [], IfErr, IfOk, IsFalse};
 ghost use Rattle.std.specs.Prelude.{IsSome, IsTrue, OnOk, length, option_to_list};
@@ -10,40 +9,6 @@ use crate::walk::Frame;
 use arrayvec::ArrayVec;
 use std::alloc::{AllocError, Global};
 use std::marker::Model;
-
-/// Why a part isn't opened. It is small, and becomes a fault of the machine when it is passed on.
-#[derive(Clone, Copy, Debug, Drop)]
-pub(crate) enum StackFault {
-    /// An allocation was refused.
-    Memory,
-    /// 64 parts are open.
-    TooDeep,
-}
-
-impl From<AllocError> for StackFault {
-    ghost use Rattle.drv_machine.specs.declared.stack.StackFault.TheVariants.{Memory};
-    ghost use Rattle.std.specs.Prelude.{◌≡◌};
-
-    ghost from_gives = { λ _ fault. fault ≡ Memory };
-
-    fn from(_refused: AllocError) -> StackFault {
-        StackFault::Memory
-    }
-}
-
-impl From<StackFault> for MachineFault {
-    ghost use Rattle.drv_machine.specs.Code.Opening.{opening_lifted};
-    ghost use Rattle.std.specs.Prelude.{◌≡◌};
-
-    ghost from_gives = { λ low high. high ≡ opening_lifted low };
-
-    fn from(low: StackFault) -> MachineFault {
-        match low {
-            StackFault::Memory => MachineFault::Memory,
-            StackFault::TooDeep => MachineFault::SpecTooDeep,
-        }
-    }
-}
 
 /// The open parts, the innermost last: at most 64. Their table is made when the first is opened, so
 /// that a text without open parts pays nothing for it.
@@ -105,15 +70,15 @@ impl<'a> Stack<'a> {
     /// One more part is open.
     ///
     /// # Errors
-    /// `TooDeep` where 64 are open.
-    pub(crate) fn push(&mut self, frame: Frame<'a>) -> Result<(), StackFault>
+    /// `SpecTooDeep` where 64 are open.
+    pub(crate) fn push(&mut self, frame: Frame<'a>) -> Result<(), MachineFault>
         ensures ok { OnOk result (self.new ≡ self.old ++ frame.entry ∷ []) }
         ensures room { OnOk result (length self.old < most_open) }
-        ensures err { IfErr result (λ fault. (opening_lifted fault ≡ MachineFault.Memory) ⊎
-            ((opening_lifted fault ≡ MachineFault.SpecTooDeep) × (length self.old ≡ most_open))) }
+        ensures err { IfErr result (λ fault. (fault ≡ MachineFault.Memory) ⊎
+            ((fault ≡ MachineFault.SpecTooDeep) × (length self.old ≡ most_open))) }
     {
         if self.is_full() {
-            return Err(StackFault::TooDeep);
+            return Err(MachineFault::SpecTooDeep);
         }
         match &mut self.table {
             Some(table) => table.push(frame),

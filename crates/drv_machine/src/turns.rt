@@ -253,7 +253,7 @@ fn turn<'w, S: System>(
                 return work_run(text, walk, tally);
             }
             walk.at = next;
-            tally.machine.put_item(text.word(at))?;
+            tally.machine.put_bytes(text.word(at))?;
             Ok(())
         }
         _ => {

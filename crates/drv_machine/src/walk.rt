@@ -17,14 +17,14 @@ use drv_syntax::{SpecTree, TokenKind};
 use std::alloc::Global;
 
 /// The value of `%*`: the name of a switch, but for its first bytes.
-#[derive(Clone, Copy, Debug, Default)]
+#[derive(Clone, Copy)]
 pub(crate) struct Rest {
     pub(crate) switch: usize,
     pub(crate) size: usize,
 }
 
 /// The parts of a text from one place up to another.
-#[derive(Clone, Copy, Debug)]
+#[derive(Clone, Copy)]
 pub(crate) struct Parts {
     pub(crate) start: usize,
     pub(crate) end: usize,
@@ -32,7 +32,7 @@ pub(crate) struct Parts {
 
 /// An X that is run for each hit: the place of the test that asks for the switch, and where X
 /// begins and ends.
-#[derive(Clone, Copy, Debug, Default)]
+#[derive(Clone, Copy)]
 pub(crate) struct Each {
     pub(crate) test: usize,
     pub(crate) start: usize,
@@ -40,7 +40,7 @@ pub(crate) struct Each {
 }
 
 /// A working of an X for the hit of a switch.
-#[derive(Clone, Copy, Debug)]
+#[derive(Clone, Copy)]
 pub(crate) struct Hit {
     pub(crate) each: Each,
     pub(crate) switch: usize,
@@ -50,7 +50,7 @@ pub(crate) struct Hit {
 /// their end, and says whether its X is processed, or the tests and alternatives after it are judged.
 /// It holds the places for that: of the test, and where the tests after it begin; where its X
 /// begins and ends, and whether X has a `%*` of its own; and where the braces end.
-#[derive(Clone, Copy, Debug, Default)]
+#[derive(Clone, Copy)]
 pub(crate) struct Asking {
     pub(crate) test: usize,
     pub(crate) from: usize,

@@ -19,23 +19,7 @@ use drv_syntax::SpecTree;
 use drv_system::{FactTable, Outside, System};
 use std::alloc::Global;
 
-/// Works the whole text, whose end ends its last command.
-fn work_whole<S: System>(
-    text: &SpecTree,
-    context: &Context<'_>,
-    tally: &mut Tally,
-    outside: &mut Outside<'_, S>,
-) -> Result<(), MachineFault>
-    ensures asks { Asked S.events outside.old outside.new }
-    ensures does { (F : Facts) → Extends outside.new.facts.now F
-        → GivesKnown MachineFault.Memory (λ u. (tt, state tally.new)) result
-        (run F context.now (state tally.old) (whole_text F context.now (tree_of text.now))) }
-{
-    work_text(text, context, tally, outside)?;
-    tally.machine.end_line(context, outside)
-}
-
-/// Works the whole text, and judges what was cut.
+/// Works the whole text, whose end ends its last command, and judges what was cut.
 fn finish<S: System>(
     text: &SpecTree,
     context: &Context<'_>,
@@ -48,7 +32,8 @@ fn finish<S: System>(
         (run F context.now (state tally.old) (whole_text F context.now (tree_of text.now)) >>- λ r.
         finished F context.now r.1.world r.1.cut) }
 {
-    work_whole(text, context, tally, outside)?;
+    work_text(text, context, tally, outside)?;
+    tally.machine.end_line(context, outside)?;
     outcome_of(&mut tally.machine, tally.items, context, outside)
 }
 

@@ -2,7 +2,7 @@ mod Blocks
 mod ByName
 pub mod Cancelling
 mod Lasts
-mod Merging
+mod LineSearch
 mod Parts
 mod Rows
 mod Tallies

@@ -355,22 +355,6 @@ pass_next test places whole xs i below passed done = step ∙ done
     step : places ++ filter test (drop (i + 1) xs) ≡ places ++ filter test (drop i xs)
     step = rw (drop_more xs i 0 below, passed) refl
 
--- a loop that asks whether a place counts ends at the first one
-pub any_here : (test : ℕ → Bool) (whole : Bool) (xs : List ℕ) (i : ℕ) → i < length xs → test (get_or xs i 0) ≡ true
-    → list_any test (drop i xs) ≡ whole → true ≡ whole
-any_here test whole xs i below hit done = step ∙ done
-  where
-    step : true ≡ list_any test (drop i xs)
-    step = rw (drop_more xs i 0 below, hit) refl
-
--- a loop that asks whether a place counts goes on after one that doesn't
-pub any_next : (test : ℕ → Bool) (whole : Bool) (xs : List ℕ) (i : ℕ) → i < length xs → test (get_or xs i 0) ≡ false
-    → list_any test (drop i xs) ≡ whole → list_any test (drop (i + 1) xs) ≡ whole
-any_next test whole xs i below passed done = step ∙ done
-  where
-    step : list_any test (drop (i + 1) xs) ≡ list_any test (drop i xs)
-    step = rw (drop_more xs i 0 below, passed) refl
-
 -- one step of the loop that hides places
 pub hide_next : (hidden after whole : List Bool) (xs : List ℕ) (i : ℕ) → i < length xs → after ≡ set hidden (get_or xs i 0) true
     → all_hidden (drop i xs) hidden ≡ whole → all_hidden (drop (i + 1) xs) after ≡ whole

@@ -7,7 +7,7 @@ use std::alloc::{AllocError, Global};
 use std::marker::Model;
 
 /// For each switch of a line, whether it is hidden. No pattern hits a hidden switch.
-#[derive(Debug, Drop)]
+#[derive(Drop)]
 pub struct Hidden {
     flags: Vec<bool>,
 }

@@ -8,7 +8,7 @@ use std::marker::Model;
 
 /// The names of a line's switches, which are borrowed. Contracts see the list of these names in
 /// order.
-#[derive(Debug, Drop)]
+#[derive(Drop)]
 pub struct Names<'a> {
     switches: &'a [Switch],
 }

@@ -7,7 +7,7 @@ use std::marker::Model;
 
 /// A pattern of switches. It names the switches of this name or, with a star, those whose names
 /// begin with it. It borrows its name.
-#[derive(Debug, Drop)]
+#[derive(Drop)]
 pub struct Pattern<'a> {
     pub name: &'a [u8],
     pub star: bool,

@@ -1,12 +1,12 @@
 //! The switches of a line, and which of these a pattern hits.
 
 // In clauses: `IsOrder names order` says that the order is by name, then by place.
-ghost use Rattle.drv_match.specs.Code.Indexed.{AreNamed, SameHits};
+ghost use Rattle.drv_match.specs.Code.Indexed.{AreNamed};
 ghost use Rattle.drv_match.specs.Matching.{IsNextHit, any_hits, hidden_by, hits, is_broad};
-ghost use Rattle.drv_match.specs.Matching.{is_hit, is_live, name_at};
+ghost use Rattle.drv_match.specs.Matching.{is_any_hit, is_hit, is_live, name_at};
 ghost use Rattle.drv_match.specs.Order.{IsBlock, IsOrder};
-ghost use Rattle.std.specs.List.{position};
-ghost use Rattle.std.specs.Prelude.{◌≡◌, ◌<◌, ◌&&◌, ◌||◌, ◌∷◌, All, IfOk, List, false, get_or};
+ghost use Rattle.std.specs.List.{list_any};
+ghost use Rattle.std.specs.Prelude.{◌≡◌, ◌<◌, ◌&&◌, ◌||◌, All, IfOk, List, false, get_or};
 ghost use Rattle.std.specs.Prelude.{drop, length, map, nat_lt, not, ℕ};
 
 use crate::hidden::Hidden;
@@ -21,7 +21,7 @@ use std::marker::Model;
 
 /// The switches of a command line, which are borrowed. Contracts see the list of their names in
 /// order.
-#[derive(Debug, Drop)]
+#[derive(Drop)]
 pub struct Switches<'a> {
     names: Names<'a>,
     /// All places, by name, then by place.
@@ -134,19 +134,25 @@ impl<'a> Switches<'a> {
             (λ places. places ≡ any_hits self.now hidden.now patterns.now) }
         ensures within { IfOk result (λ places. All (λ place. place < length self.now) places) }
     {
-        let [first, others @ ..] = self.from_first_hit(patterns, hidden) else {
-            return Ok(Listing::new(alloc));
-        };
-        let others = self.from_first_hit(others, hidden);
-        // The hits of one pattern are sorted; those of several are merged.
-        if !others.is_empty() || self.is_spread(first) {
-            return self.merged_hits(alloc, first, others, hidden);
+        if let [only] = patterns {
+            return self.hits(alloc, only, hidden);
         }
-        self.hits(alloc, first, hidden)
+        // Most patterns hit no switch, which their places by name tell.
+        if !self.have_hits(patterns, hidden) {
+            return Ok(Listing::new(alloc));
+        }
+        let mut places = Vec::new(alloc);
+        for place in 0..self.len() {
+            if !self.is_any_hit(patterns, hidden, place) {
+                continue;
+            }
+            places.push(place)?;
+        }
+        Ok(Listing::from_vec(places))
     }
 
     /// The first switch from a place on that a pattern hits, if there is one.
-    #[tactic(auto, using(crate::proofs::Merging::next_itself))]
+    #[tactic(auto, using(crate::proofs::LineSearch::next_itself, crate::proofs::LineSearch::next_none))]
     pub fn next_hit(&self, pattern: &Pattern<'_>, hidden: &Hidden, from: usize) -> Option<usize>
         ensures { IsNextHit self.now hidden.now pattern.now from result }
     {
@@ -154,14 +160,11 @@ impl<'a> Switches<'a> {
         if from < self.len() && self.is_hit(pattern, hidden, from) {
             return Some(from);
         }
-        let named = self.named_places(pattern);
-        // If a pattern names few switches, their places are tested in any order; otherwise the line
-        // is searched in order.
-        if named.len() <= self.len() / named.len().max(1) {
-            self.next_of(named, pattern, hidden, from)
-        } else {
-            self.next_on_line(pattern, hidden, from)
+        // Most patterns hit no switch, which their places by name tell.
+        if !self.has_hit(pattern, hidden) {
+            return None;
         }
+        self.next_on_line(pattern, hidden, from)
     }
 
     /// Whether a pattern hits any switch.
@@ -195,99 +198,22 @@ impl<'a> Switches<'a> {
         }
     }
 
-    /// These patterns, from the first one on that hits a switch.
-    #[tactic(auto, using(crate::proofs::Merging::place_within))]
-    fn from_first_hit<'p, 'n>(
-        &self,
-        patterns: &'p [Pattern<'n>],
-        hidden: &Hidden,
-    ) -> &'p [Pattern<'n>]
-        ensures { SameHits self.now hidden.now result.now patterns.now }
+    /// Whether one of these patterns hits any switch.
+    fn have_hits(&self, patterns: &[Pattern<'_>], hidden: &Hidden) -> bool
+        ensures { result ≡ list_any
+            (λ pattern. nat_lt 0 (length (hits self.now hidden.now pattern))) patterns.now }
     {
-        let at = self.hit_place(patterns, hidden);
-        &patterns[at.unwrap_or(patterns.len())..]
+        patterns.iter().any(|pattern| self.has_hit(pattern, hidden))
     }
 
-    /// The index of the first of these patterns that hits a switch.
-    fn hit_place(&self, patterns: &[Pattern<'_>], hidden: &Hidden) -> Option<usize>
-        ensures { result ≡ position
-            (λ pattern. nat_lt 0 (length (hits self.now hidden.now pattern))) patterns.now }
+    /// Whether one of these patterns hits the switch at this place.
+    fn is_any_hit(&self, patterns: &[Pattern<'_>], hidden: &Hidden, i: usize) -> bool
+        requires { i < length self.now }
+        ensures { result ≡ is_any_hit self.now hidden.now patterns.now i }
     {
         patterns
             .iter()
-            .position(|pattern| self.has_hit(pattern, hidden))
-    }
-
-    /// Whether a pattern names so many switches of different names that searching the line takes
-    /// less work than sorting their places. Places of the same name are already in order.
-    fn is_spread(&self, pattern: &Pattern<'_>) -> bool {
-        match self.named_places(pattern) {
-            named @ [first, .., last] => {
-                self.len() / 8 <= named.len() && self.names.get(*first) != self.names.get(*last)
-            }
-            _ => false,
-        }
-    }
-
-    /// The places that one of these patterns hits, in order, by a flag for each place.
-    fn merged_hits(
-        &self,
-        alloc: Global,
-        first: &Pattern<'_>,
-        others: &[Pattern<'_>],
-        hidden: &Hidden,
-    ) -> Result<Listing<usize>, AllocError>
-        ensures { IfOk result
-            (λ places. places ≡ any_hits self.now hidden.now (first.now ∷ others.now)) }
-    {
-        let mut flags = vec![in alloc; false; self.len()]?;
-        self.mark_hits(first, hidden, &mut flags);
-        for pattern in others {
-            self.mark_hits(pattern, hidden, &mut flags);
-        }
-        let mut places = Vec::new(alloc);
-        for place in 0..flags.len() {
-            if !flags[place] {
-                continue;
-            }
-            places.push(place)?;
-        }
-        Ok(Listing::from_vec(places))
-    }
-
-    /// Sets the flags of the places that a pattern hits.
-    fn mark_hits(&self, pattern: &Pattern<'_>, hidden: &Hidden, flags: &mut Vec<bool>)
-        requires as_many { length flags.old.items ≡ length self.now }
-        ensures marked { (i : ℕ) → i < length self.now → get_or flags.new.items i false
-            ≡ (get_or flags.old.items i false || is_hit self.now hidden.now pattern.now i) }
-        ensures as_many { length flags.new.items ≡ length self.now }
-    {
-        let named = self.named_places(pattern);
-        for place in named {
-            if self.counts(pattern, hidden, *place) {
-                flags[*place] = true;
-            }
-        }
-    }
-
-    /// The first place of a hit from one place on, among these places that the pattern names.
-    fn next_of(
-        &self,
-        named: &[usize],
-        pattern: &Pattern<'_>,
-        hidden: &Hidden,
-        from: usize,
-    ) -> Option<usize>
-        requires named { AreNamed self.now pattern.now named.now }
-        ensures { IsNextHit self.now hidden.now pattern.now from result }
-    {
-        let mut next = self.len();
-        for place in named {
-            if from <= *place && *place < next && self.counts(pattern, hidden, *place) {
-                next = *place;
-            }
-        }
-        if next < self.len() { Some(next) } else { None }
+            .any(|pattern| self.is_hit(pattern, hidden, i))
     }
 
     /// The first place of a hit from one place on, in the order of the line.

@@ -4,15 +4,15 @@
 // the one defined over the facts, or lack of memory. `Asked` says that a call only asked, and that
 // the table has the answers.
 ghost use Rattle.drv_machine.specs.declared.fault.MachineFault.TheVariants as machine;
-ghost use Rattle.drv_plan.specs.Denoted.{denoted, finished, plan_of, planned, then_by};
-ghost use Rattle.drv_plan.specs.Denoted.{with_command, with_inputs, with_link, with_text};
+ghost use Rattle.drv_plan.specs.Denoted.{denoted, finished, plan_of, then_by, with_command};
+ghost use Rattle.drv_plan.specs.Denoted.{with_inputs, with_link};
 ghost use Rattle.drv_search.specs.Search.{prefixes_of};
 ghost use Rattle.drv_system.specs.Asking.{Asks, Extends};
 ghost use Rattle.drv_system.specs.Code.Asked.{Asked};
 ghost use Rattle.drv_system.specs.Facts.{Facts};
 ghost use Rattle.drv_system.specs.Gives.{GivesKnown};
 ghost use Rattle.drv_system.specs.Known.{Is};
-ghost use Rattle.std.specs.Prelude.{◌≡◌, ◌==◌, ◌≢◌, IfErr, IfOk, Some, length};
+ghost use Rattle.std.specs.Prelude.{◌≡◌, ◌==◌, ◌≢◌, IfErr, IfOk, length};
 
 use crate::PlanFault;
 use crate::notices::notices_of;
@@ -22,7 +22,6 @@ use drv_args::{Input, Line};
 use drv_machine::Context;
 use drv_search::Prefixes;
 use drv_specs::SpecSet;
-use drv_syntax::SpecTree;
 use drv_system::{FactTable, Outside, System};
 use drv_words::{Job, Listing, Plan, Word};
 use std::alloc::{AllocError, Global};
@@ -50,22 +49,6 @@ fn is_empty_link(outputs: &[Word]) -> bool
     outputs.is_empty()
 }
 
-/// The link with this text.
-fn link_with<S: System>(
-    alloc: Global,
-    text: &SpecTree,
-    progress: &mut Progress<'_>,
-    outside: &mut Outside<'_, S>,
-) -> Result<Option<Job>, PlanFault>
-    ensures asks { Asked S.events outside.old outside.new }
-    ensures works { (F : Facts) → Extends outside.new.facts.now F
-        → GivesKnown PlanFault.Memory (λ link. (link, progress.new)) result
-        (with_text F (Some text.now) progress.old) }
-{
-    let job = progress.work_link(alloc, text, outside)?;
-    Ok(with_command(job))
-}
-
 /// The link, if there is something to link and a text for it.
 fn link_of<S: System>(
     alloc: Global,
@@ -82,7 +65,7 @@ fn link_of<S: System>(
         return Ok(None);
     }
     match set.tree(LINK_COMMAND) {
-        Some(text) => link_with(alloc, text, progress, outside),
+        Some(text) => Ok(with_command(progress.work_link(alloc, text, outside)?)),
         None => Ok(None),
     }
 }
@@ -103,22 +86,7 @@ fn plan_of(
     })
 }
 
-/// The plan, once all inputs are done. Jobs and notices are moved out of the progress.
-fn finish<S: System>(
-    alloc: Global,
-    set: &SpecSet,
-    progress: &mut Progress<'_>,
-    outside: &mut Outside<'_, S>,
-) -> Result<Plan, PlanFault>
-    ensures asks { Asked S.events outside.old outside.new }
-    ensures works { (F : Facts) → Extends outside.new.facts.now F
-        → GivesKnown PlanFault.Memory (λ plan. plan) result (finished F set.now progress.old) }
-{
-    let link = link_of(alloc, set, progress, outside)?;
-    Ok(plan_of(alloc, link, progress)?)
-}
-
-/// The plan of the inputs after those that are done.
+/// The plan of the inputs after those that are done. Jobs and notices are moved out of the progress.
 #[tactic(auto, using(drv_system::proofs::AskedCalls::asked_further))]
 fn plan_inputs<'a, S: System>(
     alloc: Global,
@@ -133,24 +101,8 @@ fn plan_inputs<'a, S: System>(
         (then_by (with_inputs F set.now 0 inputs.now progress.old) (λ g. finished F set.now g)) }
 {
     add_inputs(alloc, set, inputs, progress, outside)?;
-    finish(alloc, set, progress, outside)
-}
-
-/// The plan of inputs, in this context.
-fn plan_in<'a, S: System>(
-    alloc: Global,
-    set: &'a SpecSet,
-    inputs: &'a [Input],
-    context: Context<'a>,
-    outside: &mut Outside<'_, S>,
-) -> Result<Plan, PlanFault>
-    ensures asks { Asked S.events outside.old outside.new }
-    ensures works { (F : Facts) → Extends outside.new.facts.now F
-        → GivesKnown PlanFault.Memory (λ plan. plan) result
-        (planned F set.now inputs.now context.entry) }
-{
-    let mut progress = Progress::new(alloc, context, inputs.len())?;
-    plan_inputs(alloc, set, inputs, &mut progress, outside)
+    let link = link_of(alloc, set, progress, outside)?;
+    Ok(plan_of(alloc, link, progress)?)
 }
 
 /// A line with its specs, and the seed of the names of temporaries.
@@ -182,13 +134,9 @@ pub fn plan_along<S: System>(
 {
     let context = Context::new(alloc, given.line, given.set, prefixes, given.seed)?;
     let inputs = given.line.inputs.as_slice();
-    plan_in(
-        alloc,
-        given.set,
-        inputs,
-        context,
-        &mut Outside { sys, facts },
-    )
+    let mut progress = Progress::new(alloc, context, inputs.len())?;
+    let outside = &mut Outside { sys, facts };
+    plan_inputs(alloc, given.set, inputs, &mut progress, outside)
 }
 
 /// The plan of a line with its specs: each source, with the text of its language, in the order of

@@ -8,6 +8,7 @@ ghost use Rattle.drv_machine.specs.Code.Running.{reached};
 ghost use Rattle.drv_machine.specs.Outcome.{command, ends_piped, finished, groups, job};
 ghost use Rattle.drv_machine.specs.Outcome.{lasting_files};
 ghost use Rattle.drv_machine.specs.Outcome.{most_piped, once};
+ghost use Rattle.drv_machine.specs.Working.{is_among};
 ghost use Rattle.drv_system.specs.Asking.{Extends};
 ghost use Rattle.drv_system.specs.Facts.{Facts};
 ghost use Rattle.drv_system.specs.Gives.{GivesKnown};
@@ -16,7 +17,8 @@ ghost use Rattle.std.specs.List.{list_any};
 ghost use Rattle.std.specs.Prelude.{◌≡◌, ◌&&◌, ◌||◌, ◌∷◌, ◌++◌, [], IfOk, List, Ok, OnOk, length};
 ghost use Rattle.std.specs.Prelude.{map, nat_lt, ℕ};
 
-use super::{Drawn, DrawnNames, IndexedWords, Machine, NamedLine};
+use super::lists::add_once;
+use super::{Drawn, Machine, NamedLine};
 use crate::{Context, MachineFault, Outcome};
 use drv_search::find_program;
 use drv_system::{Outside, System};
@@ -51,20 +53,10 @@ pub(crate) fn outcome_of<S: System>(
         job,
         notices: mem::replace(&mut machine.notices, Listing::new(machine.alloc)),
         outs,
-        accumulated: take_accumulated(machine),
+        accumulated: mem::replace(&mut machine.accumulated, Listing::new(machine.alloc)),
         next_number: machine.number,
         cost,
     })
-}
-
-/// What `%x` accumulated, which is moved out of the machine.
-fn take_accumulated(machine: &mut Machine) -> Listing<Word>
-    ensures accumulated { result ≡ machine.old.world.accumulated }
-    ensures others { machine.new ≡ record machine.old
-        { world = record machine.old.world { accumulated = [] } } }
-{
-    let none = IndexedWords::new(machine.alloc, Listing::new(machine.alloc));
-    mem::replace(&mut machine.accumulated, none).into_listing()
 }
 
 /// The job of a machine's text. Words are moved out of the machine.
@@ -118,8 +110,8 @@ fn job_around(machine: &mut Machine, groups: Listing<Group>) -> Result<Job, Allo
     let marked = lasting_files(alloc, machine.drawn.as_slice(), removed)?;
     let failing = mem::replace(&mut machine.on_failure, Listing::new(alloc));
     let on_failure = lasting_files(alloc, machine.drawn.as_slice(), failing)?;
-    let drawn = mem::replace(&mut machine.drawn, DrawnNames::new(alloc));
-    let temps = temps_of(alloc, drawn.into_listing())?;
+    let drawn = mem::replace(&mut machine.drawn, Listing::new(alloc));
+    let temps = temps_of(alloc, drawn)?;
     Ok(Job {
         source: None,
         groups,
@@ -280,26 +272,27 @@ fn temps_of(alloc: Global, drawn: Listing<Drawn>) -> Result<Listing<Temp>, Alloc
     Ok(temps)
 }
 
-/// The paths of the names that were drawn.
-fn paths_of(alloc: Global, drawn: &[Drawn]) -> Result<IndexedWords, AllocError>
-    ensures { IfOk result (λ paths. paths ≡ map (λ name. name.path) drawn.now) }
+/// Whether one of the names that were drawn has this path.
+fn has_path(drawn: &[Drawn], path: &[u8]) -> bool
+    ensures { result ≡ is_among (map (λ name. name.path) drawn.now) path.now }
 {
-    let mut paths = Listing::new(alloc);
     for name in drawn {
-        paths.push(name.path.clone()?)?;
+        if path == name.path.as_bytes() {
+            return true;
+        }
     }
-    Ok(IndexedWords::new(alloc, paths))
+    false
 }
 
 /// Files, each once. Words are moved.
 fn once(alloc: Global, files: Listing<Word>) -> Result<Listing<Word>, AllocError>
     ensures { IfOk result (λ kept. kept ≡ once files) }
 {
-    let mut kept = IndexedWords::new(alloc, Listing::new(alloc));
+    let mut kept = Listing::new(alloc);
     for file in files.into_vec() {
-        kept.add(file)?;
+        add_once(&mut kept, file)?;
     }
-    Ok(kept.into_listing())
+    Ok(kept)
 }
 
 /// Files, each once, and without the job's own temporaries. Words are moved.
@@ -311,12 +304,8 @@ fn lasting_files(
     ensures { IfOk result (λ kept. kept ≡ lasting_files (map (λ name. name.path) drawn.now) files) }
 {
     let mut kept = Listing::new(alloc);
-    if files.is_empty() {
-        return Ok(kept);
-    }
-    let mut paths = paths_of(alloc, drawn)?;
     for file in once(alloc, files)?.into_vec() {
-        if paths.has(&file)? {
+        if has_path(drawn, file.as_bytes()) {
             continue;
         }
         kept.push(file)?;

@@ -9,7 +9,7 @@ use std::marker::Model;
 
 /// For each `%W` that is open the last word that ended in it. A word ends in all of them, so that
 /// they have one last word, but for the innermost ones in which none has ended.
-#[derive(Debug, Drop)]
+#[derive(Drop)]
 pub(crate) struct Inside {
     last: Word,
     count: usize,

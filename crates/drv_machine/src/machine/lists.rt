@@ -33,6 +33,17 @@ pub(crate) fn is_among(list: &[Word], word: &[u8]) -> bool
     false
 }
 
+/// A word goes to the end, unless it is in the list.
+pub(crate) fn add_once(words: &mut Listing<Word>, word: Word) -> Result<(), AllocError>
+    ensures { OnOk result (words.new ≡ added word words.old) }
+{
+    if is_among(words.as_slice(), word.as_bytes()) {
+        return Ok(());
+    }
+    words.push(word)?;
+    Ok(())
+}
+
 impl Machine {
     /// A whole word is put, with an opening before it and a break after it.
     #[tactic(auto, using(drv_system::proofs::AskedCalls::asked_further))]
@@ -194,7 +205,7 @@ impl Machine {
         ensures { (n : ℕ) (F : Facts) (C : specs.Context)
             → Does F C n self.old self.new result (change (λ w. record w { accumulated = added option.now w.accumulated })) }
     {
-        self.accumulated.add(Word::from_bytes(self.alloc, option)?)?;
+        add_once(&mut self.accumulated, Word::from_bytes(self.alloc, option)?)?;
         Ok(())
     }
 

@@ -22,7 +22,7 @@ use drv_words::Word;
 use std::alloc::AllocError;
 
 /// How a word is marked.
-#[derive(Clone, Copy, Debug)]
+#[derive(Clone, Copy)]
 pub(crate) enum Mark {
     /// `%d`: the word's file is removed at the end of the run.
     AsRemoved,
@@ -35,7 +35,7 @@ pub(crate) enum Mark {
 }
 
 /// The marks of the word that is open, or that wait for the next one.
-#[derive(Clone, Copy, Debug, Default)]
+#[derive(Clone, Copy)]
 pub(crate) struct Marking {
     pub(crate) removed: bool,
     pub(crate) output: bool,

@@ -22,7 +22,7 @@ use itoa::Buffer;
 use std::alloc::{AllocError, Global};
 
 /// How a name is drawn for a temporary.
-#[derive(Clone, Copy, Debug)]
+#[derive(Clone, Copy)]
 pub(crate) enum Drawing {
     /// Once for each suffix: the name of `%g`, and of `%|` and `%m`.
     Once,
@@ -43,7 +43,7 @@ impl Drawing {
 }
 
 /// A name that was drawn for a temporary.
-#[derive(Debug, Drop)]
+#[derive(Drop)]
 pub(crate) struct Drawn {
     /// How it was drawn.
     pub(crate) drawing: Drawing,
@@ -137,11 +137,7 @@ fn is_drawn(name: &Drawn, drawing: Drawing, suffix: &[u8]) -> bool
 }
 
 /// The last of these names that was drawn so with this suffix.
-pub(super) fn last_drawn<'a>(
-    drawn: &'a [Drawn],
-    drawing: Drawing,
-    suffix: &[u8],
-) -> Option<&'a [u8]>
+fn last_drawn<'a>(drawn: &'a [Drawn], drawing: Drawing, suffix: &[u8]) -> Option<&'a [u8]>
     ensures { option_map (λ path. path.now) result ≡ last_drawn drawing suffix.now drawn.now }
 {
     let mut i = drawn.len();
@@ -219,8 +215,8 @@ impl Machine {
             → GivesKnown MachineFault.Memory (λ path. (path, reached n self.new)) result
             (run F context.now (reached n self.old) (drawn_or_new F context.now drawing suffix.now)) }
     {
-        if let Some(path) = self.drawn.last(drawing, suffix)? {
-            return Ok(path);
+        if let Some(path) = last_drawn(self.drawn.as_slice(), drawing, suffix) {
+            return Ok(Word::from_bytes(self.alloc, path)?);
         }
         self.draw(drawing, suffix, context, outside)
     }

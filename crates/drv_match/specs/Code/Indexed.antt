@@ -1,4 +1,4 @@
-use Rattle.drv_match.specs.Matching.{is_any_hit, is_live, name_at}
+use Rattle.drv_match.specs.Matching.{is_live, name_at}
 use Rattle.drv_match.specs.Order.{IsBlock, IsOrder}
 use Rattle.drv_match.specs.Pattern.{Pattern}
 use Rattle.std.specs.Prelude.{◌≡◌, ◌&&◌, ◌<◌, ◌==◌, ◌∷◌, Bool, List, None, Option, Some, false, get_or, if◌then◌else◌, length, slice_range}
@@ -26,10 +26,6 @@ pub record AreNamed (names : List (List ℕ)) (pattern : Pattern) (places : List
   pub in_order : IsOrder names order
   pub block : IsBlock names order pattern start end
   pub part : places ≡ slice_range order start end
-
--- two lists of patterns that hit the same switches
-abbrev pub SameHits : List (List ℕ) → List Bool → List Pattern → List Pattern → Type 0
-SameHits names hidden some others = (i : ℕ) → i < length names → is_any_hit names hidden some i ≡ is_any_hit names hidden others i
 
 -- the name without `no-`, if it is a negative form
 abbrev pub positive : List ℕ → Option (List ℕ)

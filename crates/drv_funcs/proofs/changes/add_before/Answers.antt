@@ -1,8 +1,6 @@
 use Rattle.drv_funcs.proofs.Ends.{ends_before}
 use Rattle.drv_funcs.proofs.changes.add_before.Goals as goal
 
--- add_before (src/changes.rt). A change comes before those that the ends are known of.
-
 -- Names: `are`: the clause's condition `EndsBy`. `ends_before`: a change before those in the map.
 
 -- the ends of all changes follow from those of the later ones and this one

@@ -2,8 +2,6 @@ use Rattle.drv_funcs.proofs.changes.ends_of.Given as goal
 use Rattle.drv_funcs.specs.Code.Changes.{EndsAfter}
 use Rattle.std.proofs.Common.{length}
 
--- The loops of ends_of (src/changes.rt). What becomes of each word by these changes.
-
 -- the map has the changes that follow those that are left
 abbrev pub invariant-loop-left : goal.invariant-loop-left
 invariant-loop-left l = EndsAfter l.changes l.left l.ends

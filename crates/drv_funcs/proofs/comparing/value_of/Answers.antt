@@ -4,8 +4,6 @@ use Rattle.drv_funcs.specs.Outcome.{last, starred}
 use Rattle.drv_match.specs.Matching.{hits}
 use Rattle.std.proofs.Common.{◌≡◌, Some, rules}
 
--- value_of (src/comparing.rt). The rest of the last switch that the starred prefix hits.
-
 -- Names: `starred`: the pattern of the names that begin with these bytes. `last_within`: so the last place of a hit is a place of the line.
 
 -- the switch that is hit begins with the prefix, so it has a rest

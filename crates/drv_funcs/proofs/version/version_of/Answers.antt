@@ -6,8 +6,6 @@ use Rattle.std.proofs.Common.{◌≡◌, ◌<◌, ◌-◌, ◌∷◌, ◌++◌, 
 use Rattle.std.specs.Char.{is_ascii_digit}
 use Rattle.std.specs.Str.{byte}
 
--- version_of (src/version.rt). The numbers of a version, or `None` for another text.
-
 -- Names: `digit_small`: the value of a digit is at most 9. `digit_step`: one turn of the code's loop at a digit. `dot_step`: one turn of
 -- the code's loop at a dot after a part. `one_more`: so a number of one more digit stays below the next power.
 

@@ -4,8 +4,6 @@ use Rattle.drv_funcs.specs.Code.Reading.{read_on}
 use Rattle.drv_funcs.specs.Versions.{version}
 use Rattle.std.proofs.Common.{◌≡◌, ◌<◌, ◌≤◌, drop}
 
--- The loops of version_of (src/version.rt). The numbers of a version, or `None` for another text.
-
 -- the numbers and digits so far, with the rest of the text, give what the whole text gives
 abbrev pub invariant-loop-byte : goal.invariant-loop-byte
 invariant-loop-byte l = record {

@@ -5,8 +5,6 @@ use Rattle.drv_machine.specs.Atoms as atoms
 use Rattle.drv_machine.specs.Code.Running.{reached, run}
 use Rattle.std.proofs.Common.{ap, arith, refl, sym, ◌∙◌}
 
--- first_true (src/asking.rt). What is found first among the tests from one place up to another.
-
 -- Names: `n`: how many items were reached. `F`: what is known of the outside. `levels`: what items mean after each part that may still be
 -- opened. `star`: the value of `%*`. `s`: the clause's condition `Stands`. `rest`, `stands`, `same`: the fields of `PartsLeft`
 -- (proofs/Standing). `reached n s`: the machine s where n items were reached. `front_in`: a place before the end of whole parts is one of

@@ -8,8 +8,6 @@ use Rattle.drv_syntax.specs.Tree.{Tests}
 use Rattle.drv_system.specs.Facts.{Facts}
 use Rattle.std.proofs.Common.{List, ◌-◌, ◌≤◌, ℕ}
 
--- The loops of first_true (src/asking.rt). What is found first among the tests from one place up to another.
-
 -- no test so far is true: those that are left decide what is found, and the state is as it was
 abbrev pub invariant-loop-at : goal.invariant-loop-at
 invariant-loop-at l = record {

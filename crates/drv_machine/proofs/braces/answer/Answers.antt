@@ -12,9 +12,6 @@ use Rattle.drv_syntax.specs.Parsed.{tree_of}
 use Rattle.drv_syntax.specs.Tokens.{tokens_of}
 use Rattle.std.proofs.Common.{Ok, arith, false, length, subst, true}
 
--- answer (src/braces.rt). A test by a function was answered: its X is reached or opened, or the tests after it are judged, and then the
--- alternatives after them.
-
 -- Names: `n`: how many items were reached. `F`: what is known of the outside. `kept`: what follows arguments: their function, and the test
 -- that it answers. `given`: what the walk gives in the end. `fits`, `b`: the clause's conditions `AskFits` and `Following`. `fits`: of the
 -- type `AskFits` (specs/Code/Walking). `nodes`, `stands`: the fields of `Spans` (specs/Code/Standing). `reached n s`: the machine s where n

@@ -13,9 +13,6 @@ use Rattle.drv_syntax.specs.Parsed.{tree_of}
 use Rattle.drv_syntax.specs.Tokens.{tokens_of}
 use Rattle.std.proofs.Common.{◌+◌, ◌∙◌, Ok, ap, arith, length, subst}
 
--- choose (src/braces.rt). The first alternative with a true test, among those from one place up to another, is reached or opened; or the
--- default is; or the place after them is reached.
-
 -- Names: `n`: how many items were reached. `F`: what is known of the outside. `given`: what the walk gives in the end. `s`, `b`: the
 -- clause's conditions `Stands` and `Following`. `h`: of the type `Here` (proofs/Standing). `nodes`, `stands`: the fields of `Spans`
 -- (specs/Code/Standing). `reached n s`: the machine s where n items were reached. `here`: at a place before the end of whole parts the

@@ -8,9 +8,6 @@ use Rattle.drv_syntax.specs.Tree.{Choices}
 use Rattle.drv_system.specs.Facts.{Facts}
 use Rattle.std.proofs.Common.{List, ◌-◌, ◌≡◌, ◌≤◌, ℕ}
 
--- The loops of choose (src/braces.rt). The first alternative with a true test, among those from one place up to another, is reached or
--- opened; or the default is; or the place after them is reached.
-
 -- no alternative so far is true: those that are left decide, and the walk is as it was
 abbrev pub invariant-loop-at : goal.invariant-loop-at
 invariant-loop-at l = record {

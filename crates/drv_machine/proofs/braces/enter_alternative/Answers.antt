@@ -3,9 +3,6 @@ use Rattle.drv_machine.proofs.braces.enter_alternative.Goals as goal
 use Rattle.drv_machine.specs.Code.Running.{reached}
 use Rattle.drv_machine.specs.Code.Walking.{Went}
 
--- enter_alternative (src/braces.rt). An X by the test at a place, which is true: it is opened for each hit where X has a `%*` of its own,
--- as is said, else reached.
-
 -- Names: `n`: how many items were reached. `F`: what is known of the outside. `negated`: whether the test has a `!`. `others`: what the
 -- other alternatives do. `given`: what the walk gives in the end. `stands`, `b`: the clause's conditions `Stands` and `Following`. `owns`,
 -- `label`: the clause's equations. `reached n s`: the machine s where n items were reached. `each_entered`: an X that is processed for each

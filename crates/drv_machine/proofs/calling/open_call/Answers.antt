@@ -1,15 +1,12 @@
 use Rattle.drv_machine.proofs.Arguments.{call_opened}
 use Rattle.drv_machine.proofs.Onward.{too_deep}
 use Rattle.drv_machine.proofs.calling.open_call.Goals as goal
-use Rattle.drv_machine.specs.Code.Opening.{opening_lifted}
 use Rattle.drv_machine.specs.Atoms.{value_step}
 use Rattle.drv_machine.specs.Cutting.{Cut}
 use Rattle.drv_machine.specs.Code.Running.{Machine, reached}
 use Rattle.drv_machine.specs.Code.Walking.{Left, after_arguments}
 use Rattle.drv_machine.specs.declared.walk.Opened.TheVariants.{Call}
 use Rattle.std.proofs.Common.{ap, refl, rules, subst, sym, ◌+◌, ◌∙◌}
-
--- open_call (src/calling.rt). The arguments of the function item at a place are opened, which end where the next item begins.
 
 -- Names: `n`: how many items were reached. `F`: what is known of the outside. `given`: what the walk gives in the end. `stands`, `b`: the
 -- clause's conditions `Stands` and `Following`. `in_list`, `name_is`: the fields of `CallFits` (specs/Code/Walking). `reached n s`: the
@@ -20,7 +17,7 @@ use Rattle.std.proofs.Common.{ap, refl, rules, subst, sym, ◌+◌, ◌∙◌}
 pub returns-in_err-push-clause-does : goal.returns-in_err-push-clause-does
 returns-in_err-push-clause-does c n F C name items given within named stands b =
     let failed = too_deep F C c.args.walk.now.text.now c.args.walk.now (reached n c.args.machine.now) given c.args.next _ b refl
-    (opening_lifted c.in_err-push.field-0.0) c.in_err-push.ensures.err in
+    c.in_err-push.field-0.0 c.in_err-push.ensures.err in
     let f = c.from_residual-in_err-push.ensures in
     search rules
 

@@ -1,15 +1,12 @@
 use Rattle.drv_machine.proofs.Arguments.{ask_opened}
 use Rattle.drv_machine.proofs.Onward.{too_deep, weight_one}
 use Rattle.drv_machine.proofs.calling.open_test.Goals as goal
-use Rattle.drv_machine.specs.Code.Opening.{opening_lifted}
 use Rattle.drv_machine.specs.Cutting.{Cut}
 use Rattle.drv_machine.specs.Code.Running.{Machine, reached}
 use Rattle.drv_machine.specs.Code.Walking.{AskFits, Left, asked_on, after_arguments, levels_in, star_of, weight}
 use Rattle.drv_machine.specs.declared.walk.Asking.{Asking}
 use Rattle.drv_machine.specs.declared.walk.Opened.TheVariants.{Asks}
 use Rattle.std.proofs.Common.{ap, arith, refl, rules, subst, sym, ◌+◌, ◌-◌, ◌∙◌}
-
--- open_test (src/calling.rt). The arguments of the function that a test asks are opened.
 
 -- Names: `n`: how many items were reached. `F`: what is known of the outside. `kept`: what follows arguments: their function, and the test
 -- that it answers. `given`: what the walk gives in the end. `fits`, `stands`, `b`: the clause's conditions `AskFits`, `Stands` and
@@ -21,7 +18,7 @@ use Rattle.std.proofs.Common.{ap, arith, refl, rules, subst, sym, ◌+◌, ◌-�
 pub returns-in_err-push-clause-does : goal.returns-in_err-push-clause-does
 returns-in_err-push-clause-does c n F C items arguments kept given fits stands b =
     let failed = too_deep F C c.args.walk.now.text.now c.args.walk.now (reached n c.args.machine.now) given c.args.asking.end _ b refl
-    (opening_lifted c.in_err-push.field-0.0) c.in_err-push.ensures.err in
+    c.in_err-push.field-0.0 c.in_err-push.ensures.err in
     let f = c.from_residual-in_err-push.ensures in
     search rules
 

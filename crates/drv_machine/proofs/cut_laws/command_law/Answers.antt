@@ -1,9 +1,6 @@
 use Rattle.drv_machine.proofs.CutLines.{arguments_are, lines_are, stray_is}
 use Rattle.drv_machine.proofs.cut_laws.command_law.Goals as goal
 
--- command_law (src/cut_laws.rt). The law that a list of atoms in which no file begins is cut into the commands that the definitions over
--- the whole list say.
-
 -- Names: `arguments_are`: the words of a function's arguments are those of the last command. `lines_are`: a list of atoms without a file is
 -- cut into the commands that the definition says.
 

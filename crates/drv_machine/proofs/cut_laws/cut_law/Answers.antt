@@ -4,8 +4,6 @@ use Rattle.drv_machine.proofs.CutRuns.{each_found, output_is, removed_are}
 use Rattle.drv_machine.proofs.cut_laws.cut_law.Goals as goal
 use Rattle.drv_machine.specs.Cuts.{Failure, File}
 
--- cut_law (src/cut_laws.rt). The law that a list of atoms is cut as the definitions over the whole list say.
-
 -- Names: `failures_are`: the failure files of a whole list that is cut. `output_is`: the output of a list that is cut is that of the
 -- definition.
 

@@ -2,9 +2,6 @@ use Rattle.drv_machine.proofs.TextStretches.{are_stretched, part_balanced, text_
 use Rattle.drv_machine.proofs.Told.{told}
 use Rattle.drv_machine.proofs.cut_laws.text_law.Goals as goal
 
--- text_law (src/cut_laws.rt). The law that the atoms of every text are a list of which `file_law` speaks: no file is in another, and none
--- is left open.
-
 -- each clause is a lemma: Told and TextStretches
 pub returns : goal.returns
 returns c = record { stretched = are_stretched; told = told; balanced = text_balanced; parts = part_balanced }

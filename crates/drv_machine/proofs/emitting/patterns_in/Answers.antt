@@ -3,8 +3,6 @@ use Rattle.drv_machine.proofs.Standing.{front_in, here, nearer}
 use Rattle.drv_machine.proofs.emitting.patterns_in.Goals as goal
 use Rattle.std.proofs.Common.{arith}
 
--- patterns_in (src/emitting.rt). The patterns from one place up to another.
-
 -- Names: `s`: the clause's condition `Stands`. `front_in`: a place before the end of whole parts is one of the list. `patterns_step`: the
 -- loop's invariant after one more pattern is taken, by its token's label. `here`: at a place before the end of whole parts the token is in
 -- the list.

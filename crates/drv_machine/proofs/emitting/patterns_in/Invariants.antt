@@ -5,8 +5,6 @@ use Rattle.drv_syntax.specs.Labels.{pattern_nodes}
 use Rattle.drv_syntax.specs.Tree.{Pattern, Span}
 use Rattle.std.proofs.Common.{List, ◌-◌}
 
--- The loops of patterns_in (src/emitting.rt). The patterns from one place up to another.
-
 -- the patterns so far and those of the tokens that are left are the patterns of the braces
 abbrev pub invariant-loop-at : goal.invariant-loop-at
 invariant-loop-at l = record {

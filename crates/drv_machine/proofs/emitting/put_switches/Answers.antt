@@ -8,8 +8,6 @@ use Rattle.drv_system.proofs.AskedCalls.{asked_further, extends_before}
 use Rattle.std.proofs.Common.{arith, length, rules, sym, ◌<◌, ◌∙◌}
 use Rattle.std.proofs.lemmas.List.Elements.{All-get_or}
 
--- put_switches (src/emitting.rt). Puts the switches at these places.
-
 -- Names: `n`: how many items were reached. `F`: what is known of the outside. `e`: that `F` extends the facts of this call. `reached n s`:
 -- the machine s where n items were reached. `asked_further`: calls that only asked, one after another. `extends_before`: what extends the
 -- facts after a call extends those before it.

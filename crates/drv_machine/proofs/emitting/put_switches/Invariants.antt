@@ -7,8 +7,6 @@ use Rattle.drv_system.specs.Code.Asked.{Asked}
 use Rattle.drv_system.specs.Facts.{Facts}
 use Rattle.std.proofs.Common.{◌≡◌, drop, ℕ}
 
--- The loops of put_switches (src/emitting.rt). Puts the switches at these places.
-
 -- putting the switches that are left gives what putting all would have given
 abbrev pub invariant-loop-place : goal.invariant-loop-place
 invariant-loop-place g l = record {

@@ -3,8 +3,6 @@ use Rattle.drv_machine.proofs.Standing.{front_in}
 use Rattle.drv_machine.proofs.failing.has_patterns.Goals as goal
 use Rattle.std.proofs.Common.{arith}
 
--- has_patterns (src/failing.rt). Whether there are patterns from one place up to another, and no alternatives.
-
 -- Names: `t`, `s`: the clause's conditions `IsFalse` and `Stands`. `are_choices`: braces whose first part is no pattern have alternatives.
 -- `are_patterns`: braces whose first part is a pattern put switches.
 

@@ -1,11 +1,8 @@
 use Rattle.drv_machine.proofs.FailureFiles.{from_begun}
 use Rattle.drv_machine.proofs.Onward.{too_deep}
 use Rattle.drv_machine.proofs.failing.open_failure.Goals as goal
-use Rattle.drv_machine.specs.Code.Opening.{opening_lifted}
 use Rattle.drv_machine.specs.Code.Running.{reached}
 use Rattle.std.proofs.Common.{refl, rules}
-
--- open_failure (src/failing.rt). A `%W` whose inside ends at a place is opened.
 
 -- Names: `n`: how many items were reached. `F`: what is known of the outside. `given`: what the walk gives in the end. `b`: the clause's
 -- condition `Following`. `reached n s`: the machine s where n items were reached. `from_begun`: the %W is opened, or its beginning is
@@ -15,7 +12,7 @@ use Rattle.std.proofs.Common.{refl, rules}
 pub returns-in_err-push-clause-does : goal.returns-in_err-push-clause-does
 returns-in_err-push-clause-does c n F C brace given b =
     let failed = too_deep F C c.args.walk.now.text.now c.args.walk.now (reached n c.args.machine.now) given c.args.end _ b refl
-    (opening_lifted c.in_err-push.field-0.0) c.in_err-push.ensures.err in
+    c.in_err-push.field-0.0 c.in_err-push.ensures.err in
     let f = c.from_residual.ensures in
     search rules
 

@@ -9,8 +9,6 @@ use Rattle.drv_syntax.specs.Labels.{brace_nodes}
 use Rattle.drv_syntax.specs.Tree.{Brace}
 use Rattle.std.proofs.Common.{ap, subst, sym}
 
--- work_brace (src/failing.rt). The part in braces from one place up to another is run, or reached.
-
 -- Names: `n`: how many items were reached. `F`: what is known of the outside. `given`: what the walk gives in the end. `e`: that `F`
 -- extends the facts of this call. `s`, `b`: the clause's conditions `Stands` and `Following`. `ch`: of the type `Chooses`
 -- (specs/Code/Walking). `reached n s`: the machine s where n items were reached. `brace_step`: what braces mean. `levels_in`: what may be

@@ -1,8 +1,6 @@
 use Rattle.drv_machine.proofs.failing.work_failure.Goals as goal
 use Rattle.std.proofs.Common.{rules}
 
--- work_failure (src/failing.rt). A `%W` is opened, and its part from one place up to another is run, or reached.
-
 -- Names: `n`: how many items were reached. `F`: what is known of the outside. `given`: what the walk gives in the end. `e`: that `F`
 -- extends the facts of this call. `s`, `b`: the clause's conditions `Stands` and `Following`.
 

@@ -7,8 +7,6 @@ use Rattle.drv_machine.specs.Code.Walking.{Reaches}
 use Rattle.drv_machine.specs.declared.walk.Walk.{Walk}
 use Rattle.std.proofs.Common.{List, ap, refl, rules, subst, sym, ℕ}
 
--- open_filed (src/filing.rt). A `%@` whose inside ends at a place is opened; a file begins, if it makes one.
-
 -- Names: `n`: how many items were reached. `F`: what is known of the outside. `given`: what the walk gives in the end. `e`: that `F`
 -- extends the facts of this call. `b`: the clause's condition `Following`. `reached n s`: the machine s where n items were reached.
 -- `brace_step`: what braces mean. `file_reached`: braces that make a file are opened, or the beginning is refused.

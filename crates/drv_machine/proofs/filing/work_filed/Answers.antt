@@ -2,8 +2,6 @@ use Rattle.drv_machine.proofs.filing.work_filed.Goals as goal
 use Rattle.drv_system.proofs.AskedCalls.{asked_further, extends_before}
 use Rattle.std.proofs.Common.{rules}
 
--- work_filed (src/filing.rt). A `%@` is opened, and its part from one place up to another is run, or reached.
-
 -- Names: `n`: how many items were reached. `F`: what is known of the outside. `given`: what the walk gives in the end. `e`: that `F`
 -- extends the facts of this call. `s`, `b`: the clause's conditions `Stands` and `Following`. `asked_further`: calls that only asked, one
 -- after another. `extends_before`: what extends the facts after a call extends those before it.

@@ -7,8 +7,6 @@ use Rattle.drv_machine.specs.Code.Walking.{each_from, hit_end, levels_in}
 use Rattle.drv_machine.specs.Working.{Break, puts, word_of}
 use Rattle.std.proofs.Common.{Err, rules, ◌+◌, ◌∷◌}
 
--- close_hit (src/hits.rt). A working of an X for a hit ends: the switch's argument is put, and X is opened for the next one.
-
 -- Names: `n`: how many items were reached. `F`: what is known of the outside. `given`: what the walk gives in the end. `e`: that `F`
 -- extends the facts of this call. `fits`, `b`: the clause's conditions `HitFits` and `Following`. `reached n s`: the machine s where n
 -- items were reached. `each_from`: X for the switches from a place on. `argument`: the argument of the switch at a place, if it has one.

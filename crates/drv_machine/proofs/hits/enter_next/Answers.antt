@@ -6,8 +6,6 @@ use Rattle.drv_match.specs.Pattern.{Pattern}
 use Rattle.std.specs.Option.{IfSome}
 use Rattle.std.proofs.Common.{Ok, Option, ap, length, subst, ◌<◌, ◌∙◌, ◌≤◌, ℕ}
 
--- enter_next (src/hits.rt). An X for each hit from a switch on: it is opened for the next one, or the walk goes on after it.
-
 -- Names: `n`: how many items were reached. `F`: what is known of the outside. `given`: what the walk gives in the end. `stands`, `b`: the
 -- clause's conditions `Stands` and `Following`. `label`: the clause's equation. `in_list`, `label_is`, `stands`, `in_line`: the fields of
 -- `HitFits` (specs/Code/Walking). `reached n s`: the machine s where n items were reached. `levels_in`: what may be opened in the parts

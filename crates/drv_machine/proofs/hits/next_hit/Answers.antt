@@ -2,8 +2,6 @@ use Rattle.drv_machine.proofs.ChoiceSteps.{next_finds, next_within}
 use Rattle.drv_machine.proofs.hits.next_hit.Goals as goal
 use Rattle.drv_machine.specs.Code.Running.{reached}
 
--- next_hit (src/hits.rt). The next switch from a place on that a pattern hits, if one does.
-
 -- Names: `n`: how many items were reached. `F`: what is known of the outside. `levels`: what items mean after each part that may still be
 -- opened. `is`: the clause's equation. `next_finds`: the next hit that the code finds is that of the definition. `next_within`: the next
 -- switch that is hit is one of the line, from this place on.

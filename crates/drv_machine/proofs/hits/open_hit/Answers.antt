@@ -1,11 +1,8 @@
 use Rattle.drv_machine.proofs.Onward.{opened_left, too_deep, weight_one}
 use Rattle.drv_machine.proofs.hits.open_hit.Goals as goal
-use Rattle.drv_machine.specs.Code.Opening.{opening_lifted}
 use Rattle.drv_machine.specs.Code.Walking.{weight}
 use Rattle.drv_machine.specs.declared.walk.Opened.TheVariants.{Hit}
 use Rattle.std.proofs.Common.{ap, arith, refl, rules}
-
--- open_hit (src/hits.rt). An X is opened for the hit at a place of the line.
 
 -- Names: `F`: what is known of the outside. `s`: the machine: what has been cut, and the world. `given`: what the walk gives in the end.
 -- `n`: how many items were reached. `fits`, `b`: the clause's conditions `HitFits` and `Following`. `long`: the clause's equation.
@@ -16,7 +13,7 @@ use Rattle.std.proofs.Common.{ap, arith, refl, rules}
 pub returns-in_err-push-clause-does : goal.returns-in_err-push-clause-does
 returns-in_err-push-clause-does c F C p items s given fits long b =
     let failed = too_deep F C c.args.walk.now.text.now c.args.walk.now s given c.args.each.end _ b refl
-    (opening_lifted c.in_err-push.field-0.0) c.in_err-push.ensures.err in
+    c.in_err-push.field-0.0 c.in_err-push.ensures.err in
     let f = c.from_residual.ensures in
     search rules
 

@@ -10,8 +10,6 @@ use Rattle.drv_machine.specs.declared.fault.MachineFault.TheVariants.{UserError}
 use Rattle.drv_syntax.specs.declared.token.TokenKind.TheVariants as kinds
 use Rattle.std.proofs.Common.{[], ◌∷◌, ◌++◌, ap, arith, sym, ◌+◌, ◌∙◌}
 
--- work_item (src/items.rt). Runs an item of the text that is walked that opens no part and has no alternatives.
-
 -- Names: `n`: how many items were reached. `F`: what is known of the outside. `levels`: what items mean after each part that may still be
 -- opened. `e`: that `F` extends the facts of this call. `means`: the clause's condition `Means`. `reached n s`: the machine s where n items
 -- were reached. `by_kind`: the step of a kind, with another name for the same kind. `star_of`: the value of %* in the innermost part.

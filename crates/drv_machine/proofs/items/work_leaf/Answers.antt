@@ -8,8 +8,6 @@ use Rattle.drv_syntax.specs.declared.token.Leaf.TheVariants as leaves
 use Rattle.drv_words.specs.FileNames.{base, stem}
 use Rattle.std.proofs.Common.{ap, refl, rules, sym, ◌∙◌}
 
--- work_leaf (src/items.rt). Works a directive that is whole with its byte.
-
 -- Names: `reached n m` is the machine m where n items were reached. `then_ok` says what follows an answer that is known, and `by_leaf`
 -- that the definition does for this directive what its variant says.
 

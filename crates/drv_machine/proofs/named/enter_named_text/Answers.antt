@@ -1,10 +1,7 @@
 use Rattle.drv_machine.proofs.NamedTexts.{text_opened}
 use Rattle.drv_machine.proofs.Onward.{too_deep}
 use Rattle.drv_machine.proofs.named.enter_named_text.Goals as goal
-use Rattle.drv_machine.specs.Code.Opening.{opening_lifted}
 use Rattle.std.proofs.Common.{ap, length, refl, rules}
-
--- enter_named_text (src/named.rt). A text is opened.
 
 -- Names: `F`: what is known of the outside. `s`: the machine: what has been cut, and the world. `given`: what the walk gives in the end.
 -- `b`: the clause's condition `Following`. `text_opened`: the walk enters the whole text, and goes on after the item at its end.
@@ -14,7 +11,7 @@ use Rattle.std.proofs.Common.{ap, length, refl, rules}
 pub returns-in_err-push : goal.returns-in_err-push
 returns-in_err-push c F C s given b =
     let failed = too_deep F C c.args.walk.now.text.now c.args.walk.now s given c.args.walk.now.at _ b refl
-    (opening_lifted c.in_err-push.field-0.0) c.in_err-push.ensures.err in
+    c.in_err-push.field-0.0 c.in_err-push.ensures.err in
     let f = c.from_residual.ensures in
     search rules
 

@@ -10,8 +10,6 @@ use Rattle.drv_syntax.specs.Parsed.{tree_of}
 use Rattle.std.proofs.Common.{Ok, ap, arith, length, refl}
 use Rattle.std.specs.Prelude.{Some, option_map}
 
--- open_named_text (src/named.rt). The text of a name is opened; one that isn't there gives nothing.
-
 -- Names: `F`: what is known of the outside. `given`: what the walk gives in the end. `b`: the clause's condition `Following`. `state`: the
 -- state of a machine and its count. `named`: a named text is run in one more open part. `tree_of`: the tree of a text. `tree_named`: the
 -- tree of the text of a name, if the set has one.

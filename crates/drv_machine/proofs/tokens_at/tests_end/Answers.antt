@@ -4,8 +4,6 @@ use Rattle.drv_machine.proofs.tokens_at.tests_end.Goals as goal
 use Rattle.drv_syntax.specs.Labels.{Nodes}
 use Rattle.std.proofs.Common.{ap, arith}
 
--- tests_end (src/tokens_at.rt). The end of the tests that are first among parts.
-
 -- Names: `s`: the clause's condition `Stands`. `passed_end`: where the loop has reached the end of the parts, the tests end there.
 -- `front_in`: a place before the end of whole parts is one of the list. `here`: at a place before the end of whole parts the token is in
 -- the list. `nearer`: the parts after a token are nearer to the end than the token, so the loop ends.

@@ -4,8 +4,6 @@ use Rattle.drv_syntax.specs.Labels.{Nodes}
 use Rattle.std.proofs.Common.{◌-◌}
 use Rattle.drv_machine.proofs.tokens_at.tests_end.Given as goal
 
--- The loops of tests_end (src/tokens_at.rt). The end of the tests that are first among parts.
-
 -- the parts passed so far are tests, and the others lie from the place that is reached on (`Passed`)
 abbrev pub invariant-loop-at : goal.invariant-loop-at
 invariant-loop-at l = record {

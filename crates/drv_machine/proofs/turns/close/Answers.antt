@@ -12,8 +12,6 @@ use Rattle.drv_machine.specs.declared.walk.Opened.{Opened}
 use Rattle.drv_system.specs.Gives.{GivesKnown}
 use Rattle.std.proofs.Common.{◌≡◌, ◌∙◌, List, [], ◌∷◌, Ok, ap, arith, length, refl, rules, subst, sym, ℕ}
 
--- close (src/turns.rt). The innermost open part ends: what it was opened for is done, or done once more, in the part around it.
-
 -- Names: `n`: how many items were reached. `F`: what is known of the outside. `kept`: what follows arguments: their function, and the test
 -- that it answers. `given`: what the walk gives in the end. `e`: that `F` extends the facts of this call. `fits`, `a`: the clause's
 -- conditions `OpenedFits` and `After`. `reached n s`: the machine s where n items were reached. `hits_left`: how often the end of an open

@@ -7,8 +7,6 @@ use Rattle.drv_machine.specs.declared.fault.MachineFault.TheVariants.{Memory}
 use Rattle.drv_system.specs.Known.{Is}
 use Rattle.std.proofs.Common.{◌≡◌, ◌⊎◌, ◌∙◌, Err, List, Ok, rules, subst, ℕ}
 
--- close_test (src/turns.rt). The arguments of the function that a test asks end: the test is judged by what the function says.
-
 -- Names: `n`: how many items were reached. `F`: what is known of the outside. `kept`: what follows arguments: their function, and the test
 -- that it answers. `given`: what the walk gives in the end. `e`: that `F` extends the facts of this call. `fits`, `a`: the clause's
 -- conditions `AskFits` and `After`. `reached n s`: the machine s where n items were reached. `has_value`: whether the function of this name

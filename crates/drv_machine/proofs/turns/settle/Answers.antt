@@ -13,8 +13,6 @@ use Rattle.drv_system.specs.Known.{Is}
 use Rattle.std.proofs.Common.{Err, Option, ap, arith, length, refl, rules, ◌++◌, ◌∙◌, ◌≡◌, ◌⊎◌}
 use Rattle.std.specs.Prelude.{option_to_list}
 
--- settle (src/turns.rt). Closes the open parts that have ended, and says whether an item is left to be processed.
-
 -- Names: `n`: how many items were reached. `F`: what is known of the outside. `given`: what the walk gives in the end. `e`: that `F`
 -- extends the facts of this call. `left`: the clause's condition `Left`. `arounds`, `framed`: the fields of `HasFrames`
 -- (specs/Code/Walking). `rest`, `lies`: the fields of `Lain` (specs/Code/Walking). `reached n s`: the machine s where n items were reached.

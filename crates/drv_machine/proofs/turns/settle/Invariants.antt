@@ -7,8 +7,6 @@ use Rattle.drv_system.specs.Code.Asked.{Asked}
 use Rattle.drv_system.specs.Facts.{Facts}
 use Rattle.std.proofs.Common.{◌<◌, length, ℕ}
 
--- The loops of settle (src/turns.rt). Closes the open parts that have ended, and says whether an item is left to be processed.
-
 -- what is left of the walk gives what the whole would have given (`left`); an item that is reached is no alternative (`at_item`); the walk
 -- lies in the text (`lain`), and each open part is one of the text's (`framed`)
 abbrev pub invariant-loop-walk : goal.invariant-loop-walk

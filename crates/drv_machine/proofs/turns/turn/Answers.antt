@@ -7,8 +7,6 @@ use Rattle.drv_machine.specs.Code.Running.{reached}
 use Rattle.drv_machine.specs.declared.walk.Walk.{Walk}
 use Rattle.std.proofs.Common.{Ok, ap, arith, rules}
 
--- turn (src/turns.rt). Works the item that is reached, and where that is a plain byte, those after it.
-
 -- Names: `F`: what is known of the outside. `given`: what the walk gives in the end. `e`: that `F` extends the facts of this call. `left`:
 -- the clause's condition `Left`. `before_end`, `token`, `there`, `plain`: the fields of `AtByte` (specs/Code/PlainRuns). `state`: the state
 -- of a machine and its count. `at_place`: the item that is reached is a token of the list. `inner_there`: the parts inside the item that is
@@ -114,12 +112,12 @@ returns-then-has_byte-clause-does g c F e given left =
     (c.work_run.ensures.does F c.args.context.now (state c.args.tally.now) given (c.in_ok-count.ensures.does F c.args.context.now) left)
 
 -- a plain byte alone
-pub returns-in_ok-put_item-in-Plain-clause-does : goal.returns-in_ok-put_item-in-Plain-clause-does
-returns-in_ok-put_item-in-Plain-clause-does g c F e given left =
+pub returns-in_ok-put_bytes-in-Plain-clause-does : goal.returns-in_ok-put_bytes-in-Plain-clause-does
+returns-in_ok-put_bytes-in-Plain-clause-does g c F e given left =
     turn_plain c.args.walk.now.text.now c.args.walk.now c.requires.at_item c.token_at-token.result c.token_at-token.ensures F
     c.args.context.now (state c.args.tally.now) given left (state c.count.new.self)
     (c.in_ok-count.ensures.does F c.args.context.now) c.in-Plain.is c.word-in-Plain.result.now c.word-in-Plain.ensures
-    (Ok tt) (reached c.count.new.self.items c.put_item.new.self) (c.in_ok-put_item-in-Plain.ensures c.count.new.self.items F
+    (Ok tt) (reached c.count.new.self.items c.put_bytes.new.self) (c.in_ok-put_bytes-in-Plain.ensures c.count.new.self.items F
     c.args.context.now)
 
 -- a named text

@@ -7,8 +7,6 @@ use Rattle.drv_system.proofs.AskedCalls.{asked_further, asked_none, extends_befo
 use Rattle.drv_system.proofs.Asking.{extends_refl}
 use Rattle.std.proofs.Common.{arith, rules}
 
--- work_items (src/turns.rt). Works the items of a walk that are left, up to its end.
-
 -- Names: `F`: what is known of the outside. `given`: what the walk gives in the end. `e`: that `F` extends the facts of this call. `left`:
 -- the clause's condition `Left`. `extends_before`: what extends the facts after a call extends those before it. `state`: the state of a
 -- machine and its count. `reached n s`: the machine s where n items were reached. `asked_further`: calls that only asked, one after

@@ -8,8 +8,6 @@ use Rattle.drv_system.specs.Code.Asked.{Asked}
 use Rattle.drv_system.specs.Facts.{Facts}
 use Rattle.std.proofs.Common.{◌-◌}
 
--- The loops of work_items (src/turns.rt). Works the items of a walk that are left, up to its end.
-
 -- what is left of the walk gives what the whole would have given
 abbrev pub invariant-loop-walk : goal.invariant-loop-walk
 invariant-loop-walk g l = record {

@@ -3,9 +3,6 @@ use Rattle.drv_machine.proofs.turns.work_run.Goals as goal
 use Rattle.drv_machine.specs.Code.Counting.{state}
 use Rattle.std.proofs.Common.{ap, arith}
 
--- work_run (src/turns.rt). Works the plain bytes from the place that is reached, up to another item or the end of the innermost part, as
--- many as may be reached.
-
 -- Names: `F`: what is known of the outside. `s`: the machine: what has been cut, and the world. `given`: what the walk gives in the end.
 -- `left`: the clause's condition `Left`. `first`: the clause's equation. `state`: the state of a machine and its count. `byte_reached`: the
 -- plain byte that is reached is in the slice that begins there. `run_worked`: after plain bytes that were put at once.

@@ -10,8 +10,6 @@ use Rattle.drv_syntax.specs.Parsed.{tree_of}
 use Rattle.drv_system.specs.Facts.{no_facts}
 use Rattle.std.proofs.Common.{[], ap, length}
 
--- work_text (src/turns.rt). Works a whole text.
-
 -- Names: `F`: what is known of the outside. `e`: that `F` extends the facts of this call. `no_facts`: nothing is known yet. `state`: the
 -- state of a machine and its count. `tree_of`: the tree of a text. `left_in`: `Left` with another name for the same text.
 

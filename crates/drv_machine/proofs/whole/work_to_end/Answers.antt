@@ -9,8 +9,6 @@ use Rattle.drv_syntax.specs.Parsed.{tree_of}
 use Rattle.drv_system.specs.Gives.{GivesKnown}
 use Rattle.std.proofs.Common.{ap, subst, sym, ◌∙◌}
 
--- work_to_end (src/whole.rt). A spec text worked to its end.
-
 -- Names: `F`: what is known of the outside. `e`: that `F` extends the facts of this call. `tree_of`: the tree of a text. `outcome_runs`:
 -- the definition's outcome of a whole text is what the code's streaming gives.
 

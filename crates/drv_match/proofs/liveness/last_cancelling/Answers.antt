@@ -4,8 +4,6 @@ use Rattle.drv_match.specs.Code.Indexed.{positive}
 use Rattle.drv_match.specs.Matching.{has_negative, is_level, negative}
 use Rattle.std.proofs.Common.{◌≡◌, None, Some, false, rules, true}
 
--- last_cancelling (src/liveness.rt). The place of the last switch that cancels this name, or 0 if there is none.
-
 -- Names: `positive`: the name without `no-`, if it is a negative form. `has_negative`: a name that has a negative form. `is_level`: an
 -- optimization level, whose name begins with `O`.
 

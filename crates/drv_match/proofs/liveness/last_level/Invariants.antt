@@ -2,8 +2,6 @@ use Rattle.drv_match.proofs.liveness.last_level.Given as goal
 use Rattle.drv_match.specs.Matching.{is_level, name_at}
 use Rattle.std.proofs.Common.{◌≡◌, ◌<◌, ◌≤◌, false, length, ℕ}
 
--- The loops of last_level (src/liveness.rt). The place of the last optimization level, or 0 if there is none.
-
 -- from this place on no name is a level
 abbrev pub invariant-loop-place : goal.invariant-loop-place
 invariant-loop-place l = record {

@@ -4,8 +4,6 @@ use Rattle.std.proofs.Common.{◌∙◌, ◌-◌, ◌<◌, ap, arith, get_or, na
 use Rattle.std.proofs.lemmas.List.Sorted.{IsPartitionPoint-from_clause}
 use Rattle.std.specs.Cmp.Lexicographic.{pointwise}
 
--- last_named (src/liveness.rt). The place of the last switch of this name, or 0 if there is none.
-
 -- Names: `is_upto`: whether the name at a place is this one or comes before it. `upto_parts`: in the order of names the places up to a name
 -- come first. `named_last`: the entry before the end is the last place of the name, or no switch has the name.
 

@@ -8,8 +8,6 @@ use Rattle.std.proofs.Common.{◌≡◌, ◌<◌, ◌+◌, ◌-◌, ◌∙◌, a
 use Rattle.std.specs.Cmp.Lexicographic.{pointwise}
 use Rattle.std.proofs.lemmas.Grind.{common_steps}
 
--- mark_live (src/liveness.rt). Sets the flags of the live switches.
-
 -- Names: `in_range`: each item of the order is a place of the line. `name_at`: the name at a place. `flags_all`: at its end all flags are
 -- right. `flags_next`: one step of the loop over the order.
 

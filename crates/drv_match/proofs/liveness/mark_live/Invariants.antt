@@ -3,8 +3,6 @@ use Rattle.drv_match.specs.Matching.{cancels, is_live, name_at}
 use Rattle.drv_match.proofs.liveness.mark_live.Given as goal
 use Rattle.std.proofs.Common.{◌≡◌, ◌-◌, ◌<◌, false, get_or, length, ℕ}
 
--- The loops of mark_live (src/liveness.rt). Sets the flags of the live switches.
-
 -- the flags of the places so far are right, and `first_live` is that of the last name
 abbrev pub invariant-loop-k : goal.invariant-loop-k
 invariant-loop-k l = record {

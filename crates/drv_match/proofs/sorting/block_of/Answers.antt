@@ -3,8 +3,6 @@ use Rattle.drv_match.proofs.sorting.block_of.Goals as goal
 use Rattle.std.proofs.Common.{rules}
 use Rattle.std.proofs.lemmas.List.Sorted.{IsPartitionPoint-from_clause}
 
--- block_of (src/sorting.rt). The block that the pattern names in the places by name: its start, and the end after it.
-
 -- Names: `asks_start`: what the first search asks of a place. `start_parts`: in the order of names the places that come before the
 -- pattern's name are first. `asks_end`: what the second asks.
 

@@ -7,8 +7,6 @@ use Rattle.std.proofs.lemmas.Result.{IfOk-at_ok}
 use Rattle.std.specs.List.{range_with_len}
 use Rattle.std.specs.Ordering.{is_lt}
 
--- places_by_name (src/sorting.rt). All places of these names, by name, then by place.
-
 -- Names: `is_before`: the name at one place comes before the name at another. `names_rank`: the comparison of places by name alone is an
 -- order to sort by.
 

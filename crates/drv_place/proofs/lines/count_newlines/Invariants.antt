@@ -2,8 +2,6 @@ use Rattle.drv_place.proofs.lines.count_newlines.Given as goal
 use Rattle.drv_specs.specs.Lines.{ends_line}
 use Rattle.std.proofs.Common.{◌≡◌, ◌≤◌, ◌+◌, filter, length}
 
--- The loops of count_newlines (src/lines.rt). How many newlines there are: it goes from one to the next, and doesn't look at each byte.
-
 abbrev pub invariant-loop-rest : goal.invariant-loop-rest
 invariant-loop-rest l = record {
   counted : l.count + length (filter ends_line l.left) ≡ length (filter ends_line l.bytes);

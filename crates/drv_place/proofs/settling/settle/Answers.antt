@@ -2,8 +2,5 @@ use Rattle.drv_place.proofs.Marking.{bytes_there}
 use Rattle.drv_place.proofs.settling.settle.Goals as goal
 use Rattle.std.proofs.Common.{◌∙◌}
 
--- settle (src/settling.rt). What is left of a spec file's text, without carriage returns and without each pair of a backslash and a newline
--- (GCC manual, "Spec Files"), and where each of its bytes is in the file.
-
 pub returns-clause-bytes : goal.returns-clause-bytes
 returns-clause-bytes c = bytes_there _ _ c.args.text.now (c.from_vec.ensures ∙ c.in_ok-bytes.ensures.bytes) c.in_ok-bytes.ensures.places

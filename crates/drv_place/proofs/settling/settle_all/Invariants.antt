@@ -2,8 +2,6 @@ use Rattle.drv_place.proofs.settling.settle_all.Given as goal
 use Rattle.drv_place.specs.Settling.{marked_from, nothing}
 use Rattle.std.proofs.Common.{◌≡◌, drop}
 
--- The loops of settle_all (src/settling.rt). The bytes that are left of a text, and the place of each.
-
 -- the bytes and places so far, with the rest of the text, give what the whole text gives
 abbrev pub invariant-loop-byte : goal.invariant-loop-byte
 invariant-loop-byte l = record {

@@ -2,8 +2,6 @@ use Rattle.drv_plan.proofs.Ends.{not_alike, some_there}
 use Rattle.drv_plan.proofs.languages.end_alike.Goals as goal
 use Rattle.std.proofs.Common.{◌-◌, get_or, length, refl}
 
--- end_alike (src/languages.rt). Whether two texts have the same last byte, or one is empty.
-
 -- Names: `differ`: the clause's equation. `not_alike`: a text whose last byte is another does not end with this one. `some_there`: a length
 -- that is not 0.
 

@@ -5,8 +5,6 @@ use Rattle.drv_plan.specs.Code.Looking.{fits}
 use Rattle.drv_specs.specs.Sets.{is_no_text, worked_text}
 use Rattle.std.proofs.Common.{◌∙◌, None, Some, ap, if◌then◌else◌, option_and_then, sym}
 
--- last_pair (src/languages.rt). The meaning of the last pair whose key fits.
-
 -- Names: `pair_at`: the pair at an index, by another name for the same list. `text_found`: the text of the last pair that fits, as the
 -- meaning of that pair. `pair_meaning`: what the text of a pair means.
 

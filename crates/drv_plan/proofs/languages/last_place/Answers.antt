@@ -4,8 +4,6 @@ use Rattle.drv_plan.specs.Languages.{last_text}
 use Rattle.drv_plan.specs.Code.Looking.{fits}
 use Rattle.std.proofs.Common.{◌-◌, ◌∙◌, ap, arith, sym}
 
--- last_place (src/languages.rt). The index of the last pair whose key fits.
-
 -- Names: `fits`: whether a key is that of the language, or a suffix of the name. `last_text`: the text of the last pair whose key fits.
 -- `pair_hit`: going from the end.
 

@@ -3,8 +3,6 @@ use Rattle.drv_plan.specs.Languages.{last_text}
 use Rattle.drv_plan.specs.Code.Looking.{fits}
 use Rattle.std.proofs.Common.{◌≡◌, ◌≤◌, length, take}
 
--- The loops of last_place (src/languages.rt). The index of the last pair whose key fits.
-
 -- fewer pairs are left each turn, so the loop ends
 abbrev pub decreases-loop-left : goal.decreases-loop-left
 decreases-loop-left l = l.left

@@ -3,9 +3,6 @@ use Rattle.drv_search.specs.Search.{prefixes_of}
 use Rattle.drv_system.proofs.Asking.{asks_extends, extends_then}
 use Rattle.std.proofs.Common.{◌∙◌, ap, sym}
 
--- plan (src/planning.rt). The plan of a line with its specs: each source, with the text of its language, in the order of the line, and the
--- link, if there is one (GCC manual, "Overall Options" and "Spec Files").
-
 -- Names: `F`: what is known of the outside. `e`: that `F` extends the facts of this call. `prefixes_of`: the prefixes of a line with these
 -- -B. `asks_extends`: a call that only asked keeps every answer.
 

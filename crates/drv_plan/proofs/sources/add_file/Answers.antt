@@ -4,8 +4,6 @@ use Rattle.drv_plan.specs.Denoted.{with_file, with_source}
 use Rattle.drv_plan.specs.Languages.{Chosen}
 use Rattle.std.proofs.Common.{Ok, ap, ◌∙◌}
 
--- add_file (src/sources.rt). Adds a file: runs its text, or leaves it to the linker.
-
 -- Names: `F`: what is known of the outside. `e`: that `F` extends the facts of this call. `with_file`: the progress after a file, by its
 -- language. `given_alike`: an answer to one definition is an answer to an equal one.
 

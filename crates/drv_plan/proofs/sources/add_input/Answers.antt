@@ -3,8 +3,6 @@ use Rattle.drv_plan.proofs.sources.add_input.Goals as goal
 use Rattle.drv_plan.specs.Denoted.{with_file, with_input}
 use Rattle.std.proofs.Common.{Ok}
 
--- add_input (src/sources.rt). Adds an input: a file in its language, or a word for the link, which has none.
-
 -- Names: `F`: what is known of the outside. `e`: that `F` extends the facts of this call. `with_input`: the progress after one more input.
 -- `file_chosen`: a file is processed by the language that was found for it. `given_alike`: an answer to one definition is an answer to an
 -- equal one.

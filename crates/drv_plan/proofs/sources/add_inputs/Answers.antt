@@ -3,8 +3,6 @@ use Rattle.drv_plan.proofs.sources.add_inputs.Goals as goal
 use Rattle.drv_plan.specs.Denoted.{with_inputs}
 use Rattle.drv_system.proofs.AskedCalls.{asked_further, extends_before}
 
--- add_inputs (src/sources.rt). Adds the inputs of a line in order.
-
 -- Names: `F`: what is known of the outside. `e`: that `F` extends the facts of this call. `extends_before`: what extends the facts after a
 -- call extends those before it. `input_refused`: where the next input is refused, so is the whole. `input_taken`: the next input was
 -- processed.

@@ -5,8 +5,6 @@ use Rattle.drv_system.specs.Code.Asked.{Asked}
 use Rattle.drv_system.specs.Facts.{Facts}
 use Rattle.std.proofs.Common.{◌≡◌, drop}
 
--- The loops of add_inputs (src/sources.rt). Adds the inputs of a line in order.
-
 -- the progress so far, with the inputs that are left, gives what all inputs give; the call only asked
 abbrev pub invariant-loop-place : goal.invariant-loop-place
 invariant-loop-place g l = record {

@@ -8,8 +8,6 @@ use Rattle.drv_system.specs.Known.{Is}
 use Rattle.drv_words.specs.Bytes.{hyphen}
 use Rattle.std.proofs.Common.{◌∙◌, ◌++◌, List, [], ◌∷◌, Ok, ap, sym, ℕ}
 
--- add_switch (src/machine/whole_words.rt). The switch at a place and its argument are put, each as a whole word.
-
 -- Names: `n`: how many items were reached. `F`: what is known of the outside. `reached n s`: the machine s where n items were reached.
 -- `word_added`: the state after a word was put whole into the command, between words. `name_at`: the name at a place.
 

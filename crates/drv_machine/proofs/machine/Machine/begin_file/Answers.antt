@@ -3,8 +3,6 @@ use Rattle.drv_machine.proofs.machine.Machine.begin_file.Goals as goal
 use Rattle.drv_machine.specs.Code.Running.{reached}
 use Rattle.std.proofs.Common.{ap, rules}
 
--- begin_file (src/machine/filing.rt). The open word ends, and the words after it are those of a file.
-
 -- Names: `n`: how many items were reached. `F`: what is known of the outside. `e`: that `F` extends the facts of this call. `reached n s`:
 -- the machine s where n items were reached. `no_beginning`: where the break is refused, so is the beginning.
 

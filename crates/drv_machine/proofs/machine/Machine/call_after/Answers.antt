@@ -8,9 +8,6 @@ use Rattle.drv_system.proofs.AskedCalls.{asked_further, extends_before}
 use Rattle.drv_system.specs.Gives.{GivesKnown}
 use Rattle.std.proofs.Common.{ap, rules, subst, ◌≡◌, ◌∙◌}
 
--- call_after (src/machine/functions.rt). Arguments have been cut, and what was cut before them goes on: what the function of a name gives
--- for them.
-
 -- Names: `n`: how many items were reached. `F`: what is known of the outside. `e`: that `F` extends the facts of this call. `reached n s`:
 -- the machine s where n items were reached. `call_step`: calls the function of this name with these words. `after_fails`: where the end of
 -- the last word is refused, so is the call.

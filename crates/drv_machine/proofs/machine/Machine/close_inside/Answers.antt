@@ -3,8 +3,6 @@ use Rattle.drv_machine.proofs.machine.Machine.close_inside.Goals as goal
 use Rattle.drv_machine.specs.Code.Running.{reached}
 use Rattle.drv_machine.specs.contracts.machine.Machine.{the_view}
 
--- close_inside (src/machine/marking.rt). The innermost `%W` ends, and the last word that ended in it is a failure file.
-
 -- Names: `n`: how many items were reached. `F`: what is known of the outside. `reached n s`: the machine s where n items were reached.
 -- `closed_none`: the state after the end of a %W in which no word ended.
 

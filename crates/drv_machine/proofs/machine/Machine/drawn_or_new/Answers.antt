@@ -1,12 +1,9 @@
-use Rattle.drv_machine.proofs.Draws.{none_drawn}
+use Rattle.drv_machine.proofs.Draws.{none_drawn, not_found}
 use Rattle.drv_machine.proofs.machine.Machine.drawn_or_new.Goals as goal
-use Rattle.drv_machine.specs.Code.Running.{reached}
-use Rattle.drv_machine.specs.contracts.machine.Machine.{the_view}
+use Rattle.drv_machine.specs.Code.Running.{Machine, reached}
 use Rattle.drv_machine.specs.declared.fault.MachineFault.TheVariants.{Memory}
 use Rattle.drv_system.specs.Gives.{GivesKnown}
-use Rattle.std.proofs.Common.{subst, sym, ◌∙◌}
-
--- drawn_or_new (src/machine/naming.rt). The last name that was drawn so with this suffix, or else a new one.
+use Rattle.std.proofs.Common.{ap, subst, ◌∙◌}
 
 -- Names: `n`: how many items were reached. `F`: what is known of the outside. `e`: that `F` extends the facts of this call. `reached n s`:
 -- the machine s where n items were reached. `none_drawn`: where no name was drawn so, a new one is.
@@ -14,6 +11,7 @@ use Rattle.std.proofs.Common.{subst, sym, ◌∙◌}
 -- no name was drawn so: a new one is
 pub returns-clause-does : goal.returns-clause-does
 returns-clause-does g c n F e =
-    rw (← c.self.view_is) (subst (λ given. GivesKnown Memory (λ path. (path, reached n c.draw.new.self)) c.draw.result given)
-    (none_drawn F c.args.context.now (reached n (the_view c.self.inside)) c.last.new.self c.args.drawing c.args.suffix.now
-    c.last.ensures.same (sym c.in_ok-path.ensures.found ∙ c.in_default.is)) (c.draw.ensures.does n F e))
+    let none = not_found _ c.last_drawn.result c.args.drawing c.args.suffix.now c.as_slice.result.now c.args.self.now.world.drawn
+    c.last_drawn.ensures (c.as_slice.ensures ∙ ap (λ (m : Machine). m.world.drawn) c.self.view_is) c.in_default.is in
+    subst (λ given. GivesKnown Memory (λ path. (path, reached n c.draw.new.self)) c.draw.result given)
+    (none_drawn F c.args.context.now (reached n c.args.self.now) c.args.drawing c.args.suffix.now none) (c.draw.ensures.does n F e)

@@ -5,8 +5,6 @@ use Rattle.drv_machine.specs.Code.Running.{reached}
 use Rattle.drv_system.proofs.AskedCalls.{asked_further, extends_before}
 use Rattle.std.proofs.Common.{ap, rules, ◌∙◌}
 
--- end_file (src/machine/filing.rt). The open word ends, and with it the file: its name is put, if it has words.
-
 -- Names: `n`: how many items were reached. `F`: what is known of the outside. `e`: that `F` extends the facts of this call. `reached n s`:
 -- the machine s where n items were reached. `no_end`: where the break is refused, so is the end. `gives_as`: a result that gives one answer
 -- gives another that is equal to it.

@@ -4,8 +4,6 @@ use Rattle.drv_machine.specs.Code.Running.{reached}
 use Rattle.drv_machine.specs.Working.{Break, End}
 use Rattle.std.proofs.Common.{[], ◌∷◌, rules}
 
--- end_line (src/machine.rt). The open word and its command end; a command without a word is dropped.
-
 -- Names: `n`: how many items were reached. `F`: what is known of the outside. `e`: that `F` extends the facts of this call. `reached n s`:
 -- the machine s where n items were reached. `put_failed`: where the first part of a list is refused, the whole is.
 

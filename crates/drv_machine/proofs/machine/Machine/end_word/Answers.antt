@@ -6,8 +6,6 @@ use Rattle.drv_machine.specs.Code.Running.{Machine, reached}
 use Rattle.drv_system.specs.Known.{Is}
 use Rattle.std.proofs.Common.{Ok, Some, ap, sym, ◌∙◌}
 
--- end_word (src/machine/marking.rt). The open word, if there is one, ends: as it is, or as the path of a library file or a linker script.
-
 -- Names: `n`: how many items were reached. `F`: what is known of the outside. `e`: that `F` extends the facts of this call. `reached n s`:
 -- the machine s where n items were reached. `open_word`: the word that is open, if one is, of a flag and the bytes. `gives_as`: a result
 -- that gives one answer gives another that is equal to it. `file_ends`: a word that is marked as a file ends as the path that was found.

@@ -3,8 +3,6 @@ use Rattle.drv_machine.proofs.machine.Machine.has_value.Goals as goal
 use Rattle.drv_machine.specs.Code.Running.{reached}
 use Rattle.std.proofs.Common.{rules, sym}
 
--- has_value (src/machine/functions.rt). Arguments have been cut, and what was cut before them goes on: whether the function has a value.
-
 -- Names: `n`: how many items were reached. `F`: what is known of the outside. `e`: that `F` extends the facts of this call. `reached n s`:
 -- the machine s where n items were reached. `holds_as`: a test is true if the function has a value.
 

@@ -2,8 +2,6 @@ use Rattle.drv_machine.proofs.Cutter.{begun_with}
 use Rattle.drv_machine.proofs.machine.Machine.new.Goals as goal
 use Rattle.std.proofs.Common.{◌∙◌}
 
--- new (src/machine.rt). Nothing is cut, hidden or counted; options, numbers and outputs go on from the texts before.
-
 -- Names: `begun_with`: the fields that `Machine` is made with are the state before the first item.
 
 -- a new machine has cut nothing, and its world is that of the context
@@ -19,7 +17,6 @@ returns c F =
       c.new-9.ensures,
       c.new-10.ensures,
       c.new-11.ensures,
-      c.new-12.ensures,
     )
     (begun_with F c.args.context.now c.in_ok-new.field-0 c.switches.result.now c.in_ok-copy_words.field-0 c.in_ok-copy_words-2.field-0
     c.number.result

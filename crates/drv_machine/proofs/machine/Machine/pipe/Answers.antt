@@ -3,8 +3,6 @@ use Rattle.drv_machine.proofs.machine.Machine.pipe.Goals as goal
 use Rattle.drv_machine.specs.Code.Running.{reached}
 use Rattle.std.proofs.Common.{ap, rules}
 
--- pipe (src/machine.rt). The open word ends, and its command with a pipe.
-
 -- Names: `n`: how many items were reached. `F`: what is known of the outside. `e`: that `F` extends the facts of this call. `reached n s`:
 -- the machine s where n items were reached. `pipe_failed`: where the end of its word is refused, so is a pipe.
 

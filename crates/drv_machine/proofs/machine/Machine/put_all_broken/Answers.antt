@@ -8,8 +8,6 @@ use Rattle.drv_system.proofs.AskedCalls.{asked_further, extends_before}
 use Rattle.std.proofs.Common.{arith, rules, sym, ◌∙◌}
 use Rattle.std.specs.List.{flat_map}
 
--- put_all_broken (src/machine/lists.rt). Lists of bytes are put, with a break after each.
-
 -- Names: `n`: how many items were reached. `F`: what is known of the outside. `e`: that `F` extends the facts of this call. `reached n s`:
 -- the machine s where n items were reached. `asked_further`: calls that only asked, one after another. `extends_before`: what extends the
 -- facts after a call extends those before it.

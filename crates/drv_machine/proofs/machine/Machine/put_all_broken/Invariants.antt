@@ -7,8 +7,6 @@ use Rattle.drv_system.specs.Code.Asked.{Asked}
 use Rattle.drv_system.specs.Facts.{Facts}
 use Rattle.std.proofs.Common.{◌≡◌, drop, flat_map, ℕ}
 
--- The loops of put_all_broken (src/machine/lists.rt). Lists of bytes are put, with a break after each.
-
 -- putting the words that are left gives what putting all would have given
 abbrev pub invariant-loop-word : goal.invariant-loop-word
 invariant-loop-word g l = record {

@@ -5,8 +5,6 @@ use Rattle.drv_machine.specs.Working.{Break, words}
 use Rattle.drv_system.proofs.AskedCalls.{asked_further, extends_before}
 use Rattle.std.proofs.Common.{◌∷◌, [], rules}
 
--- put_apart (src/machine/lists.rt). Whole words are put after a break.
-
 -- Names: `n`: how many items were reached. `F`: what is known of the outside. `e`: that `F` extends the facts of this call. `reached n s`:
 -- the machine s where n items were reached. `words`: the atoms of words, each whole.
 

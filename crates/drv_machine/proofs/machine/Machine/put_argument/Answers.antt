@@ -6,8 +6,6 @@ use Rattle.drv_machine.specs.Working.{Break, Put, word_of}
 use Rattle.drv_system.proofs.AskedCalls.{asked_further, extends_before}
 use Rattle.std.proofs.Common.{◌∙◌, Some, [], ◌∷◌, ap, map, rules, sym}
 
--- put_argument (src/machine.rt). The open word ends, and the argument of the switch at a place, if it has one, is a word after it.
-
 -- Names: `n`: how many items were reached. `F`: what is known of the outside. `e`: that `F` extends the facts of this call. `reached n s`:
 -- the machine s where n items were reached. `argument`: the argument of the switch at a place, if it has one. `argument_open`: a switch
 -- with one. `put_failed`: where the first part of a list is refused, the whole is.

@@ -4,8 +4,6 @@ use Rattle.drv_machine.specs.Code.Running.{reached}
 use Rattle.drv_machine.specs.Working.{Break, Put}
 use Rattle.std.proofs.Common.{[], ◌∷◌, map, rules}
 
--- put_broken (src/machine/lists.rt). Bytes are put, with a break after them.
-
 -- Names: `n`: how many items were reached. `F`: what is known of the outside. `e`: that `F` extends the facts of this call. `reached n s`:
 -- the machine s where n items were reached. `put_failed`: where the first part of a list is refused, the whole is.
 

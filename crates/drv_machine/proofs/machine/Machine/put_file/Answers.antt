@@ -7,8 +7,6 @@ use Rattle.drv_system.proofs.AskedCalls.{asked_further, extends_before}
 use Rattle.drv_words.specs.Bytes.{at_sign}
 use Rattle.std.proofs.Common.{[], map, refl, rules, sym, ◌++◌, ◌∙◌, ◌∷◌}
 
--- put_file (src/machine/filing.rt). The name of a file with these words is put, if there are any.
-
 -- Names: `n`: how many items were reached. `F`: what is known of the outside. `e`: that `F` extends the facts of this call. `reached n s`:
 -- the machine s where n items were reached. `file_drawn`: after the name was drawn, its word is put. `put_failed`: where the first part of
 -- a list is refused, the whole is. `put_last`: where the first part was put, what putting the second gives is what the whole gives.

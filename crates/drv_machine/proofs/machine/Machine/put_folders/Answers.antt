@@ -9,8 +9,6 @@ use Rattle.drv_system.proofs.AskedCalls.{extends_before}
 use Rattle.std.proofs.Common.{ap, sym, ◌∙◌}
 use Rattle.std.specs.List.{flat_map}
 
--- put_folders (src/machine/lists.rt). The options for the folders of libraries are put.
-
 -- Names: `n`: how many items were reached. `F`: what is known of the outside. `e`: that `F` extends the facts of this call. `reached n s`:
 -- the machine s where n items were reached. `puts`: puts these atoms.
 

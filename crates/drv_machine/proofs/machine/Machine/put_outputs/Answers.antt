@@ -4,8 +4,6 @@ use Rattle.drv_machine.proofs.machine.Machine.put_outputs.Goals as goal
 use Rattle.drv_machine.specs.Code.Running.{reached}
 use Rattle.std.proofs.Common.{ap, sym, ◌∙◌}
 
--- put_outputs (src/machine/lists.rt). The outputs of the jobs so far are put, each as a word of its own.
-
 -- Names: `n`: how many items were reached. `F`: what is known of the outside. `e`: that `F` extends the facts of this call. `reached n s`:
 -- the machine s where n items were reached. `no_input`: a text has no input if the code says so.
 

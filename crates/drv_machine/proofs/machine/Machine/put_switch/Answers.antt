@@ -8,9 +8,6 @@ use Rattle.drv_match.specs.Matching.{name_at}
 use Rattle.drv_words.specs.Bytes.{hyphen}
 use Rattle.std.proofs.Common.{◌++◌, ◌∙◌, [], ◌∷◌, ap, map, refl, rules, sym}
 
--- put_switch (src/machine.rt). The switch at a place as the line has it, its first `-` and its argument included; it ends the word that it
--- is in.
-
 -- Names: `n`: how many items were reached. `F`: what is known of the outside. `e`: that `F` extends the facts of this call. `reached n s`:
 -- the machine s where n items were reached. `argument`: the argument of the switch at a place, if it has one. `word_of`: the atoms of a
 -- word, if there is one. `name_at`: the name at a place.

@@ -4,9 +4,6 @@ use Rattle.drv_machine.proofs.machine.Machine.put_temp.Goals as goal
 use Rattle.drv_machine.specs.Code.Running.{reached}
 use Rattle.std.proofs.Common.{sym, ◌∙◌}
 
--- put_temp (src/machine/naming.rt). The name of a temporary with this suffix is put; where commands are piped, `-` or nothing may take its
--- place.
-
 -- Names: `n`: how many items were reached. `F`: what is known of the outside. `e`: that `F` extends the facts of this call. `reached n s`:
 -- the machine s where n items were reached. `piped_out`: where commands are piped, %| is a hyphen.
 

@@ -3,9 +3,6 @@ use Rattle.drv_machine.proofs.machine.Machine.put_value.Goals as goal
 use Rattle.drv_machine.specs.Code.Running.{reached}
 use Rattle.std.proofs.Common.{rules}
 
--- put_value (src/machine/functions.rt). Arguments have been cut, and what was cut before them goes on: the function's value is put, if it
--- has one.
-
 -- Names: `n`: how many items were reached. `F`: what is known of the outside. `e`: that `F` extends the facts of this call. `reached n s`:
 -- the machine s where n items were reached. `value_failed`: where the call of an item's function is refused, so is the item. `value_none`:
 -- where a function gives no value, nothing is put, as the definition says.

@@ -5,8 +5,6 @@ use Rattle.drv_machine.specs.Code.Running.{reached}
 use Rattle.drv_machine.specs.Working.{Open}
 use Rattle.std.proofs.Common.{[], ◌∷◌}
 
--- put_word (src/machine/lists.rt). A whole word is put, with an opening before it and a break after it.
-
 -- Names: `n`: how many items were reached. `F`: what is known of the outside. `e`: that `F` extends the facts of this call. `reached n s`:
 -- the machine s where n items were reached. `put_last`: where the first part was put, what putting the second gives is what the whole
 -- gives.

@@ -8,8 +8,6 @@ use Rattle.drv_system.proofs.AskedCalls.{asked_further, extends_before}
 use Rattle.std.proofs.Common.{arith, rules, sym, ◌∙◌}
 use Rattle.std.specs.List.{flat_map}
 
--- put_words (src/machine/lists.rt). Whole words are put.
-
 -- Names: `n`: how many items were reached. `F`: what is known of the outside. `e`: that `F` extends the facts of this call. `reached n s`:
 -- the machine s where n items were reached. `whole_word`: a word with an opening before it and a break after it. `asked_further`: calls
 -- that only asked, one after another.

@@ -6,8 +6,6 @@ use Rattle.drv_system.specs.Code.Asked.{Asked}
 use Rattle.drv_system.specs.Facts.{Facts}
 use Rattle.std.proofs.Common.{◌≡◌, drop, ℕ}
 
--- The loops of put_words (src/machine/lists.rt). Whole words are put.
-
 -- putting the words that are left gives what putting all would have given
 abbrev pub invariant-loop-word : goal.invariant-loop-word
 invariant-loop-word g l = record {

@@ -5,8 +5,6 @@ use Rattle.drv_words.specs.declared.plan.Command.{Command}
 use Rattle.std.proofs.Common.{◌++◌, ◌∙◌, ap, sym}
 use Rattle.std.specs.Global.{Vec}
 
--- add_line (src/machine/finishing.rt). The command of one line more joins those of the group that is begun.
-
 -- Names: `F`: what is known of the outside. `e`: that `F` extends the facts of this call. `one_ended`: a command that no pipe follows, or
 -- any without -pipe, ends its group. `one_joined`: a command that a pipe follows, with -pipe, joins the group that is begun. `made`: the
 -- group of some commands.

@@ -2,8 +2,6 @@ use Rattle.drv_machine.proofs.Finished.{ends_piped_last}
 use Rattle.drv_machine.proofs.machine.finishing.ends_piped.Goals as goal
 use Rattle.std.proofs.Common.{◌∙◌, ap}
 
--- ends_piped (src/machine/finishing.rt). Whether the last command ends with a pipe.
-
 -- the last command says whether it ends with a pipe
 pub returns-in-len1-up : goal.returns-in-len1-up
 returns-in-len1-up c = ap (λ line. line.piped) c.last.view_is

@@ -7,8 +7,6 @@ use Rattle.std.proofs.lemmas.Iterator.Adapters.{YieldsList-from_vec}
 use Rattle.std.proofs.lemmas.Iterator.Consumers.{YieldsList-end}
 use Rattle.std.proofs.lemmas.List.{map-id}
 
--- groups_of (src/machine/finishing.rt). The groups of commands: with `-pipe` piped commands form one, otherwise each command is one.
-
 -- Names: `F`: what is known of the outside. `e`: that `F` extends the facts of this call. `all_grouped`: after the last command the group
 -- that is begun ends. `grouped_none`: before the first command no group has ended or begun, and what the lines give is all.
 -- `asked_further`: calls that only asked, one after another. `asked_none`: a call that leaves the outside as it was only asked.

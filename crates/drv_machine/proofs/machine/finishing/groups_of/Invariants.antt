@@ -7,9 +7,6 @@ use Rattle.drv_system.specs.Code.Asked.{Asked}
 use Rattle.drv_system.specs.Facts.{Facts}
 use Rattle.std.proofs.Common.{List, ◌≡◌, ◌++◌}
 
--- The loops of groups_of (src/machine/finishing.rt). The groups of commands: with `-pipe` piped commands form one, otherwise each command
--- is one.
-
 -- the groups that have ended, the one that is begun and those of the lines that are left are the groups of all lines
 abbrev pub invariant-loop-line : goal.invariant-loop-line
 invariant-loop-line g l = record {

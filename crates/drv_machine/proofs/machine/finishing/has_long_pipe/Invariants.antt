@@ -4,8 +4,6 @@ use Rattle.std.proofs.Common.{drop, length, ◌≡◌}
 use Rattle.std.specs.List.{list_any}
 use Rattle.std.specs.Prelude.{nat_lt}
 
--- The loops of has_long_pipe (src/machine/finishing.rt). Whether a group has too many commands.
-
 -- no group so far has too many commands: those that are left decide
 abbrev pub invariant-loop-group : goal.invariant-loop-group
 invariant-loop-group l = list_any (λ group. nat_lt most_piped (length group)) (drop l.group-index l.groups)

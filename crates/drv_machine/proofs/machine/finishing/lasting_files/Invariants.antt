@@ -4,11 +4,6 @@ use Rattle.std.proofs.Common.{map, ◌≡◌}
 use Rattle.std.specs.List.{filter}
 use Rattle.std.specs.Prelude.{not}
 
--- The loops of lasting_files (src/machine/finishing.rt). Files, each once, and without the job's own temporaries.
-
 -- the files kept are those so far that are no temporaries
 abbrev pub invariant-loop-file : goal.invariant-loop-file
-invariant-loop-file l = record {
-  paths : l.paths ≡ map (λ name. name.path) l.drawn;
-  kept : l.kept ≡ filter (λ file. not (is_among (map (λ name. name.path) l.drawn) file)) l.yielded;
-}
+invariant-loop-file l = l.kept ≡ filter (λ file. not (is_among (map (λ name. name.path) l.drawn) file)) l.yielded

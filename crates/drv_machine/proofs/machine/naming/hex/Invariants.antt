@@ -2,8 +2,6 @@ use Rattle.drv_machine.proofs.machine.naming.hex.Given as goal
 use Rattle.drv_machine.specs.Temps.{hex}
 use Rattle.std.proofs.Common.{drop, length, ◌≡◌, ◌++◌, ◌≤◌}
 
--- The loops of hex (src/machine/naming.rt). A number in base 16, with eight digits.
-
 -- the digits from the place that is reached on are the last ones of the number; the rest has those before
 abbrev pub invariant-loop-at : goal.invariant-loop-at
 invariant-loop-at l = record {

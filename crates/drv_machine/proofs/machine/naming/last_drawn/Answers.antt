@@ -2,8 +2,6 @@ use Rattle.drv_machine.proofs.Draws.{drawn_at}
 use Rattle.drv_machine.proofs.machine.naming.last_drawn.Goals as goal
 use Rattle.std.proofs.Common.{arith, sym, ◌-◌, ◌∙◌}
 
--- last_drawn (src/machine/naming.rt). The last of these names that was drawn so with this suffix.
-
 -- Names: `drawn_at`: the code looks from the end.
 
 -- the name is the last one that was drawn so, for none after it was

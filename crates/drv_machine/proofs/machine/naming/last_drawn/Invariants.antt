@@ -3,8 +3,6 @@ use Rattle.drv_machine.specs.Temps.{last_drawn}
 use Rattle.std.proofs.Common.{drop, length, ◌≡◌, ◌≤◌}
 use Rattle.std.specs.Prelude.{None}
 
--- The loops of last_drawn (src/machine/naming.rt). The last of these names that was drawn so with this suffix.
-
 -- none of the names from the place that is reached on was drawn so: the code looks from the end
 abbrev pub invariant-loop-i : goal.invariant-loop-i
 invariant-loop-i l = record {

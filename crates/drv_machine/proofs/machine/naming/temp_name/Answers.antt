@@ -4,8 +4,6 @@ use Rattle.drv_system.specs.Facts.{variable_of}
 use Rattle.std.proofs.Common.{ap, codes, sym, ◌++◌, ◌∙◌}
 use Rattle.std.specs.Option.{option_copied}
 
--- temp_name (src/machine/naming.rt). The name of a temporary with this seed, number and suffix.
-
 -- Names: `F`: what is known of the outside. `e`: that `F` extends the facts of this call. `temp_named`: a name is made of its parts.
 -- `variable_of`: the value None means that the variable is known to be unset.
 

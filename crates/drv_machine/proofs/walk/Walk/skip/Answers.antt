@@ -5,8 +5,6 @@ use Rattle.drv_machine.specs.Code.Walking.{Left}
 use Rattle.drv_machine.specs.declared.walk.Walk.{Walk}
 use Rattle.std.proofs.Common.{ap, arith, subst, sym, ◌<◌, ℕ}
 
--- skip (src/walk.rt). Passes over other alternatives than the one that was run.
-
 -- Names: `F`: what is known of the outside. `s`: the machine: what has been cut, and the world. `given`: what the walk gives in the end.
 -- `left`: the clause's condition `Left`. `left_at`: a walk that moved on in the innermost part. `lies_past`: after an alternative that is
 -- passed over the same items are left. `past_later`: an alternative that is passed over ends after the place reached. `place_in`: a place

@@ -3,8 +3,6 @@ use Rattle.drv_machine.specs.Code.Walking.{Lies}
 use Rattle.drv_syntax.specs.Tree.{Items}
 use Rattle.std.proofs.Common.{◌-◌, ◌≡◌}
 
--- The loops of skip (src/walk.rt). Passes over other alternatives than the one that was run.
-
 -- the items that lay from the first place on lie from the place that is reached on, and nothing but that place has changed
 abbrev pub invariant-loop-self : goal.invariant-loop-self
 invariant-loop-self l = record {

@@ -1,55 +1,50 @@
-use Rattle.drv_match.proofs.Merging.{all_same, any_within, first_alone, front_is, front_same, is_none_left, no_patterns, none_hit}
+use Rattle.drv_match.proofs.LineSearch.{any_within, no_hits, only_hits, only_is, place_kept, place_passed, places_done}
 use Rattle.drv_match.proofs.switches.Switches.any_hits.Goals as goal
 use Rattle.drv_match.specs.Matching.{any_hits}
-use Rattle.std.proofs.Common.{All, IfOk, List, drop, length, refl, subst, sym, take, ℕ, ◌≡◌, ◌<◌, ◌-◌, ◌∙◌, ◌∷◌}
+use Rattle.drv_match.specs.Pattern.{Pattern}
+use Rattle.std.proofs.Common.{All, IfOk, List, arith, length, subst, sym, ℕ, ◌≡◌, ◌<◌, ◌∙◌}
 use Rattle.std.proofs.lemmas.Result.{IfOk-weaker}
 
--- any_hits (src/switches.rt). The places of the switches that one of these patterns hits, in order.
+-- the hits of the only pattern are all
+pub returns-in-len1-clause-places : goal.returns-in-len1-clause-places
+returns-in-len1-clause-places c =
+    subst (λ (patterns : List Pattern). IfOk c.hits.result (λ places. places ≡ any_hits c.args.self.now c.args.hidden.now patterns))
+    (only_is c.args.patterns.now c.only-item.result c.in-len1.len_at_least c.in-len1.len_below c.only-item.is)
+    (subst (λ (xs : List ℕ). IfOk c.hits.result (λ places. places ≡ xs)) (only_hits c.args.self.now c.args.hidden.now c.only-item.result)
+    c.hits.ensures)
 
--- Names: `all_same`: patterns that hit the same switches hit the same places. `any_within`: the places that are hit are places of the line.
--- `front_is`: a list of patterns is its first one and those after it. `front_same`: the code leaves out patterns without a hit.
-
--- no pattern hits anything
-pub returns-in_default-clause-places : goal.returns-in_default-clause-places
-returns-in_default-clause-places c =
-    c.new.ensures ∙ none_hit c.args.self.now c.args.hidden.now c.from_first_hit.result.now c.args.patterns.now
-    (no_patterns c.from_first_hit.result.now c.in_default.len_below) c.from_first_hit.ensures
-
--- only one pattern hits anything, so its hits are all
-pub returns-clause-places : goal.returns-clause-places
-returns-clause-places c =
-    subst (λ (xs : List ℕ). IfOk c.hits.result (λ places. places ≡ xs))
-    (first_alone c.args.self.now c.args.hidden.now c.first-item.result (take (length c.from_first_hit.result.now - 1)
-    (drop 1 c.from_first_hit.result.now)) c.from_first_hit-others.result.now (is_none_left c.from_first_hit-others.result.now
-    (sym c.is_empty.ensures ∙ c.if-not-is_empty.false)) c.from_first_hit-others.ensures
-    ∙ all_same c.args.self.now c.args.hidden.now (c.first-item.result ∷ take (length c.from_first_hit.result.now - 1)
-    (drop 1 c.from_first_hit.result.now)) c.args.patterns.now
-    (front_same c.args.self.now c.args.hidden.now c.from_first_hit.result.now c.args.patterns.now c.first-item.result
-    (take (length c.from_first_hit.result.now - 1) (drop 1 c.from_first_hit.result.now)) (take (length c.from_first_hit.result.now - 1)
-    (drop 1 c.from_first_hit.result.now)) c.from_first_hit.ensures
-    (front_is c.from_first_hit.result.now c.first-item.result c.in-len1-up.len_at_least c.first-item.is) (λ i within. refl))) c.hits.ensures
-
--- several patterns hit, and their hits are merged; those before the first one hit nothing
-pub returns-then-not-is_empty-clause-places : goal.returns-then-not-is_empty-clause-places
-returns-then-not-is_empty-clause-places c =
-    subst (λ (xs : List ℕ). IfOk c.merged_hits.result (λ places. places ≡ xs))
-    (all_same c.args.self.now c.args.hidden.now (c.first-item.result ∷ c.from_first_hit-others.result.now) c.args.patterns.now
-    (front_same c.args.self.now c.args.hidden.now c.from_first_hit.result.now c.args.patterns.now c.first-item.result
-    c.from_first_hit-others.result.now (take (length c.from_first_hit.result.now - 1) (drop 1 c.from_first_hit.result.now))
-    c.from_first_hit.ensures
-    (front_is c.from_first_hit.result.now c.first-item.result c.in-len1-up.len_at_least c.first-item.is) c.from_first_hit-others.ensures))
-    c.merged_hits.ensures
-
--- the hits of one pattern are places of the line
-pub returns-clause-within : goal.returns-clause-within
-returns-clause-within c =
+-- they are places of the line
+pub returns-in-len1-clause-within : goal.returns-in-len1-clause-within
+returns-in-len1-clause-within c =
     IfOk-weaker c.hits.result (λ (places : List ℕ). places ≡ any_hits c.args.self.now c.args.hidden.now c.args.patterns.now)
     (λ (places : List ℕ). All (λ place. place < length c.args.self.now) places)
-    (λ places is. any_within c.args.self.now c.args.hidden.now c.args.patterns.now places is) (returns-clause-places c)
+    (λ places is. any_within c.args.self.now c.args.hidden.now c.args.patterns.now places is) (returns-in-len1-clause-places c)
 
--- so are those of several patterns
-pub returns-then-not-is_empty-clause-within : goal.returns-then-not-is_empty-clause-within
-returns-then-not-is_empty-clause-within c =
-    IfOk-weaker c.merged_hits.result (λ (places : List ℕ). places ≡ any_hits c.args.self.now c.args.hidden.now c.args.patterns.now)
-    (λ (places : List ℕ). All (λ place. place < length c.args.self.now) places)
-    (λ places is. any_within c.args.self.now c.args.hidden.now c.args.patterns.now places is) (returns-then-not-is_empty-clause-places c)
+-- no pattern hits anything
+pub returns-then-not-have_hits-clause-places : goal.returns-then-not-have_hits-clause-places
+returns-then-not-have_hits-clause-places c =
+    c.new.ensures ∙ no_hits c.args.self.now c.args.hidden.now c.args.patterns.now (sym c.have_hits.ensures ∙ c.if-not-have_hits.true)
+
+-- a place that none of them hits is passed
+pub loop-place-preserved-then-not-is_any_hit : goal.loop-place-preserved-then-not-is_any_hit
+loop-place-preserved-then-not-is_any_hit c =
+    place_passed c.args.self.now c.args.hidden.now c.args.patterns.now c.loop-place.places.items
+    (any_hits c.args.self.now c.args.hidden.now c.args.patterns.now) c.loop-place.place
+    (omega (arith, c.loop-place-test.true, c.len-place-end.ensures)) (sym c.is_any_hit.ensures ∙ c.if-not-is_any_hit.true)
+    c.loop-place.invariant
+
+-- a place that one of them hits is added
+pub loop-place-preserved : goal.loop-place-preserved
+loop-place-preserved c =
+    place_kept c.args.self.now c.args.hidden.now c.args.patterns.now c.loop-place.places.items c.push.new.self.items
+    (any_hits c.args.self.now c.args.hidden.now c.args.patterns.now) c.loop-place.place
+    (omega (arith, c.loop-place-test.true, c.len-place-end.ensures)) (sym c.is_any_hit.ensures ∙ c.if-not-is_any_hit.false)
+    c.in_ok-push.ensures.items c.loop-place.invariant
+
+-- after the last place of the line they are all
+pub returns-clause-within : goal.returns-clause-within
+returns-clause-within c =
+    any_within c.args.self.now c.args.hidden.now c.args.patterns.now c.from_vec.result
+    (c.from_vec.ensures ∙ places_done c.args.self.now c.args.hidden.now c.args.patterns.now c.loop-place.places.items
+    (any_hits c.args.self.now c.args.hidden.now c.args.patterns.now) c.loop-place.place
+    (omega (arith, c.loop-place-test.false, c.len-place-end.ensures)) c.loop-place.invariant)

@@ -6,8 +6,6 @@ use Rattle.std.proofs.lemmas.Iterator.{YieldsList-from_slice}
 use Rattle.std.proofs.lemmas.Iterator.Adapters.{serves_from_places}
 use Rattle.std.proofs.lemmas.Iterator.Search.{any_from_yields_List}
 
--- has_hit (src/switches.rt). Whether a pattern hits any switch.
-
 -- Names: `counts`: whether a place that a pattern names counts. `named_any`: some named place counts exactly if the pattern has a hit.
 
 -- each place that the test is asked for is one of the line

@@ -2,8 +2,6 @@ use Rattle.drv_match.proofs.Parts.{hide_done, named_hidden}
 use Rattle.drv_match.proofs.switches.Switches.hide.Goals as goal
 use Rattle.std.proofs.Common.{◌∙◌, arith}
 
--- hide (src/switches.rt). Hides every switch that a pattern names, live or not.
-
 -- Names: `hide_done`: at the end of the loop all places are hidden. `named_hidden`: hiding the named places hides what the pattern names.
 
 -- after the last of the named places each is hidden

@@ -4,8 +4,6 @@ use Rattle.drv_match.specs.Matching.{is_broad}
 use Rattle.std.proofs.Common.{◌∙◌, arith}
 use Rattle.std.proofs.lemmas.List.Sorted.{IsNonDecreasingBy-from_sort}
 
--- hits (src/switches.rt). The places of the switches that a pattern hits, in order.
-
 -- Names: `counted`: at the end of the loop the places that count are complete. `counts`: whether a place that a pattern names counts.
 
 -- a place that the pattern names is one of the line

@@ -3,8 +3,6 @@ use Rattle.drv_match.specs.Matching.{is_broad}
 use Rattle.drv_match.proofs.switches.Switches.hits.Given as goal
 use Rattle.std.proofs.Common.{◌≡◌, ◌++◌, drop, filter}
 
--- The loops of hits (src/switches.rt). The places of the switches that a pattern hits, in order.
-
 -- the places so far, with those that count among the ones left, are all that count
 abbrev pub invariant-loop-place : goal.invariant-loop-place
 invariant-loop-place l = l.places.items ++ filter (counts l.self l.hidden (is_broad l.pattern)) (drop l.place-index l.named)

@@ -1,10 +1,8 @@
-use Rattle.drv_match.proofs.Merging.{next_found}
+use Rattle.drv_match.proofs.LineSearch.{next_found}
 use Rattle.drv_match.proofs.switches.Switches.next_on_line.Goals as goal
 use Rattle.drv_match.specs.Matching.{is_hit}
 use Rattle.std.proofs.Common.{◌≡◌, false, rules, tests, true}
 use Rattle.std.proofs.lemmas.Iterator.{first_from_Range}
-
--- next_on_line (src/switches.rt). The first place of a hit from one place on, in the order of the line.
 
 -- Names: `next_found`: the first place that is hit from `from` on. `is_hit`: the switch at a place is hit.
 

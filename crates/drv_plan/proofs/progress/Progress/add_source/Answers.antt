@@ -2,8 +2,6 @@ use Rattle.drv_plan.proofs.Steps.{refusal_given, source_refused, source_worked}
 use Rattle.drv_plan.proofs.progress.Progress.add_source.Goals as goal
 use Rattle.drv_plan.specs.Denoted.{with_source}
 
--- add_source (src/progress.rt). Runs the text of a source, and adds its job.
-
 -- Names: `F`: what is known of the outside. `e`: that `F` extends the facts of this call. `refusal_given`: a refusal of a step is that of
 -- the plan. `source_refused`: a source whose text is refused refuses the plan. `source_worked`: a source's job goes to the plan, and its
 -- output to the link.

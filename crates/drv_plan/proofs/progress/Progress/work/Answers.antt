@@ -2,8 +2,6 @@ use Rattle.drv_plan.proofs.Steps.{text_worked}
 use Rattle.drv_plan.proofs.progress.Progress.work.Goals as goal
 use Rattle.std.proofs.Common.{◌∙◌}
 
--- work (src/progress.rt). Runs a text in the context, and keeps what goes on to the next one.
-
 -- Names: `F`: what is known of the outside. `e`: that `F` extends the facts of this call. `text_worked`: a text gives its job, and its
 -- options and numbers go on to the next text.
 

@@ -3,8 +3,6 @@ use Rattle.drv_plan.proofs.progress.Progress.work_link.Goals as goal
 use Rattle.drv_plan.specs.Denoted.{for_link, worked}
 use Rattle.std.proofs.Common.{ap}
 
--- work_link (src/progress.rt). Runs the text of the link, which takes all outputs.
-
 -- Names: `F`: what is known of the outside. `e`: that `F` extends the facts of this call. `worked`: a text is run. `given_alike`: an answer
 -- to one definition is an answer to an equal one.
 

@@ -1,8 +1,6 @@
 use Rattle.drv_machine.proofs.FailureFiles.{ends_fresh, ends_last}
 use Rattle.drv_machine.proofs.machine.inside.Inside.close.Goals as goal
 
--- close (src/machine/inside.rt). The innermost one ends, if one is open: the last word that ended in it, if one did.
-
 -- Names: `ends_fresh`: the innermost %W ends, and no word ended in it. `ends_last`: the innermost %W ends, and a word ended in it.
 
 -- a word ended in the innermost %W: it is the last one

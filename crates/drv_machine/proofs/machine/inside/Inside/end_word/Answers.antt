@@ -3,8 +3,6 @@ use Rattle.drv_machine.proofs.machine.inside.Inside.end_word.Goals as goal
 use Rattle.drv_machine.specs.Code.Held.{ended_in}
 use Rattle.std.proofs.Common.{ap, ◌∙◌}
 
--- end_word (src/machine/inside.rt). A word has ended in all of them.
-
 -- Names: `all_ended`: a word that ends is the last one in each open %W. `ended_in`: for each %W that is open the last word that ended in
 -- it.
 

@@ -1,8 +1,6 @@
 use Rattle.drv_machine.proofs.FailureFiles.{one_more}
 use Rattle.drv_machine.proofs.machine.inside.Inside.open.Goals as goal
 
--- open (src/machine/inside.rt). One more is open.
-
 -- one more %W is open, in which no word has ended
 pub returns : goal.returns
 returns c = rw (← c.self.view_is) (one_more c.self.inside.last c.self.inside.count c.self.inside.fresh)
