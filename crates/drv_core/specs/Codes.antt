@@ -1,7 +1,6 @@
 use Rattle.drv_core.specs.Outcomes.{Answers, answer_code, greatest, status_from, status_of}
-use Rattle.drv_core.specs.declared.failure_status.FailureStatus.{FailureStatus}
 use Rattle.drv_words.specs.declared.steps.RunEvent.{RunEvent}
-use Rattle.std.specs.Prelude.{◌≡◌, List, ℕ}
+use Rattle.std.specs.Prelude.{◌≡◌, Bool, List, ℕ}
 
 -- The status over the events (POSIX c99, "Exit Status"; GCC manual, "Overall Options", -pass-exit-codes).
 
@@ -11,4 +10,4 @@ greatest_code events = greatest (λ e. answer_code e.answer) events
 
 -- The status is 0 if that code is 0. Otherwise it is 1, or the code itself if codes are passed on.
 abbrev pub StatusIsOf : Answers → List RunEvent → Type 0
-StatusIsOf o events = (failure : FailureStatus) → status_of failure o ≡ status_from failure (greatest_code events)
+StatusIsOf o events = (pass_codes : Bool) → status_of pass_codes o ≡ status_from pass_codes (greatest_code events)

@@ -1,5 +1,3 @@
-use Rattle.drv_core.specs.declared.failure_status.FailureStatus.TheVariants.{GreatestCode, One}
-use Rattle.drv_core.specs.declared.failure_status.FailureStatus.{FailureStatus}
 use Rattle.drv_words.specs.Places.{no_job}
 use Rattle.drv_words.specs.declared.answers.Answer.{Answer}
 use Rattle.drv_words.specs.declared.answers.Answer.TheVariants as answer
@@ -214,13 +212,14 @@ group_code a = max (greatest (λ s. if is_started s then 0 else 1) a.starts) (gr
 abbrev pub job_code : JobAnswers → ℕ
 job_code a = max (greatest (λ c. if is_claimed c.answer then 0 else 1) a.claims) (greatest group_code a.groups)
 
--- the status for the greatest code of a run
-abbrev pub status_from : FailureStatus → ℕ → ℕ
-status_from GreatestCode code = code
-status_from One code = if nat_eq code 0 then 0 else 1
+-- The status for the greatest code of a run: that code if codes are passed, otherwise 1 unless it is 0 (GCC manual, "Overall Options",
+-- `-pass-exit-codes`).
+abbrev pub status_from : Bool → ℕ → ℕ
+status_from true code = code
+status_from false code = if nat_eq code 0 then 0 else 1
 
 -- the status of a run with these answers
-abbrev pub status_of : FailureStatus → Answers → ℕ
+abbrev pub status_of : Bool → Answers → ℕ
 status_of pass_codes o = status_from pass_codes (greatest job_code (o.jobs ++ o.link ∷ []))
 
 -- The started commands: those of each group up to the first group with a fault, and in that group those before its first refused start. If

@@ -1,18 +1,17 @@
 use Rattle.drv_core.specs.declared.action.Action.{Action}
 use Rattle.drv_core.specs.declared.action.Action.TheVariants as action
-use Rattle.drv_core.specs.declared.failure_status.FailureStatus.{FailureStatus}
 use Rattle.drv_words.specs.declared.plan.Plan.{Plan}
 use Rattle.drv_words.specs.declared.steps.RunEvent.{RunEvent}
 use Rattle.drv_words.specs.declared.steps.Step.{Step}
-use Rattle.std.specs.Prelude.{⊤, List, None, Option, Some, ℕ}
+use Rattle.std.specs.Prelude.{⊤, Bool, List, None, Option, Some, ℕ}
 
 -- A run of a plan, as its callers see it.
 
--- failure: the status if a code is not 0; window: how many sources may be under way at once; events: the events so far; action: the next
--- step, or the status
+-- pass_codes: whether the status is the greatest code; window: how many sources may be under way at once; events: the events so far;
+-- action: the next step, or the status
 pub record Run : Type 0 where
   pub plan : Plan
-  pub pass_codes : FailureStatus
+  pub pass_codes : Bool
   pub window : ℕ
   pub events : List RunEvent
   pub action : Action

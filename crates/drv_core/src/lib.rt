@@ -3,7 +3,6 @@
 
 mod action;
 mod answered;
-mod failure_status;
 mod fleet;
 mod law;
 mod leftovers;
@@ -15,7 +14,6 @@ mod window;
 mod work;
 
 pub use action::Action;
-pub use failure_status::FailureStatus;
 pub use law::{
     interleaving_law, linking_law, removal_law, report_law, started_first, status_law, waiting_law,
 };

@@ -21,7 +21,6 @@ ghost use Rattle.drv_words.specs.Stepping.{can_make, fits, pipe_pending};
 ghost use Rattle.std.specs.Prelude.{◌≡◌, ◌<◌, ◌≤◌, ◌++◌, ◌∷◌, [], IfOk, Some, false, length, true};
 
 use crate::action::Action;
-use crate::failure_status::FailureStatus;
 use crate::window::Window;
 use crate::work::RunState;
 use drv_words::{Answer, Plan, RunEvent};
@@ -32,12 +31,12 @@ use std::marker::Model;
 /// `answer` takes the answer to that step. `new` makes room for all events, and no later call
 /// allocates memory.
 ///
-/// Contracts see the plan, the status of a failed run, how many sources may be under way at once,
+/// Contracts see the plan, whether codes are passed, how many sources may be under way at once,
 /// the events so far, and the result of `next`.
 #[derive(Drop)]
 pub struct Run<'a> {
     plan: &'a Plan,
-    pass_codes: FailureStatus,
+    pass_codes: bool,
     work: RunState,
 }
 
@@ -54,19 +53,15 @@ impl<'a> Model for Run<'a> {
 }
 
 /// The status if this is the greatest code.
-fn status_code(pass_codes: FailureStatus, code: u8) -> u8
+fn status_code(pass_codes: bool, code: u8) -> u8
     ensures { result ≡ status_from pass_codes code }
 {
-    match pass_codes {
-        FailureStatus::GreatestCode => code,
-        FailureStatus::One if code == 0 => 0,
-        FailureStatus::One => 1,
-    }
+    if pass_codes || code == 0 { code } else { 1 }
 }
 
 /// The next step, or the status if there is none.
 #[tactic(auto, using(crate::proofs::Contracts::Runs::is_ready))]
-fn look(plan: &Plan, pass_codes: FailureStatus, work: &RunState) -> Action
+fn look(plan: &Plan, pass_codes: bool, work: &RunState) -> Action
     requires { KeptWork plan.now work.now }
     ensures { result ≡ (run_of plan.now pass_codes work.now).action }
 {
@@ -104,15 +99,16 @@ fn turn(plan: &Plan, work: &mut RunState, choice: usize)
 }
 
 impl<'a> Run<'a> {
-    /// The run before its first step. At most `window` sources (1 to 64) are under way at once;
-    /// `pass_codes` gives the status of a failed run.
+    /// The run before its first step. At most `window` sources (1 to 64) are under way at once. The
+    /// status of a failed run is 1, or with `pass_codes` the greatest of its codes (GCC manual,
+    /// "Overall Options", `-pass-exit-codes`).
     ///
     /// # Errors
     /// There is not enough memory, or the number of events doesn't fit into `usize`.
     pub fn new(
         alloc: Global,
         plan: &'a Plan,
-        pass_codes: FailureStatus,
+        pass_codes: bool,
         window: usize,
     ) -> Result<Run<'a>, AllocError>
         requires some { 1 ≤ window }

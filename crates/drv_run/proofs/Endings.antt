@@ -1,5 +1,5 @@
 use Rattle.drv_run.proofs.Tellings.{pipe_after_questions}
-use Rattle.drv_run.specs.Calls.{DoesWork, Drove, Ends, Keeps, OnlySays}
+use Rattle.drv_run.specs.Calls.{DoesWork, Drove, Ends, OnlySays}
 use Rattle.drv_run.specs.Drives.{Comes, Drives, IsApart}
 use Rattle.drv_run.specs.Code.Telling.{EndsWork}
 use Rattle.drv_run.specs.declared.ending.Ending.TheVariants.{Done, OutOfMemory, Refused}
@@ -78,26 +78,6 @@ pub drove_with_work : {journal journal' journal'' : List Event} {F F' : Facts} (
 drove_with_work args seed work (Done status) empty asks comes does = drove_done empty asks comes does
 drove_with_work args seed work (Refused refusal) empty asks comes does = absurd does
 drove_with_work args seed work OutOfMemory empty asks comes only = drove_short empty asks only
-
--- what the table keeps
-
--- a call that ended before its work ended by the answers in its table
-pub keeps_before : (F : Facts) (args : List (List ℕ)) (seed : ℕ) (ending : Ending)
-    → ((G : Facts) → Extends F G → Comes G args seed (Err ending)) → Keeps F args seed ending
-keeps_before F args seed ending comes = by ending (comes F (extends_refl F))
-  where
-    -- Plan: `by` goes by the ending: a refusal is kept, lack of memory keeps nothing, and another one can't be.
-    by : (e : Ending) → Comes F args seed (Err e) → Keeps F args seed e
-    by (Done status) comes = absurd comes
-    by (Refused refusal) comes = comes
-    by OutOfMemory comes = tt
-
--- a call with a work, however that ended, ended by the answers in its table
-pub keeps_with_work : (journal journal' : List Event) (F : Facts) (args : List (List ℕ)) (seed : ℕ) (work : Work) (ending : Ending)
-    → ((G : Facts) → Extends F G → Comes G args seed (Ok work)) → EndsWork journal journal' work ending → Keeps F args seed ending
-keeps_with_work journal journal' F args seed work (Done status) comes does = (work, comes F (extends_refl F))
-keeps_with_work journal journal' F args seed work (Refused refusal) comes does = absurd does
-keeps_with_work journal journal' F args seed work OutOfMemory comes only = tt
 
 -- the end of a work is no lack of memory under another name
 pub work_ends_apart : (journal journal' : List Event) (work : Work) (ending : Ending) → EndsWork journal journal' work ending

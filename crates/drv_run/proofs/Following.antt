@@ -1,7 +1,6 @@
 use Rattle.drv_core.specs.Needed.{needed}
 use Rattle.drv_core.specs.Outcomes.{Answers, status_of}
 use Rattle.drv_core.specs.Windowed.{IsWhole, Windowed}
-use Rattle.drv_core.specs.declared.failure_status.FailureStatus.{FailureStatus}
 use Rattle.drv_run.specs.Executed.{Executed}
 use Rattle.drv_run.specs.Code.Making.{CanMake}
 use Rattle.drv_system.proofs.Running.{open_after, pending_of_rest, run_of-append}
@@ -109,7 +108,7 @@ closed_after journal journal' events grows none closed = ap (λ j. pipe_pending 
     ∙ ap pipe_pending (run_after journal events) ∙ pending_of_rest (run_of journal) events none ∙ closed
 
 -- a whole run after a journal is a plan carried out, as a caller sees it
-pub executed : (plan same_plan : Plan) (pass_codes same_codes : FailureStatus) (N window : ℕ) (journal journal' : List Event) (status : ℕ)
+pub executed : (plan same_plan : Plan) (pass_codes same_codes : Bool) (N window : ℕ) (journal journal' : List Event) (status : ℕ)
     (events : List RunEvent) → journal' ≡ journal ++ map Run events → same_plan ≡ plan → same_codes ≡ pass_codes → window ≡ N
     → length events ≤ needed same_plan → (w : IsWhole same_plan window events)
     → ((o : Answers) → Windowed same_plan window o events → status ≡ status_of same_codes o)

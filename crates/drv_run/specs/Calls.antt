@@ -109,9 +109,3 @@ pub record Drove (journal journal' : List Event) (args : List (List ℕ)) (seed 
   pub questions : AreNew no_facts asked
   pub journal_grows : journal' ≡ journal ++ asked ++ said
   pub ends : Ends (learn no_facts asked) args seed ending said
-
--- The answers by which a call ended: for them its arguments ask for the work that was done, or are refused as it was.
-abbrev pub Keeps : Facts → List (List ℕ) → ℕ → Ending → Type 0
-Keeps F args seed (Done status) = (work : Work) × Drives F args seed work
-Keeps F args seed (Refused refusal) = Refuses F args seed refusal
-Keeps F args seed OutOfMemory = ⊤

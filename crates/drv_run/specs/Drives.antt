@@ -8,8 +8,6 @@ use Rattle.drv_args.specs.declared.line.Settings.{Settings}
 use Rattle.drv_c99.specs.Front.{front_of}
 use Rattle.drv_c99.specs.declared.fault.C99Fault.TheVariants as c99_fault
 use Rattle.drv_c99.specs.declared.fault.C99Fault.{C99Fault}
-use Rattle.drv_core.specs.declared.failure_status.FailureStatus.TheVariants.{GreatestCode, One}
-use Rattle.drv_core.specs.declared.failure_status.FailureStatus.{FailureStatus}
 use Rattle.drv_funcs.specs.declared.fault.FuncsFault.TheVariants as funcs_fault
 use Rattle.drv_machine.specs.declared.fault.MachineFault.TheVariants as machine_fault
 use Rattle.drv_plan.specs.Denoted.{denoted}
@@ -90,13 +88,9 @@ called_as dry verbose pass_codes jobs line = record line
 abbrev pub telling_of : Settings → Telling
 telling_of settings = if settings.verbose then Commands else Notices
 
--- the status where a command failed: with -pass-exit-codes the greatest code
-abbrev pub failure_of : Settings → FailureStatus
-failure_of settings = if settings.pass_codes then GreatestCode else One
-
 -- how a plan is carried out: what is said first, the status of a failure, and how many sources are under way at once
 abbrev pub manner_of : Settings → Manner
-manner_of settings = record { telling = telling_of settings; pass_codes = failure_of settings; window = settings.jobs }
+manner_of settings = record { telling = telling_of settings; pass_codes = settings.pass_codes; window = settings.jobs }
 
 -- with -### a plan is shown, and otherwise it is carried out
 abbrev pub work_with : Settings → Plan → Work

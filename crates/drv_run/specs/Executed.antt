@@ -1,18 +1,17 @@
 use Rattle.drv_core.specs.Needed.{needed}
 use Rattle.drv_core.specs.Outcomes.{Answers, status_of}
 use Rattle.drv_core.specs.Windowed.{Windowed}
-use Rattle.drv_core.specs.declared.failure_status.FailureStatus.{FailureStatus}
 use Rattle.drv_system.specs.declared.event.Event.TheVariants.{Run}
 use Rattle.drv_system.specs.declared.event.Event.{Event}
 use Rattle.drv_words.specs.declared.plan.Plan.{Plan}
 use Rattle.drv_words.specs.declared.steps.RunEvent.{RunEvent}
-use Rattle.std.specs.Prelude.{◌≡◌, ◌≤◌, List, ◌++◌, length, map, ℕ}
+use Rattle.std.specs.Prelude.{◌≡◌, ◌≤◌, Bool, List, ◌++◌, length, map, ℕ}
 
 -- What it is that a plan was carried out (POSIX c99, "Exit Status"; GCC manual, "Overall Options", -pass-exit-codes).
 
 -- The events of a whole run follow the journal, with at most N sources under way, and the status is that of their answers. There are never
 -- more of them than the plan needs at most.
-pub record Executed (plan : Plan) (pass_codes : FailureStatus) (N : ℕ) (journal journal' : List Event) (status : ℕ) : Type 0 where
+pub record Executed (plan : Plan) (pass_codes : Bool) (N : ℕ) (journal journal' : List Event) (status : ℕ) : Type 0 where
   pub events : List RunEvent
   pub answers : Answers
   pub journal_grows : journal' ≡ journal ++ map Run events

@@ -6,7 +6,7 @@ use Rattle.drv_run.specs.declared.ending.Ending.TheVariants.{OutOfMemory, Refuse
 use Rattle.drv_run.specs.declared.ending.Ending.{Ending}
 use Rattle.drv_run.specs.declared.ending.Refusal.TheVariants.{Args, C99 as NoFront}
 use Rattle.drv_system.specs.Facts.{Facts}
-use Rattle.std.specs.Prelude.{◌≡◌, Err, List, None, Ok, Option, Result, Some, ℕ, ⊤}
+use Rattle.std.specs.Prelude.{◌≡◌, Err, List, Ok, Result, ℕ, ⊤}
 
 -- The line of a call (GCC manual, "Overall Options"): the words that its arguments give, read. What hasn't a line is refused so whatever
 -- its seed.
@@ -26,8 +26,3 @@ IsUnread (Refused (Args fault)) = ⊤
 IsUnread (Refused (NoFront fault)) = ⊤
 IsUnread OutOfMemory = ⊤
 IsUnread ending = ⊥
-
--- the line of a call that has ended, by these answers
-abbrev pub KeepsLine : Facts → List (List ℕ) → Option Line → Ending → Type 0
-KeepsLine F args (Some line) ending = ReadsLine F args line
-KeepsLine F args None ending = IsUnread ending

@@ -186,7 +186,7 @@ pub fn work_of<S: System>(
 /// # Errors
 /// The first refusal: of a spec file, or of the plan.
 #[tactic(auto, using(drv_system::proofs::AskedCalls::asked_further))]
-pub(crate) fn work_of_line<S: System>(
+fn work_of_line<S: System>(
     alloc: Global,
     line: &Line,
     seed: u32,

@@ -9,14 +9,15 @@ ghost use Rattle.std.specs.Prelude.{◌≡◌, ◌≤◌, IfOk, OnErr, false};
 
 use crate::choosing::choose_source;
 use crate::making::make;
-use drv_core::{Action, FailureStatus, Run};
+use drv_core::{Action, Run};
 use drv_system::System;
 use drv_words::Plan;
 use std::alloc::{AllocError, Global};
 
 /// Carries out a plan, with at most `window` of its sources under way at once, and gives the exit
-/// status: 0, or that of a failure where a command failed or something was not made or started. Of
-/// several sources that may go on, one does that need not wait. No pipe is pending afterwards.
+/// status: 0, or 1 where a command failed or something was not made or started, with `pass_codes`
+/// the greatest code. Of several sources that may go on, one does that need not wait. No pipe is
+/// pending afterwards.
 ///
 /// # Errors
 /// Lack of memory, before anything is made or started; after the first step it is no error any more.
@@ -24,7 +25,7 @@ pub fn execute<S: System>(
     alloc: Global,
     sys: &mut S,
     plan: &Plan,
-    pass_codes: FailureStatus,
+    pass_codes: bool,
     window: usize,
 ) -> Result<u8, AllocError>
     requires pipe { pipe_pending (run_of (S.events sys.old)) ≡ false }

@@ -18,7 +18,7 @@ mod work;
 
 pub use deciding::{load_along, load_specs, work_along, work_of, work_of_call};
 pub use doing::do_work;
-pub use driving::{EndedCall, drive, drive_over};
+pub use driving::drive;
 pub use ending::{Ending, Refusal};
 pub use executing::execute;
 pub use laws::{one_ending, refused_does_nothing, same_plan, shown_starts_nothing};

@@ -1,14 +1,14 @@
 //! What a call does.
 
-ghost use Rattle.drv_run.specs.Drives.{failure_of, telling_of, work_with};
+ghost use Rattle.drv_run.specs.Drives.{telling_of, work_with};
 ghost use Rattle.std.specs.Prelude.{◌≡◌};
 
 use drv_args::Settings;
-use drv_core::{FailureStatus, Window};
+use drv_core::Window;
 use drv_words::{Plan, Word};
 
 /// What is said of a plan before it is carried out.
-#[derive(Clone, Copy, Debug)]
+#[derive(Clone, Copy)]
 pub enum Telling {
     /// Its notices.
     Notices,
@@ -17,18 +17,18 @@ pub enum Telling {
 }
 
 /// How a plan is carried out.
-#[derive(Clone, Copy, Debug)]
+#[derive(Clone, Copy)]
 pub struct Manner {
     /// What is said of it first.
     pub telling: Telling,
     /// The exit status where a command failed.
-    pub pass_codes: FailureStatus,
+    pub pass_codes: bool,
     /// How many sources are under way at once, at most.
     pub window: Window,
 }
 
 /// What a call does once it is not refused.
-#[derive(Debug, Drop)]
+#[derive(Drop)]
 pub enum Work {
     /// It writes this dump of the specs to standard output.
     Dump(Word),
@@ -49,17 +49,6 @@ fn telling_of(settings: &Settings) -> Telling
     }
 }
 
-/// The exit status where a command failed: with `-pass-exit-codes` the greatest code.
-fn failure_of(settings: &Settings) -> FailureStatus
-    ensures { result ≡ failure_of settings.now }
-{
-    if settings.pass_codes {
-        FailureStatus::GreatestCode
-    } else {
-        FailureStatus::One
-    }
-}
-
 /// What is done with the plan of a line: with `-###` it is shown, and otherwise it is carried out.
 pub(crate) fn work_with(settings: &Settings, plan: Plan) -> Work
     ensures { result ≡ work_with settings.now plan }
@@ -69,7 +58,7 @@ pub(crate) fn work_with(settings: &Settings, plan: Plan) -> Work
     }
     let manner = Manner {
         telling: telling_of(settings),
-        pass_codes: failure_of(settings),
+        pass_codes: settings.pass_codes,
         window: Window::new(settings.jobs.number()),
     };
     Work::CarryOut { plan, manner }

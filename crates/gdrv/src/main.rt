@@ -9,8 +9,8 @@ ghost use Rattle.std.specs.Prelude.{◌≡◌, OnOk};
 mod question;
 mod records;
 
-use drv_run::{Ending, drive_over, ending_text};
-use drv_system::{FactTable, HostSystem, Reporter, System, arguments, clock_seed, complain};
+use drv_run::{Ending, drive, ending_text};
+use drv_system::{HostSystem, System, arguments, clock_seed, complain};
 use drv_words::{Listing, Word};
 use question::{Question, question_of};
 use records::tell_of_records;
@@ -72,17 +72,14 @@ fn answer(rt: &HostRuntime, asked: Question) -> ExitCode {
     }
 }
 
-/// Runs the driver for this process. On a terminal it adds a line if built-in specs were used,
-/// since then nothing was compiled.
+/// Runs the driver for this process. On a terminal it adds a line if the built-in specs alone were
+/// used, since then nothing was compiled.
 fn call(rt: &HostRuntime, args: Listing<Word>) -> Result<ExitCode, AllocError> {
     let seed = clock_seed(rt)?;
-    let mut sys = HostSystem::new(rt.clone()?, Reporter::Gdrv);
-    let facts = &mut FactTable::new(rt.alloc());
-    let call = drive_over(rt.alloc(), &mut sys, args, seed, facts);
-    let status = finish(rt, &call.ending);
-    if let Some(line) = &call.line {
-        tell_of_records(rt, line, sys.journal());
-    }
+    let mut sys = HostSystem::new(rt.clone()?);
+    let ending = drive(rt.alloc(), &mut sys, args, seed);
+    let status = finish(rt, &ending);
+    tell_of_records(rt, sys.journal());
     Ok(status)
 }
 

@@ -1,6 +1,5 @@
 //! The message at a terminal after a run that only recorded its calls.
 
-use drv_args::Line;
 use drv_system::{Event, complain};
 use drv_words::{Answer, RunEvent, StartAnswer};
 use std::io::IsTerminal;
@@ -20,12 +19,17 @@ fn is_start(event: &Event) -> bool {
     )
 }
 
+/// Whether an event read a file.
+fn is_read(event: &Event) -> bool {
+    matches!(event, Event::Read(..))
+}
+
 /// On a terminal, says that a call with the built-in specs alone, which start only rectool, compiled
-/// nothing, if it started a program. Scripts, whose standard error is not a terminal, don't see the
-/// message.
-pub fn tell_of_records(rt: &HostRuntime, line: &Line, events: &[Event]) {
-    let has_own_specs = !line.settings.specs.as_slice().is_empty();
-    if !has_own_specs && events.iter().any(is_start) && rt.stderr().is_terminal() {
+/// nothing, if it started a program. A call that read a file may have specs of its own, so nothing
+/// is said of it. Scripts, whose standard error is not a terminal, don't see the message.
+pub fn tell_of_records(rt: &HostRuntime, events: &[Event]) {
+    let has_started = events.iter().any(is_start) && !events.iter().any(is_read);
+    if has_started && rt.stderr().is_terminal() {
         complain(rt, RECORDS);
     }
 }

@@ -5,7 +5,7 @@ ghost use Rattle.std.specs.Fmt.{decimal};
 ghost use Rattle.std.specs.Prelude.{◌≡◌, ◌∷◌, ◌++◌, [], OnOk, codes, length};
 
 use crate::call::inputs;
-use drv_system::{HostSystem, ReadAnswer, Reporter, System, read_to_end};
+use drv_system::{HostSystem, ReadAnswer, System, read_to_end};
 use drv_words::{Command, Listing, PlanLine, Word, render};
 use std::alloc::{AllocError, Global};
 
@@ -40,7 +40,7 @@ fn push_input(alloc: Global, record: &mut Word, bytes: &[u8]) -> Result<(), Allo
 
 /// Adds the contents of files. A file that can't be read is left out.
 fn push_files(rt: &HostRuntime, record: &mut Word, paths: &[Word]) -> Result<(), AllocError> {
-    let mut sys = HostSystem::new(rt.clone()?, Reporter::Gdrv);
+    let mut sys = HostSystem::new(rt.clone()?);
     for path in paths {
         if let ReadAnswer::Read(bytes) = sys.read_file(path)? {
             push_input(rt.alloc(), record, bytes.as_bytes())?;

@@ -24,7 +24,6 @@ use Rattle.drv_core.specs.Outcomes.{status_from, status_of}
 use Rattle.drv_core.specs.Story.{event}
 use Rattle.drv_core.specs.Windowed.{IsBeginning, IsWhole, count}
 use Rattle.drv_core.specs.Code.Reached.{between_blocks}
-use Rattle.drv_core.specs.declared.failure_status.FailureStatus.{FailureStatus}
 use Rattle.drv_words.specs.Places.{no_job}
 use Rattle.drv_words.specs.Stepping.{can_make, pipe_pending}
 use Rattle.drv_words.specs.declared.answers.Answer.{Answer}
@@ -401,6 +400,6 @@ pub holds_closed : (plan : Plan) (N : ℕ) (c : Course) → Holds plan N c → a
 holds_closed plan N c h is = (at_done plan N c h is).pipe
 
 -- the status by the greatest code of a whole run's events is that of its answers
-pub whole_status : (plan : Plan) (N : ℕ) (E : List RunEvent) (pass_codes : FailureStatus) → (w : IsWhole plan N E)
+pub whole_status : (plan : Plan) (N : ℕ) (E : List RunEvent) (pass_codes : Bool) → (w : IsWhole plan N E)
     → status_from pass_codes (run_code E) ≡ status_of pass_codes w.o
 whole_status plan N E pass_codes w = status_is plan N w.o E pass_codes w.windowed

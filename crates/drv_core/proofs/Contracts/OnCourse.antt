@@ -22,7 +22,6 @@ use Rattle.drv_core.specs.Code.Reached.{Kept, Reached, at_first, after_answer, a
 use Rattle.drv_core.specs.Code.SourceView.{HasRoom}
 use Rattle.drv_core.specs.Code.Starting.{fresh_run}
 use Rattle.drv_core.specs.Windowed.{IsBeginning, IsWhole, Windowed, count, has}
-use Rattle.drv_core.specs.declared.failure_status.FailureStatus.{FailureStatus}
 use Rattle.drv_words.specs.Places.{group_at, no_job}
 use Rattle.drv_words.specs.Stepping.{can_make, fits, pipe_pending}
 use Rattle.drv_words.specs.declared.answers.Answer.{Answer}
@@ -341,12 +340,12 @@ code_is plan N p k = by (on_course_at plan N p k)
     by t = t.match.alike.code ∙ ap run_code (sym t.match.alike.events)
 
 -- the status that the code computes is that of the answers of the whole run
-pub status_is : (plan : Plan) (N : ℕ) (p : RunState) (pass_codes : FailureStatus) → Kept plan N p → (w : IsWhole plan N p.events)
+pub status_is : (plan : Plan) (N : ℕ) (p : RunState) (pass_codes : Bool) → Kept plan N p → (w : IsWhole plan N p.events)
     → status_from pass_codes p.code ≡ status_of pass_codes w.o
 status_is plan N p pass_codes k w = ap (λ n. status_from pass_codes n) (code_is plan N p k) ∙ whole_status plan N p.events pass_codes w
 
 -- the status that the code computes is that of any answers with which the events are a whole run
-pub status_for : (plan : Plan) (N : ℕ) (p : RunState) (pass_codes : FailureStatus) (o : Answers) → Kept plan N p
+pub status_for : (plan : Plan) (N : ℕ) (p : RunState) (pass_codes : Bool) (o : Answers) → Kept plan N p
     → Windowed plan N o p.events → status_from pass_codes p.code ≡ status_of pass_codes o
 status_for plan N p pass_codes o k w = status_is plan N p pass_codes k (record { o = o; windowed = w })
 

@@ -20,12 +20,12 @@ use Rattle.drv_core.specs.Windowed.{IsBeginning, IsWhole, Windowed}
 use Rattle.drv_core.specs.declared.action.Action.{Action}
 use Rattle.drv_core.specs.declared.action.Action.TheVariants as action
 use Rattle.drv_core.specs.declared.work.RunState.{RunState as CodeRun}
-use Rattle.drv_core.specs.declared.failure_status.FailureStatus.{FailureStatus}
 use Rattle.drv_words.specs.Stepping.{can_make, fits, pipe_pending}
 use Rattle.drv_words.specs.declared.answers.Answer.{Answer}
 use Rattle.drv_words.specs.declared.plan.Plan.{Plan}
 use Rattle.drv_words.specs.declared.steps.Step.{Step}
-use Rattle.std.proofs.Common.{◌≡◌, ◌<◌, ◌≤◌, ◌∙◌, [], ◌∷◌, ◌++◌, None, Option, Some, ap, false, get_or, length, refl, subst, sym, true, ℕ}
+use Rattle.std.proofs.Common.{◌≡◌, ◌<◌, ◌≤◌, ◌∙◌, [], ◌∷◌, ◌++◌, Bool, None, Option, Some, ap, false, get_or, length, refl, subst, sym}
+use Rattle.std.proofs.Common.{true, ℕ}
 use Rattle.std.specs.Vec.{vec_capacity}
 
 -- For the clauses of `Run`: each follows from what is known of the run (`KeptWork`). A `CodeRun` is the type of the code, `Run` what a
@@ -107,7 +107,7 @@ pub record Known (r : Run) (a : Action) : Type 0 where
   pub status : IfDone a (λ status. (o : Answers) → Windowed r.plan r.window o r.events → status ≡ status_of r.pass_codes o)
 
 -- the clauses of `next` hold of each run that is kept
-known_at : (plan : Plan) (pass_codes : FailureStatus) (p : RunState) → Kept plan p.fleet.window p
+known_at : (plan : Plan) (pass_codes : Bool) (p : RunState) → Kept plan p.fleet.window p
     → Known (run_at plan pass_codes p) (run_at plan pass_codes p).action
 known_at plan pass_codes p k = by (next_of plan p) refl
   where
@@ -141,7 +141,7 @@ known_at plan pass_codes p k = by (next_of plan p) refl
         })
 
 -- the clauses of `next`, of a run of the code that a caller sees as r
-pub knows : (plan : Plan) (pass_codes : FailureStatus) (w : CodeRun) (r : Run) (a : Action) → KeptWork plan w → run_of plan pass_codes w ≡ r
+pub knows : (plan : Plan) (pass_codes : Bool) (w : CodeRun) (r : Run) (a : Action) → KeptWork plan w → run_of plan pass_codes w ≡ r
     → a ≡ (run_of plan pass_codes w).action → Known r a
 knows plan pass_codes w r a k e is = subst (λ x. Known x a) e (subst (λ x. Known (run_of plan pass_codes w) x) (sym is)
     (known_at plan pass_codes (run_state_of w) k))
@@ -149,14 +149,14 @@ knows plan pass_codes w r a k e is = subst (λ x. Known x a) e (subst (λ x. Kno
 -- the condition and the effect of `answer`
 
 -- an answer that fits the run has the kind of its next step
-pub kind_of : (plan : Plan) (pass_codes : FailureStatus) (w : CodeRun) (r : Run) (a : Answer) → run_of plan pass_codes w ≡ r
+pub kind_of : (plan : Plan) (pass_codes : Bool) (w : CodeRun) (r : Run) (a : Answer) → run_of plan pass_codes w ≡ r
     → IfMake r.action (λ step. fits r.events step a ≡ true) → (s : Step) → next_of plan (run_state_of w) ≡ Some s → is_kind s a ≡ true
 kind_of plan pass_codes w r a e f s is = fits_kind w.events.items s a
     (subst (λ o. IfMake (action_of o (status_from pass_codes w.code)) (λ step. fits w.events.items step a ≡ true)) is
     (subst (λ x. IfMake x.action (λ step. fits x.events step a ≡ true)) (sym e) f))
 
 -- the clause of `answer`: the run has the event of the answer at its end
-pub answered : (plan : Plan) (pass_codes : FailureStatus) (old new : CodeRun) (run : Run) (reply : Answer) → run_of plan pass_codes old
+pub answered : (plan : Plan) (pass_codes : Bool) (old new : CodeRun) (run : Run) (reply : Answer) → run_of plan pass_codes old
     ≡ run
     → ((s : Step) → next_of plan (run_state_of old) ≡ Some s → run_state_of new ≡ moved plan (run_state_of old) s reply)
     → IfMake run.action (λ step. new.events.items ≡ run.events ++ event step reply ∷ [])
@@ -182,21 +182,21 @@ step_back None n = refl
 step_back (Some s) n = refl
 
 -- the clause about the first source, as a caller sees the run
-works_first : (plan : Plan) (pass_codes : FailureStatus) (w : CodeRun) → KeptWork plan w → WorksFirst plan (run_state_of w)
+works_first : (plan : Plan) (pass_codes : Bool) (w : CodeRun) → KeptWork plan w → WorksFirst plan (run_state_of w)
     → IsOfFirst plan w.fleet.window w.events.items (step_in (run_of plan pass_codes w).action)
 works_first plan pass_codes w k first = subst (λ o. IsOfFirst plan w.fleet.window w.events.items o)
     (sym (step_back (next_of plan (run_state_of w)) (status_from pass_codes w.code)))
     (first_next plan w.fleet.window (run_state_of w) k first)
 
 -- at the beginning of a run, without a choice, the next step is of the first source that may go on
-pub begun_first : (plan : Plan) (pass_codes : FailureStatus) (w : CodeRun) (N : ℕ) → KeptWork plan w
+pub begun_first : (plan : Plan) (pass_codes : Bool) (w : CodeRun) (N : ℕ) → KeptWork plan w
     → run_state_of w ≡ fresh_run plan N (vec_capacity w.events)
     → IsOfFirst plan w.fleet.window w.events.items (step_in (run_of plan pass_codes w).action)
 begun_first plan pass_codes w N k e = works_first plan pass_codes w k
     (subst (λ p. WorksFirst plan p) (sym e) (fresh_first plan N (vec_capacity w.events)))
 
 -- after an answer, without a choice, the next step is of the first source that may go on
-pub answered_first : (plan : Plan) (pass_codes : FailureStatus) (old new : CodeRun) (run : Run) (reply : Answer)
+pub answered_first : (plan : Plan) (pass_codes : Bool) (old new : CodeRun) (run : Run) (reply : Answer)
     → run_of plan pass_codes old ≡ run
     → IfDone run.action (λ status. ⊥) → ((s : Step) → next_of plan (run_state_of old) ≡ Some s
     → run_state_of new ≡ moved plan (run_state_of old) s reply)
@@ -214,7 +214,7 @@ answered_first plan pass_codes old new run reply e more moves k =
 -- the result of `status`
 
 -- where no step is left the run shows the status
-pub status_there : (plan : Plan) (pass_codes : FailureStatus) (w : CodeRun) (r : Run) (n : ℕ) → run_of plan pass_codes w ≡ r
+pub status_there : (plan : Plan) (pass_codes : Bool) (w : CodeRun) (r : Run) (n : ℕ) → run_of plan pass_codes w ≡ r
     → IfMake r.action (λ step. ⊥) → n ≡ status_from pass_codes w.code → r.action ≡ action.Done n
 status_there plan pass_codes w r n e done is = subst (λ x. x.action ≡ action.Done n) e (by (next_of plan (run_state_of w)) refl)
   where
@@ -228,7 +228,7 @@ status_there plan pass_codes w r n e done is = subst (λ x. x.action ≡ action.
     by (Some s) at = absurd (subst (λ o. IfMake (action_of o (status_from pass_codes w.code)) (λ step. ⊥)) at over)
 
 -- the status is that of any answers with which the events are a whole run
-pub status_right : (plan : Plan) (pass_codes : FailureStatus) (w : CodeRun) (r : Run) (n : ℕ) → KeptWork plan w
+pub status_right : (plan : Plan) (pass_codes : Bool) (w : CodeRun) (r : Run) (n : ℕ) → KeptWork plan w
     → run_of plan pass_codes w ≡ r → n ≡ status_from pass_codes w.code
     → (o : Answers) → Windowed r.plan r.window o r.events → n ≡ status_of r.pass_codes o
 status_right plan pass_codes w r n k e is = subst (λ x. (o : Answers) → Windowed x.plan x.window o x.events → n ≡ status_of x.pass_codes o)
@@ -237,13 +237,13 @@ status_right plan pass_codes w r n k e is = subst (λ x. (o : Answers) → Windo
 -- choices
 
 -- the number of choices is the one of the rule
-pub choices_told : (plan : Plan) (pass_codes : FailureStatus) (w : CodeRun) (r : Run) (n : ℕ) → KeptWork plan w
+pub choices_told : (plan : Plan) (pass_codes : Bool) (w : CodeRun) (r : Run) (n : ℕ) → KeptWork plan w
     → run_of plan pass_codes w ≡ r → n ≡ choices_at plan (run_state_of w) → ChoicesAre r.plan r.window r.events n
 choices_told plan pass_codes w r n k e is = subst (λ x. ChoicesAre x.plan x.window x.events n) e
     (subst (λ m. ChoicesAre plan w.fleet.window w.events.items m) (sym is) (choices_are plan w.fleet.window (run_state_of w) k))
 
 -- a choice of the run that a caller sees is one of the code's
-pub choice_of : (plan : Plan) (pass_codes : FailureStatus) (w : CodeRun) (r : Run) (i : ℕ) → run_of plan pass_codes w ≡ r
+pub choice_of : (plan : Plan) (pass_codes : Bool) (w : CodeRun) (r : Run) (i : ℕ) → run_of plan pass_codes w ≡ r
     → IsChoice r.plan r.window r.events i → IsChoice plan w.fleet.window w.events.items i
 choice_of plan pass_codes w r i e h = subst (λ x. IsChoice x.plan x.window x.events i) (sym e) h
 
@@ -260,7 +260,7 @@ turned_window plan w v i k h e = (choice_stands plan (run_state_of w) (run_state
     (choice_below plan w.fleet.window (run_state_of w) i k h) e).1
 
 -- between blocks the next step is of the chosen source
-pub turned_next : (plan : Plan) (pass_codes : FailureStatus) (old new : CodeRun) (run : Run) (i : ℕ) → KeptWork plan old
+pub turned_next : (plan : Plan) (pass_codes : Bool) (old new : CodeRun) (run : Run) (i : ℕ) → KeptWork plan old
     → run_of plan pass_codes old ≡ run → IsChoice run.plan run.window run.events i → run_state_of new ≡ choosing plan (run_state_of old) i
     → (between : BetweenBlocks run.plan run.window run.events)
     → IsNextOf run.plan run.window run.events between i (step_in (run_of plan pass_codes new).action)
@@ -272,13 +272,13 @@ turned_next plan pass_codes old new run i k e h is = subst (λ x. (between : Bet
     (choice_of plan pass_codes old run i e h)) between))
 
 -- the clause of `choose`: elsewhere than between blocks a choice changes nothing
-pub turned_elsewhere : (plan : Plan) (pass_codes : FailureStatus) (w v : CodeRun) (r : Run) (i : ℕ) → KeptWork plan w
+pub turned_elsewhere : (plan : Plan) (pass_codes : Bool) (w v : CodeRun) (r : Run) (i : ℕ) → KeptWork plan w
     → run_of plan pass_codes w ≡ r → run_state_of v ≡ choosing plan (run_state_of w) i → (BetweenBlocks r.plan r.window r.events → ⊥)
     → run_of plan pass_codes v ≡ r
 turned_elsewhere plan pass_codes w v r i k e is none = ap (λ p. run_at plan pass_codes p) (is ∙ chosen_elsewhere plan w.fleet.window
     (run_state_of w) i k (subst (λ x. BetweenBlocks x.plan x.window x.events → ⊥) (sym e) none)) ∙ e
 
 -- the clause of `choose`: a choice adds no event
-pub turned_events : (plan : Plan) (pass_codes : FailureStatus) (w v : CodeRun) (r : Run) (i : ℕ) → run_of plan pass_codes w ≡ r
+pub turned_events : (plan : Plan) (pass_codes : Bool) (w v : CodeRun) (r : Run) (i : ℕ) → run_of plan pass_codes w ≡ r
     → run_state_of v ≡ choosing plan (run_state_of w) i → v.events.items ≡ r.events
 turned_events plan pass_codes w v r i e is = ap (λ p. p.events) is ∙ choosing_events plan (run_state_of w) i ∙ ap (λ x. x.events) e

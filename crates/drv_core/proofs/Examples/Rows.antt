@@ -4,7 +4,6 @@ use Rattle.drv_core.specs.Outcomes.{Answers, GroupAnswers, JobAnswers, Told, sta
 use Rattle.drv_core.specs.Story.{Block, after_sources, event, report, story}
 use Rattle.drv_core.specs.Windowed.{AllMayCome, MayCome, SourceBlock, Windowed, blocks_of, count, events_of, has, in_flight, is_wait}
 use Rattle.drv_core.specs.Windowed.{nowhere, of}
-use Rattle.drv_core.specs.declared.failure_status.FailureStatus.TheVariants.{GreatestCode, One}
 use Rattle.drv_words.specs.declared.answers.Answer.TheVariants as answer
 use Rattle.drv_words.specs.declared.answers.ClaimAnswer.{ClaimAnswer}
 use Rattle.drv_words.specs.declared.answers.ClaimAnswer.TheVariants as claim
@@ -222,7 +221,7 @@ two_whole : whole two first_fails ≡ true
 two_whole = refl
 
 -- the status is the greatest code
-two_status : status_of GreatestCode first_fails ≡ 3
+two_status : status_of true first_fails ≡ 3
 two_status = refl
 
 -- the events with a window of one: the second source goes on after the first has failed, and no link runs
@@ -287,7 +286,7 @@ objects_whole : whole objects object_fails ≡ true
 objects_whole = refl
 
 -- a failure makes the status 1
-objects_status : status_of One object_fails ≡ 1
+objects_status : status_of false object_fails ≡ 1
 objects_status = refl
 
 -- the blocks may come one source after the other
@@ -343,7 +342,7 @@ pipe_windowed = record {
 }
 
 -- the status is 1
-pipe_status : status_of One refused_start ≡ 1
+pipe_status : status_of false refused_start ≡ 1
 pipe_status = refl
 
 -- a link that exits with 1, whose output is a device, and a temporary that can't be removed
@@ -362,7 +361,7 @@ link_whole : whole two link_fails ≡ true
 link_whole = refl
 
 -- the status is 1
-link_status : status_of One link_fails ≡ 1
+link_status : status_of false link_fails ≡ 1
 link_status = refl
 
 -- the events after the sources: the link's start and wait, the removal of its output, and those of the temporaries
@@ -443,7 +442,7 @@ taken_length : length (events five third_taken (0 ∷ 0 ∷ 0 ∷ 0 ∷ 1 ∷ 1 
 taken_length = refl
 
 -- and its status is 1
-taken_status : status_of One third_taken ≡ 1
+taken_status : status_of false third_taken ≡ 1
 taken_status = refl
 
 -- the third source's second start is refused
@@ -471,7 +470,7 @@ lost_length : length (events five third_lost in_order) ≡ 31
 lost_length = refl
 
 -- and its status is 1
-lost_status : status_of GreatestCode third_lost ≡ 1
+lost_status : status_of true third_lost ≡ 1
 lost_status = refl
 
 -- all sources succeed, and one removal at the end fails
@@ -483,7 +482,7 @@ removal_length : length (events five removal_fails in_order) ≡ 33
 removal_length = refl
 
 -- and leaves the status 0
-removal_status : status_of One removal_fails ≡ 0
+removal_status : status_of false removal_fails ≡ 0
 removal_status = refl
 
 -- every claim is refused, since its name is taken

@@ -6,7 +6,6 @@ use Rattle.drv_core.specs.Outcomes.{removed_by_job, status_from, status_of, whol
 use Rattle.drv_core.specs.Story.{Block, after_sources, claim_block, claim_blocks, end_removals, event, group_blocks, own_removals}
 use Rattle.drv_core.specs.Story.{removal_block, removal_failed, report, starts_block, story, wait_block, wait_blocks}
 use Rattle.drv_core.specs.Windowed.{AllMayCome, SourceBlock, TellStories, Windowed, blocks_of, events_of, nowhere, of}
-use Rattle.drv_core.specs.declared.failure_status.FailureStatus.{FailureStatus}
 use Rattle.drv_words.specs.declared.answers.Answer.TheVariants as answer
 use Rattle.drv_words.specs.declared.answers.ClaimAnswer.{ClaimAnswer}
 use Rattle.drv_words.specs.declared.answers.ClaimAnswer.TheVariants as claim
@@ -301,7 +300,7 @@ greatest_last (x ∷ xs) a = ap (λ n. max (job_code x) n) (greatest_last xs a)
     ∙ sym (max_assoc (job_code x) (greatest job_code xs) (job_code a))
 
 -- the status of a whole run, by the greatest code of its events, is that of its answers
-pub status_is : (plan : Plan) (N : ℕ) (o : Answers) (E : List RunEvent) (pass_codes : FailureStatus) → Windowed plan N o E
+pub status_is : (plan : Plan) (N : ℕ) (o : Answers) (E : List RunEvent) (pass_codes : Bool) → Windowed plan N o E
     → status_from pass_codes (run_code E) ≡ status_of pass_codes o
 status_is plan N o E pass_codes w = ap (λ n. status_from pass_codes n)
     (ap run_code w.events ∙ code_append (events_of (blocks_of w.blocks)) (events_of (after_sources plan o))

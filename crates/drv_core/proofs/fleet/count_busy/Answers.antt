@@ -5,8 +5,6 @@ use Rattle.std.proofs.lemmas.Iterator.Consumers.{YieldsList-from_filter, count_f
 use Rattle.std.proofs.lemmas.Iterator.{YieldsList-from_slice}
 use Rattle.std.specs.Slice.Iter.{iter_rest}
 
--- count_busy (src/fleet.rt). How many jobs have something to do.
-
 -- Names: `busy`: whether a job has something to do.
 
 -- the jobs that pass the test are counted

@@ -4,8 +4,6 @@ use Rattle.drv_core.specs.Code.Fleet.{first_busy}
 use Rattle.std.proofs.Common.{◌+◌, ◌-◌, ◌∙◌, ap, drop, length, take}
 use Rattle.std.specs.Prelude.{unwrap_or}
 
--- first_busy (src/fleet.rt). The first job from `from` on that has something to do, or the number of jobs.
-
 -- Names: `all_left`: the slice from i on with all that is left is the rest of the list. `busy_first`: the first source from an index on
 -- that has commands.
 

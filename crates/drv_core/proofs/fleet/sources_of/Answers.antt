@@ -6,8 +6,6 @@ use Rattle.std.proofs.Common.{◌≡◌, ◌∙◌, ◌<◌, ◌≤◌, ◌+◌,
 use Rattle.std.proofs.Common.{subst, sym, ℕ}
 use Rattle.std.proofs.lemmas.List.{drop_all, drop_more, get_or_default, map-append}
 
--- sources_of (src/fleet.rt). A source for each job.
-
 -- Names: `no_job`: a job that has nothing to do.
 
 -- one more source is made, and its job is no longer left

@@ -2,9 +2,6 @@ use Rattle.drv_core.proofs.Laws.OneByOne.{rearranges}
 use Rattle.drv_core.proofs.Laws.StartedEvents.{starts_the_same}
 use Rattle.drv_core.proofs.law.interleaving_law.Goals as goal
 
--- interleaving_law (src/law.rt). A law: every run with several sources in flight, taken source by source, is a run with one source at a
--- time and the same answers.
-
 -- Names: `rearranges`: every run, rearranged source by source, is a run of window 1 with the same answers. `starts_the_same`: each job
 -- starts the same commands in a run and in that run rearranged source by source.
 

@@ -2,8 +2,6 @@ use Rattle.drv_core.proofs.Laws.Failed.{fails_where}
 use Rattle.drv_core.proofs.Laws.LinkRuns.{links_where}
 use Rattle.drv_core.proofs.law.linking_law.Goals as goal
 
--- linking_law (src/law.rt). A law: in the events of a whole run, the link claims or starts something exactly if every source succeeded.
-
 -- Names: `links_where`: in a whole run the link claims or starts something exactly if every source succeeded.
 
 -- when the link runs

@@ -2,8 +2,6 @@ use Rattle.drv_core.proofs.Laws.Status.{status_is}
 use Rattle.drv_core.proofs.law.status_law.Goals as goal
 use Rattle.std.proofs.Common.{sym}
 
--- status_law (src/law.rt). A law: the status of a whole run is 0 if all codes of its answers are 0.
-
 -- the lemma is the law, read the other way round
 pub returns : goal.returns
 returns c = λ plan N o events w failure. sym (status_is plan N o events failure w)

@@ -6,8 +6,6 @@ use Rattle.std.proofs.Common.{◌≡◌, ◌+◌, ◌∙◌, None, ap, add-zero,
 use Rattle.std.specs.Option.{option_to_list}
 use Rattle.std.specs.List.{sum_by}
 
--- events_needed (src/needed.rt). The most events that a run of this plan can have.
-
 -- Names: `job_events`: the most events of a run (this project's profile). `needed`: the most events of all jobs and of the link.
 
 -- without a link the jobs need what the plan needs

@@ -3,8 +3,6 @@ use Rattle.drv_core.proofs.needed.with_job.Goals as goal
 use Rattle.drv_core.specs.Needed.{job_events}
 use Rattle.std.proofs.Common.{◌+◌, ◌*◌, length}
 
--- with_job (src/needed.rt). The events so far plus those of one more job.
-
 -- four events for each command of each group
 pub returns : goal.returns
 returns c = all_counted (λ group. 4 * length group) c.as_slice-group-items.result.now c.loop-group.group-index c.loop-group.total

@@ -1,8 +1,6 @@
 use Rattle.drv_core.proofs.numbering.files_of.Goals as goal
 use Rattle.std.proofs.Common.{[]}
 
--- files_of (src/numbering.rt). The files of all jobs of a plan.
-
 -- to add all files to none notes them all
 pub returns : goal.returns
 returns c = (c.in_ok-add_all.ensures [] c.new-numbering.ensures).files_are

@@ -2,8 +2,6 @@ use Rattle.drv_core.proofs.Contracts.Runs.{advanced, few_at, is_ready, room_at, 
 use Rattle.drv_core.proofs.run.advance.Goals as goal
 use Rattle.std.proofs.Common.{◌∙◌, sym}
 
--- advance (src/run.rt). Takes the answer to the next step.
-
 -- Names: `is_ready`: what the code relies on. `advanced`: after an answer that fits, what is known of the run still holds. `few_at`: no
 -- count of claims is greater than the number of events.
 

@@ -1,8 +1,6 @@
 use Rattle.drv_core.proofs.Contracts.Runs.{turned_kept, turned_window}
 use Rattle.drv_core.proofs.run.turn.Goals as goal
 
--- turn (src/run.rt). Goes on with the chosen source.
-
 -- Names: `turned_kept`: after a choice, what is known of the run still holds. `turned_window`: after a choice, the window is the same.
 
 -- after a choice what is known of the run still holds

@@ -1,9 +1,6 @@
 use Rattle.drv_run.proofs.choosing.choose_ready.Given as goal
 use Rattle.std.proofs.Common.{◌≡◌, ◌≤◌}
 
--- The loops of choose_ready (src/choosing.rt). Has the first source go on, of those that may, whose next step is no wait for a child that
--- has not ended.
-
 -- to choose has changed no event and no setting of the run
 abbrev pub invariant-loop-choice : goal.invariant-loop-choice
 invariant-loop-choice g l = record {

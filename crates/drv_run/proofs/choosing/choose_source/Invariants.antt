@@ -2,9 +2,6 @@ use Rattle.drv_core.specs.Choices.{ChoicesAre}
 use Rattle.drv_run.proofs.choosing.choose_source.Given as goal
 use Rattle.std.proofs.Common.{◌≡◌, ◌≤◌}
 
--- The loops of choose_source (src/choosing.rt). Has a source go on that need not wait, where several may; where each would wait, the one
--- whose child is the first to end.
-
 -- each turn has as many choices, and has changed no event
 abbrev pub invariant-loop : goal.invariant-loop
 invariant-loop g l = record {

@@ -3,9 +3,6 @@ use Rattle.drv_run.proofs.deciding.load_along.Goals as goal
 use Rattle.drv_system.specs.Asking.{Extends}
 use Rattle.std.proofs.Common.{refl, rules}
 
--- load_along (src/deciding.rt). The specs of a line over a set, along the prefixes of its `-B`: what the files of `-specs=` make of it, in
--- the line's order.
-
 -- Names: `F`: what is known of the outside. `e`: that `F` extends the facts of this call. `known`: the clause's equation. `specs_loaded`:
 -- the specs of a line are what its files make of a set.
 

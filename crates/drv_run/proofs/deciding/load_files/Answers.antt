@@ -6,8 +6,6 @@ use Rattle.drv_system.proofs.AskedCalls.{asked_further}
 use Rattle.drv_system.proofs.Asking.{asks_extends, extends_then}
 use Rattle.std.proofs.Common.{refl}
 
--- load_files (src/deciding.rt). A set with files of specs loaded, in their order.
-
 -- Names: `F`: what is known of the outside. `e`: that `F` extends the facts of this call. `files_loaded`: a set after files of specs, in
 -- their order. `asked_further`: calls that only asked, one after another. `asks_extends`: a call that only asked keeps every answer.
 

@@ -5,8 +5,6 @@ use Rattle.drv_system.specs.Code.Asked.{Asked}
 use Rattle.drv_system.specs.Facts.{Facts}
 use Rattle.std.proofs.Common.{◌≡◌, drop}
 
--- The loops of load_files (src/deciding.rt). A set with files of specs loaded, in their order.
-
 -- the set so far, with the files that are left, gives what all files give; the call only asked
 abbrev pub invariant-loop-name : goal.invariant-loop-name
 invariant-loop-name g l = record {

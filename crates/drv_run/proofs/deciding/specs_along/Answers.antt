@@ -2,9 +2,6 @@ use Rattle.drv_run.proofs.Files.{builtin_given}
 use Rattle.drv_run.proofs.deciding.specs_along.Goals as goal
 use Rattle.std.proofs.Common.{refl}
 
--- specs_along (src/deciding.rt). The specs of a line, along the prefixes of its `-B`: the built-in ones, and what the files of `-specs=`
--- make of them.
-
 -- Names: `F`: what is known of the outside. `e`: that `F` extends the facts of this call. `known`: the clause's equation. `builtin_given`:
 -- the specs of a line are those over the built-in set.
 

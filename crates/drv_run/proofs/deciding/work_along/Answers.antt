@@ -4,9 +4,6 @@ use Rattle.drv_run.proofs.Steps.{work_dumped, work_planned, work_refused}
 use Rattle.drv_run.proofs.deciding.work_along.Goals as goal
 use Rattle.drv_run.specs.Drives.{work_of}
 
--- work_along (src/deciding.rt). What a line with these specs asks for, along the prefixes of its `-B`: their dump, or its plan with what is
--- done with it (GCC manual, "Overall Options", `-dumpspecs` and `-###`).
-
 -- Names: `F`: what is known of the outside. `e`: that `F` extends the facts of this call. `known`: the clause's equation. `refusal_given`:
 -- a refusal of a step is that of the call. `work_planned`: without -dumpspecs the work is that of the plan. `work_refused`: without
 -- -dumpspecs the plan's refusal is the work's.

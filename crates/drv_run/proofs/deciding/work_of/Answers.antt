@@ -3,8 +3,6 @@ use Rattle.drv_search.specs.Search.{prefixes_of}
 use Rattle.drv_system.proofs.Asking.{asks_extends, extends_then}
 use Rattle.std.proofs.Common.{◌∙◌, ap, sym}
 
--- work_of (src/deciding.rt). What a line with these specs asks for, as `work_along` gives it.
-
 -- Names: `F`: what is known of the outside. `e`: that `F` extends the facts of this call. `prefixes_of`: the prefixes of a line with these
 -- -B. `asks_extends`: a call that only asked keeps every answer.
 

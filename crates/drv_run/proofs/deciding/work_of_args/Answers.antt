@@ -3,9 +3,6 @@ use Rattle.drv_run.proofs.Steps.{ended_as}
 use Rattle.drv_run.proofs.deciding.work_of_args.Goals as goal
 use Rattle.drv_system.proofs.Asking.{asks_extends}
 
--- work_of_args (src/deciding.rt). What arguments ask for: the words of the line read, spec files loaded, and then the dump of the specs, or
--- the plan of the line with what is done with it.
-
 -- Names: `F`: what is known of the outside. `e`: that `F` extends the facts of this call. `line_asks`: what a line asks for its arguments
 -- ask for. `ended_as`: a call that ends without work.
 

@@ -5,8 +5,6 @@ use Rattle.drv_system.proofs.AskedCalls.{asked_further, extends_before}
 use Rattle.drv_system.proofs.Asking.{asks_extends, extends_then}
 use Rattle.std.proofs.Common.{refl}
 
--- work_of_line (src/deciding.rt). What a line asks for: its spec files are loaded first.
-
 -- a spec file is refused: the call ends so
 pub returns-in_err-set-clause-comes : goal.returns-in_err-set-clause-comes
 returns-in_err-set-clause-comes g c F e args words gives reads =

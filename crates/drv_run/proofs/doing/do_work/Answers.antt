@@ -1,8 +1,6 @@
 use Rattle.drv_run.proofs.Tellings.{no_pipe_after_dump, no_pipe_after_shown}
 use Rattle.drv_run.proofs.doing.do_work.Goals as goal
 
--- do_work (src/doing.rt). Does a work, by a program of this name, and answers the exit status.
-
 -- Names: `no_pipe_after_dump`: where no pipe was pending, none is after a dump. `no_pipe_after_shown`: where no pipe was pending, none is
 -- after a plan that is shown.
 

@@ -3,8 +3,6 @@ use Rattle.drv_run.proofs.doing.run_plan.Goals as goal
 use Rattle.drv_run.specs.Executed.{Executed}
 use Rattle.std.proofs.Common.{subst}
 
--- run_plan (src/doing.rt). Says the notices of a plan, and its commands if they are asked for, carries it out, and answers the exit status.
-
 -- Names: `no_pipe_after_announced`: where no pipe was pending, none is after what is said of a plan. `no_pipe_after_texts`: where no pipe
 -- was pending, none is after texts. `plan_carried_out`: the texts, and then the run, are the plan carried out.
 

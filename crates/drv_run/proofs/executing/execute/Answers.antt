@@ -6,9 +6,6 @@ use Rattle.drv_system.specs.Running.{run_of}
 use Rattle.drv_words.specs.Stepping.{can_make, fits}
 use Rattle.std.proofs.Common.{◌≡◌, subst, sym, true}
 
--- execute (src/executing.rt). Carries out a plan, with at most `window` of its sources under way at once, and gives the exit status: 0, or
--- that of a failure where a command failed or something was not made or started.
-
 -- Names: `fits`: whether an answer fits the step after these events. `can_after`: a step that can be made in the run alone can be made
 -- after the journal. `closed_after`: a run that leaves no pipe pending leaves none after both.
 

@@ -3,9 +3,6 @@ use Rattle.drv_run.proofs.executing.execute.Given as goal
 use Rattle.drv_system.specs.declared.event.Event.TheVariants.{Run}
 use Rattle.std.proofs.Common.{◌≡◌, ◌≤◌, ◌+◌, ◌-◌, ◌++◌, length, map}
 
--- The loops of execute (src/executing.rt). Carries out a plan, with at most `window` of its sources under way at once, and gives the exit
--- status: 0, or that of a failure where a command failed or something was not made or started.
-
 -- the journal has the events of the run so far, and there is room for all that can come
 abbrev pub invariant-loop-status : goal.invariant-loop-status
 invariant-loop-status g l = record {

@@ -2,8 +2,6 @@ use Rattle.drv_run.proofs.LineWords.{expansion_stops, front_stops, words_given}
 use Rattle.drv_run.proofs.fronting.words_of.Goals as goal
 use Rattle.drv_run.specs.Code.Fronting.{is_of_c99}
 
--- words_of (src/fronting.rt). The words that arguments give.
-
 -- Names: `F`: what is known of the outside. `e`: that `F` extends the facts of this call. `is_of_c99`: whether a call is of c99.
 -- `expansion_stops`: where a response file can't be expanded, there are no words. `front_stops`: where the front of c99 refuses, there are
 -- none.

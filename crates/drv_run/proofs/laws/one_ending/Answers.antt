@@ -1,8 +1,6 @@
 use Rattle.drv_run.proofs.OneEnding.{driven_alone, driven_once, refused_for_one}
 use Rattle.drv_run.proofs.laws.one_ending.Goals as goal
 
--- one_ending (src/laws.rt). A law: arguments ask for one work, or they are refused for one reason, and never both.
-
 -- Names: `driven_alone`: arguments that ask for a work are not refused. `driven_once`: arguments ask for one work, and no other.
 
 pub returns-clause-driven : goal.returns-clause-driven

@@ -5,8 +5,6 @@ use Rattle.drv_run.specs.Drives.{stopped_by_args}
 use Rattle.drv_system.proofs.Asking.{extends_refl}
 use Rattle.std.proofs.Common.{Err, refl}
 
--- line_of_args (src/reading.rt). The line of arguments.
-
 -- Names: `F`: what is known of the outside. `e`: that `F` extends the facts of this call. `stopped_by_args`: how a step's fault ends the
 -- call. `ends_unread`: a call that ends so without a line. `line_stops`: a call that ends without a line ends so whatever its seed.
 

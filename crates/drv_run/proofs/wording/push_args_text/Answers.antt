@@ -1,7 +1,5 @@
 use Rattle.drv_run.proofs.wording.push_args_text.Goals as goal
 
--- push_args_text (src/wording.rt). Adds the text of a fault of the arguments.
-
 pub returns-in-Memory : goal.returns-in-Memory
 returns-in-Memory c = rw c.in-Memory.is c.extend_from_slice.ensures.ok
 

@@ -1,7 +1,5 @@
 use Rattle.drv_run.proofs.wording.push_funcs_text.Goals as goal
 
--- push_funcs_text (src/wording.rt). Adds the text of a fault of a function.
-
 pub returns-in-WrongCount : goal.returns-in-WrongCount
 returns-in-WrongCount c = rw (c.in-WrongCount.is, ← c.name.ensures) c.push_both.ensures
 

@@ -1,7 +1,5 @@
 use Rattle.drv_run.proofs.wording.push_specs_text.Goals as goal
 
--- push_specs_text (src/wording.rt). Adds the text of a fault of spec files.
-
 pub returns-in-TrailingBackslash : goal.returns-in-TrailingBackslash
 returns-in-TrailingBackslash c = rw c.in-TrailingBackslash.is c.push_around-in-TrailingBackslash.ensures
 

@@ -2,8 +2,6 @@ use Rattle.rectool.proofs.Calls.{accepted, refused}
 use Rattle.rectool.proofs.call.code_of.Goals as goal
 use Rattle.std.proofs.Common.{sym, ◌∙◌}
 
--- code_of (src/call.rt). The status of these digits, if all bytes are digits and the number is at most 255.
-
 -- Names: `accepted`: so the code's loop ends with the status of all digits. `refused`: the digits that are left decide that there is no
 -- code.
 

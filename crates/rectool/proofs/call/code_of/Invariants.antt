@@ -2,8 +2,6 @@ use Rattle.rectool.proofs.call.code_of.Given as goal
 use Rattle.rectool.specs.Call.{code_after}
 use Rattle.std.proofs.Common.{◌≡◌, ◌<◌, drop}
 
--- The loops of code_of (src/call.rt). The status of these digits, if all bytes are digits and the number is at most 255.
-
 -- the number so far, with the digits that are left, gives what all digits give
 abbrev pub invariant-loop-digit : goal.invariant-loop-digit
 invariant-loop-digit l = record {

@@ -3,8 +3,6 @@ use Rattle.rectool.specs.Call.{after_output, file_named, output_file}
 use Rattle.std.proofs.Common.{◌≡◌, Some, drop}
 use Rattle.std.specs.Option.{option_copied, option_or}
 
--- The loops of output_file (src/call.rt). The file after the last `-o`.
-
 -- the last file of the words that are left, or else the one so far, is that of all words
 abbrev pub invariant-loop-index : goal.invariant-loop-index
 invariant-loop-index l = file_named (option_or (after_output (drop l.index l.operands)) (Some (option_copied l.following)))

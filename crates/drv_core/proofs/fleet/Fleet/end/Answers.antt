@@ -3,8 +3,6 @@ use Rattle.std.proofs.Common.{◌≡◌, nat_eq, not, refl, rules}
 use Rattle.std.proofs.lemmas.Fn.{filter_same}
 use Rattle.std.specs.List.{filter}
 
--- end (src/fleet.rt). The source in progress has ended.
-
 -- the source is no longer among those that have begun, and the count is one less
 pub returns : goal.returns
 returns c =

@@ -9,8 +9,6 @@ use Rattle.std.specs.List.{filter}
 use Rattle.std.specs.Prelude.{unwrap_or}
 use Rattle.std.specs.Slice.Iter.{iter_rest}
 
--- nth_going (src/fleet.rt). The source of this number among those that have begun and may go on, or else the next one that begins.
-
 -- Names: `may_go`: a source that has begun may go on. `fleet_of`: the code's sources.
 
 -- the code's filter yields what the definition's does, and the choice is an index of it

@@ -3,8 +3,6 @@ use Rattle.drv_core.proofs.fleet.Fleet.select.Goals as goal
 use Rattle.drv_core.specs.Code.FleetView.{fleet_of}
 use Rattle.std.proofs.Common.{◌∙◌, ap}
 
--- select (src/fleet.rt). Goes on with the source of this number among those that may.
-
 -- the source of this number goes on, and nothing else changes
 pub returns : goal.returns
 returns c = ap (λ n. record (fleet_of c.args.self.now) { current = n })

@@ -5,8 +5,6 @@ use Rattle.drv_core.specs.Code.FleetView.{fleet_of}
 use Rattle.drv_words.specs.Places.{no_job}
 use Rattle.std.proofs.Common.{get_or}
 
--- take (src/fleet.rt). Takes the answer to the next step.
-
 -- Names: `fleet_of`: the code's sources. `worked`: the current source takes an answer.
 
 -- the source is inside a block, and stays in progress

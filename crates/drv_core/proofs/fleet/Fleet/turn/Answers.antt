@@ -3,8 +3,6 @@ use Rattle.drv_core.specs.Code.Fleet.{chosen, closed}
 use Rattle.drv_core.specs.Code.FleetView.{fleet_of}
 use Rattle.std.proofs.Common.{ap, ◌∙◌}
 
--- turn (src/fleet.rt). Ends a block of the source in progress, and lets a source go on that may.
-
 -- the block is closed, and the first source that may goes on
 pub returns : goal.returns
 returns c = ap (λ n. record (fleet_of c.close.new.self) { current = n }) c.nth_going-self.ensures

@@ -7,8 +7,6 @@ use Rattle.drv_words.specs.Places.{no_job}
 use Rattle.std.proofs.Common.{ap, ◌∙◌, get_or}
 use Rattle.std.proofs.lemmas.List.{get_or_read}
 
--- work (src/fleet.rt). The source in progress takes the answer.
-
 -- Names: `no_job`: a job that has nothing to do. `worked_is`: the code's source takes the answer as the definition's does.
 
 -- only the source in progress changes, as `after` says

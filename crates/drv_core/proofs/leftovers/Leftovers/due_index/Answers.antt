@@ -5,8 +5,6 @@ use Rattle.drv_core.specs.Code.Leftovers.{due_index}
 use Rattle.std.proofs.Common.{◌+◌, ◌-◌, ◌∙◌, ap, drop, length, take}
 use Rattle.std.specs.Prelude.{unwrap_or}
 
--- due_index (src/leftovers.rt). The number of the next file to be removed, from this one on.
-
 -- Names: `due_index`: the index of the first file that is due. `all_left`: the slice from i on with all that is left is the rest of the
 -- list.
 

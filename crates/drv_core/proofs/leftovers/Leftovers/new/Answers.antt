@@ -2,8 +2,6 @@ use Rattle.drv_core.proofs.Paths.Notes.{fresh_made}
 use Rattle.drv_core.proofs.leftovers.Leftovers.new.Goals as goal
 use Rattle.std.proofs.Common.{◌∙◌, length}
 
--- new (src/leftovers.rt). The files before the run: nothing was claimed or removed.
-
 -- Names: `fresh_made`: the record that the code makes is the one before the first event.
 
 -- the record of the code shows the files before the first event

@@ -4,8 +4,6 @@ use Rattle.drv_core.specs.Code.LeftoverView.{leftovers_of}
 use Rattle.drv_core.specs.Code.Leftovers.{due_index}
 use Rattle.std.proofs.Common.{◌∙◌, ap}
 
--- seek (src/leftovers.rt). Goes to the next file to be removed, from this number on, or past the last file.
-
 -- Names: `drop_lefts`: the rest of the code's list. `due_index`: the index of the first file that is due.
 
 -- the place that the search found is the definition's

@@ -4,8 +4,6 @@ use Rattle.drv_core.specs.Code.LeftoverFiles.{all_files, files_from, job_files}
 use Rattle.drv_core.specs.Code.NumberingView.{IsNoted}
 use Rattle.std.proofs.Common.{◌≡◌, ◌++◌, ◌∙◌, OnOk, ap, append_assoc, subst}
 
--- add_all (src/numbering.rt). Adds the files of all jobs.
-
 -- Names: `files_from`: the files of the jobs from number k on. `job_files`: the files of a job that makes calls. `all_none`: without a link
 -- all leftover files are those of the sources.
 

@@ -3,8 +3,6 @@ use Rattle.drv_core.proofs.numbering.Numbering.add_file.Goals as goal
 use Rattle.drv_core.specs.Code.Numbering.{number_in}
 use Rattle.std.proofs.Common.{◌∙◌}
 
--- add_file (src/numbering.rt). Adds a file with the number of the first file of its path.
-
 -- Names: `number_in`: the number of a path, looked up among keys that show a path. `noted_file`: one more file is noted, in the code's own
 -- list.
 

@@ -4,8 +4,6 @@ use Rattle.drv_core.specs.Outcomes.{marked_files}
 use Rattle.drv_words.specs.declared.steps.Place.TheVariants as place
 use Rattle.std.proofs.Common.{[], ◌∷◌, refl}
 
--- add_marked (src/numbering.rt). Adds the marked files of a job.
-
 -- Names: `place`, `path`: the fields of `File` (specs/Outcomes). `marked_files`: the marked files of job k, from number i on. `noting_all`:
 -- after the last item all its files are noted.
 

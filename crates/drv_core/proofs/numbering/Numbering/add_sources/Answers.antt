@@ -3,8 +3,6 @@ use Rattle.drv_core.proofs.numbering.Numbering.add_sources.Goals as goal
 use Rattle.drv_core.specs.Code.LeftoverFiles.{files_from, job_files}
 use Rattle.std.proofs.Common.{refl}
 
--- add_sources (src/numbering.rt). Adds the files of the sources.
-
 -- Names: `files_from`: the files of the jobs from number k on. `noting_all`: after the last item all its files are noted.
 
 -- before the first one no file is added, and all are left

@@ -4,8 +4,6 @@ use Rattle.drv_core.specs.Code.LeftoverFiles.{temp_files}
 use Rattle.drv_words.specs.declared.steps.Place.TheVariants as place
 use Rattle.std.proofs.Common.{[], ◌∷◌, refl}
 
--- add_temps (src/numbering.rt). Adds the temporaries of a job.
-
 -- Names: `place`, `path`: the fields of `File` (specs/Outcomes). `temp_files`: the temporaries of job k, from number i on. `noting_all`:
 -- after the last item all its files are noted.
 

@@ -5,8 +5,6 @@ use Rattle.std.proofs.Common.{ap, nat_eq}
 use Rattle.std.specs.Cmp.Lexicographic.{pointwise}
 use Rattle.std.specs.Map.{lookup}
 
--- new (src/numbering.rt). No file.
-
 -- no file is noted, and no path has a number
 pub returns : goal.returns
 returns c = noted_none c.new.result.items (number_in c.new-2.result.entries (λ k. k.now)) c.new.ensures.items

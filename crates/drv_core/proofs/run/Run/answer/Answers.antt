@@ -1,8 +1,6 @@
 use Rattle.drv_core.proofs.Contracts.Runs.{answered, answered_first}
 use Rattle.drv_core.proofs.run.Run.answer.Goals as goal
 
--- answer (src/run.rt). Takes the answer to the step of `next`.
-
 -- Names: `answered`: the clause of `answer`. `answered_first`: after an answer, without a choice, the next step is of the first source that
 -- may go on.
 

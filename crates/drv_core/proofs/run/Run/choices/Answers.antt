@@ -1,9 +1,6 @@
 use Rattle.drv_core.proofs.Contracts.Runs.{choices_told}
 use Rattle.drv_core.proofs.run.Run.choices.Goals as goal
 
--- choices (src/run.rt). How many sources may go on, if the events so far are whole blocks of the sources and a source has more to do;
--- otherwise 1.
-
 -- the code counts the sources that may go on, or one
 pub returns : goal.returns
 returns c = choices_told c.self.inside.plan.now c.self.inside.pass_codes c.self.inside.work c.args.self.now c.choices.result

@@ -1,8 +1,6 @@
 use Rattle.drv_core.proofs.Contracts.Runs.{choice_of, turned_elsewhere, turned_events, turned_next}
 use Rattle.drv_core.proofs.run.Run.choose.Goals as goal
 
--- choose (src/run.rt). Takes the next block from the source of this number among those that may go on, counted from 0 in plan order.
-
 -- Names: `choice_of`: a choice of the run that a caller sees is one of the code's. `turned_elsewhere`: the clause of `choose`.
 
 -- a choice that the caller may make is one of the code's

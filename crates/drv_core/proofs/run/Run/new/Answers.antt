@@ -5,8 +5,6 @@ use Rattle.drv_core.specs.Code.Starting.{fresh_run}
 use Rattle.std.proofs.Common.{◌≡◌, ◌∙◌, ap}
 use Rattle.std.specs.Vec.{vec_capacity}
 
--- new (src/run.rt). The run before its first step.
-
 -- Names: `begun`: at the beginning the same is known, and the window is the one given. `fresh_run`: the run before its first step.
 -- `begun_first`: the first step of a run.
 

@@ -1,8 +1,6 @@
 use Rattle.drv_core.proofs.Contracts.Runs.{knows}
 use Rattle.drv_core.proofs.run.Run.next.Goals as goal
 
--- next (src/run.rt). The next step, or the status if the run is whole.
-
 -- Names: `knows`: the clauses of `next`, of a run of the code that a caller sees as r.
 
 -- all clauses are fields of `knows`; here: the events so far are the beginning of a whole run

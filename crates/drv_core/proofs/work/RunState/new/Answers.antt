@@ -6,8 +6,6 @@ use Rattle.drv_core.specs.Code.Starting.{first_run}
 use Rattle.std.proofs.Common.{◌≡◌, ◌≤◌, ◌∙◌, ap, subst, sym}
 use Rattle.std.specs.Vec.{vec_capacity}
 
--- new (src/work.rt). A run before its first step.
-
 -- Names: `flown`: after a step of the sources. `fresh_matches`: at the beginning of a run the code and the course are at the same place.
 
 -- the room for events stays the same

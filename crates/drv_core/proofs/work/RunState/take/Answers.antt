@@ -4,8 +4,6 @@ use Rattle.drv_core.specs.Code.Course.{Sources}
 use Rattle.drv_core.specs.Code.RunStateView.{phase_of, run_state_of}
 use Rattle.std.proofs.Common.{ap}
 
--- take (src/work.rt). Takes the answer to the next step.
-
 -- Names: `run_state_of`: the code's run. `in_part`: the code's function for a phase moves on as the definition does in that phase.
 
 -- in the phase of the sources the code moves on as the definition does

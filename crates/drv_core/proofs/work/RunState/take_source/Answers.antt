@@ -5,8 +5,6 @@ use Rattle.drv_core.specs.Code.RunState.{flown}
 use Rattle.drv_core.specs.Code.RunStateView.{run_state_of}
 use Rattle.std.proofs.Common.{◌∙◌, ap}
 
--- take_source (src/work.rt). The source in progress takes an answer.
-
 -- the fleet takes the answer, and the run leaves the sources if they have ended
 pub returns : goal.returns
 returns c = c.leave_sources.ensures ∙ ap (λ f. flown (record (run_state_of c.args.self.now) { fleet = f }))
