@@ -8,7 +8,6 @@ mod Joined
 mod Left
 mod Lines
 mod LinkLeading
-mod Lists
 mod LongNames
 mod MacroWords
 mod NoChecks

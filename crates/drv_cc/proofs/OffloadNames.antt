@@ -1,21 +1,30 @@
 use Rattle.drv_cc.specs.Children.{before_equals}
 use Rattle.drv_words.specs.Bytes.{equals}
-use Rattle.std.proofs.Common.{◌≡◌, ◌-◌, ◌==◌, ◌≤◌, ◌∙◌, List, [], ◌∷◌, ◌++◌, ap, append_assoc, arith, drop, false, get_or, if◌then◌else◌}
-use Rattle.std.proofs.Common.{length, sym, take, ℕ}
+use Rattle.std.proofs.Common.{◌≡◌, ◌==◌, ◌≤◌, ◌∙◌, Bool, List, None, Some, ap, arith, cond, false, length, nat_lt, refl, sym, take, true, ℕ}
+use Rattle.std.proofs.lemmas.Bool.Decides.{nat_tests}
 use Rattle.std.proofs.lemmas.List.{take_all}
+use Rattle.std.specs.List.{position, position_or_len}
 
--- For the names of targets (src/targets.rt): the step of the loop that looks for the first `=`.
--- Names: `left` is what is left of the argument. `text` is what precedes it, and `whole` all that precedes the `=`. `b` is the first byte that
--- is left, and `d` what a look-up gives where there is none.
+-- For the names of targets (src/targets.rt): an argument is cut at its first `=`.
+-- Names: `text` is the argument, `i` a place in it, and `before text` how many bytes precede its first `=`.
 
--- a byte before the `=` is one of the text
-pub byte_before : (left text whole : List ℕ) (b d : ℕ) → 1 ≤ length left → b ≡ get_or left 0 d → (b == equals) ≡ false
-    → text ++ before_equals left ≡ whole
-    → (text ++ (b ∷ [])) ++ before_equals (take (length left - 1) (drop 1 left)) ≡ whole
-byte_before [] text whole b d some first goes before = absurd (omega (arith, some))
-byte_before (c ∷ rest) text whole b d some first goes before =
-    append_assoc text (b ∷ []) (before_equals (take (length (c ∷ rest) - 1) rest))
-    ∙ ap (λ l. text ++ (b ∷ before_equals l)) (take_all (length (c ∷ rest) - 1) rest (omega arith))
-    ∙ ap (λ x. text ++ (x ∷ before_equals rest)) first
-    ∙ ap (λ t. text ++ (if t then [] else c ∷ before_equals rest)) (sym goes ∙ ap (λ x. x == equals) first)
-    ∙ before
+-- how many bytes precede the first `=`
+abbrev before : List ℕ → ℕ
+before text = position_or_len (λ b. b == equals) text
+
+-- if std's search finds a place, then what precedes it precedes the first `=`
+pub names_at : (text : List ℕ) (i : ℕ) → position (λ b. b == equals) text ≡ Some i → take i text ≡ before_equals text
+names_at text i is = ap (λ n. take n text) (by (nat_lt (before text) (length text)) is)
+  where
+    by : (below : Bool) → cond below (Some (before text)) None ≡ Some i → i ≡ before text
+    by true e = cc
+    by false e = absurd cc
+
+-- if it finds none, then the whole text does
+pub names_whole : (text : List ℕ) → position (λ b. b == equals) text ≡ None → text ≡ before_equals text
+names_whole text none = sym (take_all (before text) text (by (nat_lt (before text) (length text)) refl none))
+  where
+    by : (below : Bool) → nat_lt (before text) (length text) ≡ below → cond below (Some (before text)) None ≡ None
+        → length text ≤ before text
+    by true is e = absurd cc
+    by false is e = grind (arith, nat_tests, is)

@@ -5,9 +5,9 @@ use Rattle.drv_cc.specs.Table.{texts}
 use Rattle.drv_cc.specs.declared.item.Item.{Item}
 use Rattle.drv_words.specs.Bytes.{colon, comma, equals, tab}
 use Rattle.drv_words.specs.FileNames.{split_at_last}
-use Rattle.std.specs.List.{ends_with, filter, flat_map, list_any, slice_split}
+use Rattle.std.specs.List.{ends_with, filter, flat_map, list_any, position_or_len, slice_split}
 use Rattle.std.specs.Prelude.{◌==◌, ◌&&◌, ◌||◌, Bool, List, [], ◌∷◌, ◌++◌, None, Option, Some, codes, drop, false, if◌then◌else◌, length}
-use Rattle.std.specs.Prelude.{nat_eq, not, ℕ}
+use Rattle.std.specs.Prelude.{nat_eq, not, take, ℕ}
 
 -- What a compiler gives its children beside the switches of the line, by the lines `child` of the file that names it (GCC, "gcc.cc"). Each
 -- line has three parts, with a tab between two: the option that the line of gcc must have, if one; those by which it leaves the rest out,
@@ -55,8 +55,7 @@ given_text i = if same i.name (codes "-B") then folder_text i.argument else []
 
 -- what precedes the first =
 abbrev pub before_equals : List ℕ → List ℕ
-before_equals [] = []
-before_equals (b ∷ rest) = if b == equals then [] else b ∷ before_equals rest
+before_equals argument = take (position_or_len (λ b. b == equals) argument) argument
 
 -- how an item begins that says something of offloading
 abbrev pub offloading : List ℕ

@@ -1,4 +1,4 @@
-use Rattle.drv_cc.specs.Table.{OptionRow, ignored, renames, rings, table, texts, unpaired}
+use Rattle.drv_cc.specs.Table.{OptionRow, classes, ignored, renames, table, texts}
 use Rattle.drv_cc.specs.declared.item.Item.{Item}
 use Rattle.drv_cc.specs.declared.table.Spelling.TheVariants.{Alone, Joined, Nowhere, Separate}
 use Rattle.drv_cc.specs.declared.table.Spelling.{Spelling}
@@ -9,6 +9,7 @@ use Rattle.drv_cc.specs.declared.table.Takes.{Takes}
 use Rattle.drv_words.specs.Bytes.{equals, hyphen, newline, space}
 use Rattle.std.specs.Cmp.Lexicographic.{pointwise}
 use Rattle.std.specs.List.{ends_with, list_all, list_any, position_or_len, slice_split, starts_with}
+use Rattle.std.specs.Option.{option_map, unwrap_or}
 use Rattle.std.specs.Prelude.{◌==◌, ◌&&◌, ◌||◌, Bool, List, [], ◌∷◌, ◌++◌, None, Option, Some, codes, drop, false, find, if◌then◌else◌}
 use Rattle.std.specs.Prelude.{length, nat_eq, nat_lt, not, take, true, ℕ}
 
@@ -27,7 +28,7 @@ begins beginning word = starts_with nat_eq word beginning
 abbrev pub is_among : List (List ℕ) → List ℕ → Bool
 is_among names name = list_any (same name) names
 
--- Classes: of each one the last item of the line stays. A class is the text of its ring, or the option; no text is no class.
+-- Classes: of each one the last item of the line stays. A class is named by one of its options; no text is no class.
 
 -- the positive form of an option: -Wno-X is of the class -WX
 abbrev pub positive_form : List ℕ → List ℕ
@@ -43,24 +44,22 @@ has_two_signs word = false
 abbrev pub class_alone : List ℕ → List ℕ
 class_alone name =
     if not (has_two_signs name) then []
-    else if list_any (nat_eq equals) name then []
-    else if is_among (texts unpaired) name then [] else positive_form name
+    else if list_any (nat_eq equals) name then [] else positive_form name
 
--- the class of a name by its spelling, apart from the rings: an option with an argument is of none
+-- the class of a name by its spelling, where the list has none for it: an option with an argument is of none
 abbrev pub class_by : Spelling → List ℕ → List ℕ
 class_by Alone name = class_alone name
 class_by Joined name = []
 class_by Separate name = []
 class_by Nowhere name = []
 
--- the class of an option that a ring may have: the ring takes the place of its own
-abbrev pub ring_or : List ℕ → Option (List ℕ) → List ℕ
-ring_or class None = class
-ring_or class (Some ring) = ring
+-- the class that a list of options with their classes has for an option
+abbrev pub class_in : List (List ℕ × List ℕ) → List ℕ → Option (List ℕ)
+class_in rows name = option_map (λ row. row.1) (find (λ row. same name row.0) rows)
 
--- the class of an option, by which a later one on the line takes it back
+-- the class of an option, by which a later one on the line takes it back: that of the list goes before the one by its spelling
 abbrev pub class_of : Spelling → List ℕ → List ℕ
-class_of spelling name = ring_or (class_by spelling name) (find (λ ring. is_among (texts ring) name) rings)
+class_of spelling name = unwrap_or (class_in classes name) (class_by spelling name)
 
 -- Items.
 
@@ -225,7 +224,7 @@ turns_off known word = begins (codes "-Wno-") word && (not (list_any (nat_eq equ
 
 -- an option that newer compilers ignore, or whose other sign they do
 abbrev pub is_passed_over : List ℕ → Bool
-is_passed_over name = is_among (texts ignored) (positive_form name)
+is_passed_over name = is_among ignored (positive_form name)
 
 -- whether names of options say that this compiler lacks such an option: among those it has a mark
 abbrev pub lacks : List ℕ → List ℕ → Bool

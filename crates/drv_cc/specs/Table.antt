@@ -1,3 +1,4 @@
+use Rattle.drv_cc.specs.declared.lists.TheConstants.{CLASSES, IGNORED}
 use Rattle.drv_cc.specs.declared.table.Spelling.TheVariants.{Alone, Joined, Nowhere, Separate}
 use Rattle.drv_cc.specs.declared.table.Spelling.{Spelling}
 use Rattle.drv_cc.specs.declared.table.Role.TheVariants.{Library, Piece, Question, Refused, Switch, Tells}
@@ -258,43 +259,10 @@ renames =
     (codes "--debug=", codes "-g") ∷ (codes "--machine-", codes "-m") ∷ (codes "--machine=", codes "-m") ∷ (codes "--optimize=", codes "-O")
     ∷ (codes "--std=", codes "-std=") ∷ (codes "--warn-", codes "-W") ∷ (codes "--", codes "-f") ∷ []
 
--- options that gcc 12 takes and does nothing for, in both signs; an older one may do something
-unfoldable pub ignored : List ℕ
-ignored =
-    codes "-Wargument-mismatch -Wchkp -Whsa -Wimport -Wmudflap -Wunreachable-code -Wunsafe-loop-optimizations -fall-virtual "
-    ++ codes "-falt-external-templates -fargument-alias -fargument-noalias -fargument-noalias-anything -fargument-noalias-global "
-    ++ codes "-fbranch-target-load-optimize -fbranch-target-load-optimize2 -fbtr-bb-exclusive -fcheck-data-deps "
-    ++ codes "-fcheck-pointer-bounds -fchkp-check-incomplete-type -fchkp-check-read -fchkp-check-write "
-    ++ codes "-fchkp-first-field-has-own-bounds -fchkp-flexible-struct-trailing-arrays -fchkp-instrument-calls "
-    ++ codes "-fchkp-instrument-marked-only -fchkp-narrow-bounds -fchkp-narrow-to-innermost-array -fchkp-optimize "
-    ++ codes "-fchkp-store-bounds -fchkp-treat-zero-dynamic-size-as-infinite -fchkp-use-fast-string-functions "
-    ++ codes "-fchkp-use-nochk-string-functions -fchkp-use-static-bounds -fchkp-use-static-const-bounds -fchkp-use-wrappers "
-    ++ codes "-fchkp-zero-input-bounds-for-main -fcilkplus -fconserve-space -fcse-skip-blocks -fdeduce-init-list -fdefault-inline "
-    ++ codes "-fdump-core -feliminate-dwarf2-dups -fenum-int-equiv -fexternal-templates -ffor-scope -fforce-addr -ffriend-injection "
-    ++ codes "-fguiding-decls -fhonor-std -fhuge-objects -fipa-cp-alignment -fipa-matrix-reorg -fipa-struct-reorg -flabels-ok "
-    ++ codes "-floop-flatten -floop-optimize -flto-odr-type-merging -fmudflap -fmudflapir -fmudflapth -fname-mangling-version- "
-    ++ codes "-fnew-abi -fnonnull-objects -foptimize-register-move -foptional-diags -fregmove -frepo -frerun-loop-opt "
-    ++ codes "-fsched2-use-traces -fsee -fsquangle -fstrength-reduce -fstrict-prototype -fthis-is-variable "
-    ++ codes "-ftree-coalesce-inlined-vars -ftree-copyrename -ftree-loop-if-convert-stores -ftree-salias -ftree-store-ccp "
-    ++ codes "-ftree-store-copy-prop -ftree-vect-loop-version -funsafe-loop-optimizations -fvtable-gc -fvtable-thunks -fwhole-file "
-    ++ codes "-fxref -fzee -gcoff -gcoff1 -gcoff2 -gcoff3 -mmitigate-rop -mmpx -mpcommit"
+-- options that gcc 12 takes and does nothing for, in both signs (src/lists.rt)
+unfoldable pub ignored : List (List ℕ)
+ignored = map (λ name. name.now) IGNORED
 
--- of each ring the last option of the line counts (GCC Internals, "Option Properties", Negative)
-abbrev pub rings : List (List ℕ)
-rings =
-    codes "-pie -no-pie -static-pie -shared" ∷ codes "-fpic -fPIC -fpie -fPIE -fno-pic -fno-PIC -fno-pie -fno-PIE"
-    ∷ codes "-m32 -m64 -mx32 -m16"
-    ∷ codes "--sysroot=" ∷ codes "-march=" ∷ codes "-mtune=" ∷ codes "-mlong-double-64 -mlong-double-80 -mlong-double-128"
-    ∷ codes "-mbionic -mglibc -muclibc -mmusl"
-    ∷ codes "-fuse-ld=bfd -fuse-ld=gold -fuse-ld=lld -fuse-ld=mold" ∷ codes "-gpubnames -ggnu-pubnames -gno-pubnames" ∷ codes "-Qy -Qn"
-    ∷ codes "-fdiagnostics-color=always -fdiagnostics-color=never -fdiagnostics-color=auto" ∷ []
-
--- options without an opposite: neither -fno-X nor -fX takes the other back (GCC Internals, "Option Properties", RejectNegative)
-unfoldable pub unpaired : List ℕ
-unpaired =
-    codes "-g -g0 -g1 -g2 -g3 -ggdb -ggdb0 -ggdb1 -ggdb2 -ggdb3 -gdwarf -gdwarf-2 -gdwarf-3 -gdwarf-4 -gdwarf-5 -gstabs -gstabs+ "
-    ++ codes "-gbtf -gctf -gvms -gxcoff -gxcoff+ -gdwarf32 -gdwarf64 -gen-decls -fstack-protector-all -fstack-protector-explicit "
-    ++ codes "-fstack-protector-strong -fstack-usage -fcallgraph-info -fprofile-info-section -mred-zone -mno-red-zone -mhard-float "
-    ++ codes "-msse4 -mno-sse4 -mfancy-math-387 -mno-fancy-math-387 -mpc32 -mpc64 -mpc80 -mgeneral-regs-only -mno-push-args "
-    ++ codes "-m96bit-long-double -m128bit-long-double -malign-stringops -mno-align-stringops -mno-default -mdispatch-scheduler "
-    ++ codes "-mdump-tune-features -msseregparm"
+-- options with their classes, where it is not that of an option and its opposite (src/lists.rt)
+unfoldable pub classes : List (List ℕ × List ℕ)
+classes = map (λ row. (row.0.now, row.1.now)) CLASSES

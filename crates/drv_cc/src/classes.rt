@@ -1,14 +1,13 @@
 //! The class of an option, of which the last item of a line stays.
 
-ghost use Rattle.drv_cc.specs.Code.Groups.{list_key, ringed_shown, third};
-ghost use Rattle.drv_cc.specs.Items.{class_alone, class_by, class_of, has_two_signs, is_among};
-ghost use Rattle.drv_cc.specs.Items.{positive_form, same};
-ghost use Rattle.drv_cc.specs.Table.{ignored, rings, texts, unpaired};
+ghost use Rattle.drv_cc.specs.Items.{class_alone, class_by, class_in, class_of, has_two_signs};
+ghost use Rattle.drv_cc.specs.Items.{is_among, positive_form, same};
+ghost use Rattle.drv_cc.specs.Table.{classes, ignored, texts};
 ghost use Rattle.std.specs.Option.{option_map};
-ghost use Rattle.std.specs.Prelude.{◌≡◌, ◌<◌, ◌∷◌, IfOk, find, map, ℕ};
+ghost use Rattle.std.specs.Prelude.{◌≡◌, ◌∷◌, IfOk, map};
 
-use crate::name_groups::{Ringed, ignored_group, ringed_group, unpaired_group};
-use crate::table::{Spelling, byte_at, last_byte, third};
+use crate::lists::{CLASSES, IGNORED};
+use crate::table::{Spelling, last_byte};
 use drv_words::Word;
 use std::alloc::{AllocError, Global};
 
@@ -24,29 +23,11 @@ pub(crate) fn is_one_of(names: &[&[u8]], name: &[u8]) -> bool
     false
 }
 
-/// The number of the group of short lists that has this name, if a list has it.
-fn list_key(name: &[u8]) -> usize
-    ensures key { result ≡ list_key name.now }
-    ensures below { result < 16 }
-{
-    (usize::from(third(name)) + name.len() % 16) % 16
-}
-
-/// The same number, of a name of two bytes and this rest.
-#[tactic(auto, using(crate::proofs::Lists::joined_key))]
-fn list_key_joined(rest: &[u8]) -> usize
-    ensures key { (a b : ℕ) → result ≡ list_key (a ∷ b ∷ rest.now) }
-    ensures below { result < 16 }
-{
-    (usize::from(byte_at(rest, 0)) + (rest.len() + 2) % 16) % 16
-}
-
 /// Whether an option is passed over.
-#[tactic(auto, using(crate::proofs::Lists::among_ignored))]
 pub(crate) fn is_ignored(name: &[u8]) -> bool
-    ensures { result ≡ is_among (texts ignored) name.now }
+    ensures { result ≡ is_among ignored name.now }
 {
-    is_one_of(ignored_group(list_key(name)), name)
+    is_one_of(&IGNORED, name)
 }
 
 /// Whether a name begins with these two bytes and goes on so.
@@ -73,18 +54,9 @@ fn has_joined(names: &[&[u8]], hyphen: u8, letter: u8, rest: &[u8]) -> bool
 
 /// Whether an option is passed over that begins with these two bytes and goes on so.
 pub(crate) fn is_ignored_joined(hyphen: u8, letter: u8, rest: &[u8]) -> bool
-    ensures { result ≡ is_among (texts ignored) (hyphen ∷ letter ∷ rest.now) }
+    ensures { result ≡ is_among ignored (hyphen ∷ letter ∷ rest.now) }
 {
-    let names = ignored_group(list_key_joined(rest));
-    has_joined(names, hyphen, letter, rest)
-}
-
-/// Whether an option has no opposite: neither `-fno-X` nor `-fX` takes the other back (RejectNegative).
-#[tactic(auto, using(crate::proofs::Lists::among_unpaired))]
-fn is_unpaired(name: &[u8]) -> bool
-    ensures { result ≡ is_among (texts unpaired) name.now }
-{
-    is_one_of(unpaired_group(list_key(name)), name)
+    has_joined(&IGNORED, hyphen, letter, rest)
 }
 
 /// Whether a text has a name between blanks.
@@ -102,25 +74,24 @@ pub(crate) fn is(name: &[u8], other: &[u8]) -> bool
     name.len() == other.len() && last_byte(name) == last_byte(other) && name == other
 }
 
-/// The ring of a name among options of rings.
-fn ring_among(options: &'static [Ringed], name: &[u8]) -> Option<&'static [u8]>
-    ensures { option_map (λ ring. ring.now) result
-        ≡ option_map (λ r. r.1) (find (λ r. same name.now r.0) (map ringed_shown options.now)) }
+/// The class that a name has among options with their classes.
+fn class_among(rows: &[(&'static [u8], &'static [u8])], name: &[u8]) -> Option<&'static [u8]>
+    ensures { option_map (λ class. class.now) result
+        ≡ class_in (map (λ row. (row.0.now, row.1.now)) rows.now) name.now }
 {
-    for ringed in options {
-        if is(name, ringed.option) {
-            return Some(ringed.ring);
+    for row in rows {
+        if is(name, row.0) {
+            return Some(row.1);
         }
     }
     None
 }
 
-/// The ring that has a name.
-fn ring_of(name: &[u8]) -> Option<&'static [u8]>
-    ensures { option_map (λ ring. ring.now) result
-        ≡ find (λ ring. is_among (texts ring) name.now) rings }
+/// The class that a name has in the list.
+fn listed_class(name: &[u8]) -> Option<&'static [u8]>
+    ensures { option_map (λ class. class.now) result ≡ class_in classes name.now }
 {
-    ring_among(ringed_group(list_key(name)), name)
+    class_among(&CLASSES, name)
 }
 
 /// Whether an option's name is one with two signs.
@@ -148,13 +119,13 @@ pub(crate) fn positive_form(alloc: Global, name: &[u8]) -> Result<Word, AllocErr
 fn class_alone(alloc: Global, name: &[u8]) -> Result<Word, AllocError>
     ensures { IfOk result (λ word. word ≡ class_alone name.now) }
 {
-    if !has_two_signs(name) || name.contains(&b'=') || is_unpaired(name) {
+    if !has_two_signs(name) || name.contains(&b'=') {
         return Ok(Word::empty(alloc));
     }
     positive_form(alloc, name)
 }
 
-/// The class of an option that is in no ring.
+/// The class of an option that is not in the list.
 fn class_by(alloc: Global, spelling: Spelling, name: &[u8]) -> Result<Word, AllocError>
     ensures { IfOk result (λ word. word ≡ class_by spelling name.now) }
 {
@@ -168,8 +139,8 @@ fn class_by(alloc: Global, spelling: Spelling, name: &[u8]) -> Result<Word, Allo
 pub(crate) fn class_of(alloc: Global, spelling: Spelling, name: &[u8]) -> Result<Word, AllocError>
     ensures { IfOk result (λ word. word ≡ class_of spelling name.now) }
 {
-    match ring_of(name) {
-        Some(ring) => Word::from_bytes(alloc, ring),
+    match listed_class(name) {
+        Some(class) => Word::from_bytes(alloc, class),
         None => class_by(alloc, spelling, name),
     }
 }

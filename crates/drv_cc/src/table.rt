@@ -106,7 +106,7 @@ impl Takes {
 }
 
 /// The third byte of a word, or 0.
-pub(crate) fn third(word: &[u8]) -> u8
+fn third(word: &[u8]) -> u8
     ensures { result ≡ third word.now }
 {
     match word {
@@ -126,7 +126,7 @@ pub(crate) fn last_byte(word: &[u8]) -> u8
 }
 
 /// The byte at a place of a word, or 0.
-pub(crate) fn byte_at(word: &[u8], at: usize) -> u8
+fn byte_at(word: &[u8], at: usize) -> u8
     ensures { result ≡ get_or word.now at 0 }
 {
     match word.get(at) {

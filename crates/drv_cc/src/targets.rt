@@ -11,6 +11,7 @@ ghost use Rattle.std.specs.Prelude.{◌≡◌, ◌==◌, ◌||◌, ◌++◌, IfO
 
 use crate::classes::is;
 use crate::item::Item;
+use crate::places::first_place;
 use crate::reading::rest_after;
 use crate::words::add_joined;
 use crate::wrapping::add_pieces;
@@ -34,40 +35,33 @@ fn offload_argument(item: &Item) -> &[u8]
     rest_after(item.name.as_bytes(), OFFLOADING)
 }
 
-/// Adds what precedes the first `=`.
-#[tactic(auto, using(crate::proofs::OffloadNames::byte_before))]
-fn push_before_equals(argument: &[u8], text: &mut Word) -> Result<(), AllocError>
-    ensures { OnOk result (text.new ≡ text.old ++ before_equals argument.now) }
+/// What precedes the first `=`.
+#[tactic(auto, using(crate::proofs::OffloadNames::names_at, crate::proofs::OffloadNames::names_whole))]
+fn before_equals(argument: &[u8]) -> &[u8]
+    ensures { result.now ≡ before_equals argument.now }
 {
-    let mut left = argument;
-    while let [byte, rest @ ..] = left {
-        if *byte == b'=' {
-            return Ok(());
-        }
-        text.push(*byte)?;
-        left = rest;
+    match first_place(b'=', argument) {
+        Some(at) => &argument[..at],
+        None => argument,
     }
-    Ok(())
 }
 
 /// The part of an argument that has names.
-fn target_list(alloc: Global, argument: &[u8]) -> Result<Word, AllocError>
-    ensures { IfOk result (λ list. list ≡ target_list argument.now) }
+fn target_list(argument: &[u8]) -> &[u8]
+    ensures { result.now ≡ target_list argument.now }
 {
-    let mut list = Word::empty(alloc);
-    if !argument.starts_with(b"-") {
-        push_before_equals(argument, &mut list)?;
+    if argument.starts_with(b"-") {
+        return &[];
     }
-    Ok(list)
+    before_equals(argument)
 }
 
 /// The names in an argument.
 fn named_targets(alloc: Global, argument: &[u8]) -> Result<Listing<Word>, AllocError>
     ensures { IfOk result (λ names. names ≡ named_targets argument.now) }
 {
-    let list = target_list(alloc, argument)?;
     let mut names = Listing::new(alloc);
-    add_pieces(alloc, b"", list.as_bytes(), &mut names)?;
+    add_pieces(alloc, b"", target_list(argument), &mut names)?;
     Ok(names)
 }
 

@@ -3,8 +3,6 @@ use Rattle.drv_cc.specs.Code.Looking.{words_for}
 use Rattle.drv_cc.specs.Front.{library_words, named_folder}
 use Rattle.std.proofs.Common.{◌≡◌, ◌++◌, ◌∙◌, ap, sym}
 
--- add_folder (src/adding.rt). Adds the words for a folder of a path.
-
 -- Names: `words_for`: the words for a folder of a path, by what is looked for there. `library_words`: the word for a folder of
 -- LIBRARY_PATH.
 

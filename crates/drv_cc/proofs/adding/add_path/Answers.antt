@@ -10,8 +10,6 @@ use Rattle.std.proofs.lemmas.List.{map-append}
 use Rattle.std.specs.List.{flat_map}
 use Rattle.std.specs.Slice.Iter.{split_callee, split_done, split_rest}
 
--- add_path (src/adding.rt). Adds the words for each folder of a path, if that is set.
-
 pub loop-folder-init : goal.loop-folder-init
 loop-folder-init c = no_folder (words_for c.args.looked_for) c.args.words.now
 

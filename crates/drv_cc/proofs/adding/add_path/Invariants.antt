@@ -4,8 +4,6 @@ use Rattle.std.proofs.Common.{◌≡◌, ◌++◌, map}
 use Rattle.std.specs.List.{flat_map}
 use Rattle.drv_cc.proofs.adding.add_path.Given as goal
 
--- The loops of add_path (src/adding.rt). Adds the words for each folder of a path, if that is set.
-
 abbrev pub invariant-loop-folder : goal.invariant-loop-folder
 invariant-loop-folder l = l.words ≡ l.fn.words ++ flat_map (words_for l.looked_for)
     (map named_folder (map (λ folder. folder.now) l.yielded))

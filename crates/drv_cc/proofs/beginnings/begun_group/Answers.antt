@@ -3,8 +3,6 @@ use Rattle.drv_cc.specs.Code.Groups.{begun_at}
 use Rattle.drv_cc.specs.Table.{sections}
 use Rattle.std.proofs.Common.{◌≡◌, ap, arith, sym}
 
--- begun_group (src/beginnings.rt). The options of this key that a word begins with.
-
 -- Names: `begun_at`: the rows of beginnings in a group, in the table's order. `sections`: the options in sections.
 
 -- In the arm of each key the options of the group are found by computation: `returns-in-7` is the arm of the key 7, and `c.in-7.is` says

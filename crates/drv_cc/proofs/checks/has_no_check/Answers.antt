@@ -5,8 +5,6 @@ use Rattle.std.proofs.Common.{◌==◌, not, rules, tests}
 use Rattle.std.proofs.lemmas.Iterator.Search.{any_from_yields_List}
 use Rattle.std.proofs.lemmas.Iterator.Splits.{YieldsList-from_slice_split}
 
--- has_no_check (src/checks.rt). Whether an option may not have one of the names between its commas.
-
 -- Names: `is_check`: whether a name is a check's or a group's.
 
 pub returns : goal.returns

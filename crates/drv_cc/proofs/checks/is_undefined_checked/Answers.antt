@@ -5,8 +5,6 @@ use Rattle.std.proofs.Common.{◌==◌, rules, tests}
 use Rattle.std.proofs.lemmas.Iterator.Search.{any_from_yields_List}
 use Rattle.std.proofs.lemmas.Iterator.Splits.{YieldsList-from_slice_split}
 
--- is_undefined_checked (src/checks.rt). Whether one of the checks of undefined behaviour is on.
-
 -- Names: `is_checked`: whether a line turns a check on. `ubsan_checks`: all checks that need the library of undefined behaviour.
 
 pub returns : goal.returns

@@ -5,8 +5,6 @@ use Rattle.std.proofs.Common.{◌==◌, rules, tests}
 use Rattle.std.proofs.lemmas.Iterator.Search.{any_from_yields_List}
 use Rattle.std.proofs.lemmas.Iterator.Splits.{YieldsList-from_slice_split}
 
--- speaks_of (src/checks.rt). Whether one of the names between commas includes a check.
-
 -- Names: `stands_for`: whether a name between commas is one of a check.
 
 pub returns : goal.returns

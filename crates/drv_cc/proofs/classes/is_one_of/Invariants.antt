@@ -2,8 +2,6 @@ use Rattle.drv_cc.proofs.classes.is_one_of.Given as goal
 use Rattle.drv_cc.specs.Items.{is_among}
 use Rattle.std.proofs.Common.{◌≡◌, drop, map}
 
--- The loops of is_one_of (src/classes.rt). Whether a name is one of these.
-
 abbrev pub invariant-loop-other : goal.invariant-loop-other
 invariant-loop-other l = is_among (map (λ other. other.now) (drop l.other-index l.names)) l.name
     ≡ is_among (map (λ other. other.now) l.names) l.name

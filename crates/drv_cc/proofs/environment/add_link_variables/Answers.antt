@@ -4,8 +4,6 @@ use Rattle.drv_cc.specs.Front.{own_variable, path_before}
 use Rattle.std.proofs.Common.{◌∙◌, ◌++◌, [], ap, codes}
 use Rattle.std.proofs.lemmas.Result.{on_ok_weaker}
 
--- add_link_variables (src/environment.rt). Adds the variables for a link.
-
 -- The three variables are those of the definition, in its order.
 pub returns : goal.returns
 returns c =

@@ -2,8 +2,6 @@ use Rattle.drv_cc.proofs.environment.add_own.Given as goal
 use Rattle.drv_cc.specs.Front.{variable}
 use Rattle.std.proofs.Common.{◌≡◌, ◌++◌, drop, map}
 
--- The loops of add_own (src/environment.rt). Adds a variable of the compiler's own, if it has it, with a text before its value.
-
 abbrev pub invariant-loop-value : goal.invariant-loop-value
 invariant-loop-value l = l.children ++ map (λ value. variable l.name (l.before ++ value)) (drop l.value-index l.value-items) ≡ l.fn.children
     ++ map (λ value. variable l.name (l.before ++ value)) l.value-items

@@ -3,7 +3,5 @@ use Rattle.drv_cc.specs.Children.{given_text}
 use Rattle.std.proofs.Common.{◌≡◌, ◌++◌, drop}
 use Rattle.std.specs.List.{flat_map}
 
--- The loops of push_all_given (src/environment.rt). Adds the folders of the line's `-B`.
-
 abbrev pub invariant-loop-item : goal.invariant-loop-item
 invariant-loop-item l = l.path ++ flat_map given_text (drop l.item-index l.items) ≡ l.fn.path ++ flat_map given_text l.items

@@ -3,7 +3,5 @@ use Rattle.drv_cc.specs.Children.{folder_text}
 use Rattle.std.proofs.Common.{◌≡◌, ◌++◌, drop}
 use Rattle.std.specs.List.{flat_map}
 
--- The loops of push_folders (src/environment.rt). Adds folders before others.
-
 abbrev pub invariant-loop-folder : goal.invariant-loop-folder
 invariant-loop-folder l = l.path ++ flat_map folder_text (drop l.folder-index l.folders) ≡ l.fn.path ++ flat_map folder_text l.folders

@@ -4,8 +4,6 @@ use Rattle.drv_cc.specs.Front.{run_of}
 use Rattle.std.proofs.Common.{◌≡◌, ◌∙◌, IfOk}
 use Rattle.std.proofs.Math.Path.{subst}
 
--- call_of_kept (src/fronting.rt). The call of a line with those of these items that stay.
-
 -- Names: `run_of`: the answer for a line that is carried out.
 
 pub returns-then-branch : goal.returns-then-branch

@@ -4,7 +4,5 @@ use Rattle.std.proofs.Common.{◌≡◌, ◌++◌, drop}
 use Rattle.std.specs.List.{filter}
 use Rattle.std.specs.Prelude.{not}
 
--- The loops of early_items (src/giving.rt). The items that count: those that don't come too late.
-
 abbrev pub invariant-loop-item : goal.invariant-loop-item
 invariant-loop-item l = l.some ++ filter (λ i. not (is_late i)) (drop l.item-index l.items) ≡ filter (λ i. not (is_late i)) l.items

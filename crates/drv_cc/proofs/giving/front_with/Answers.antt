@@ -3,9 +3,6 @@ use Rattle.drv_cc.proofs.giving.front_with.Goals as goal
 use Rattle.drv_cc.specs.SelfSpecs.{given_items, given_refusals}
 use Rattle.std.proofs.Common.{◌∙◌, ap, rules}
 
--- front_with (src/giving.rt). The answer to a line of `gcc` whose spec files give it options (GCC, "gcc.cc", do_self_spec): refusals, or
--- items of the driver's line.
-
 -- Names: `runs_with`, `refuses_with`: the answer where nothing is refused, and where something is. Behind what is given `runs_with` takes
 -- the items, the line that is left, what is given more, and the result (`_`: the prover finds these four). Then it takes that nothing is
 -- refused (`search rules`), and that the three lists are the definition's.

@@ -2,7 +2,5 @@ use Rattle.drv_cc.proofs.judging.is_unnamed.Given as goal
 use Rattle.drv_cc.specs.Kept.{unnamed_from}
 use Rattle.std.proofs.Common.{◌≡◌, drop, false}
 
--- The loops of is_unnamed (src/judging.rt). Whether the last `-o` has an empty argument.
-
 abbrev pub invariant-loop-item : goal.invariant-loop-item
 invariant-loop-item l = unnamed_from l.unnamed (drop l.item-index l.items) ≡ unnamed_from false l.items

@@ -3,8 +3,6 @@ use Rattle.drv_cc.proofs.keeping.do_all_stay.Goals as goal
 use Rattle.drv_cc.specs.Code.Staying.{is_seen}
 use Rattle.std.proofs.Common.{◌-◌, ◌∙◌, length, sym, take}
 
--- do_all_stay (src/keeping.rt). Whether all items stay: no two are of one class.
-
 -- Names: `last_part`: the last part of a list. `is_seen`: whether a class is that of a key. `all_break`: or at an item that goes.
 
 -- The item stays, and its class is noted: what the loop knows holds of the items before it.

@@ -3,8 +3,6 @@ use Rattle.drv_cc.proofs.keeping.kept_backwards.Goals as goal
 use Rattle.drv_cc.specs.Code.Staying.{is_seen}
 use Rattle.std.proofs.Common.{◌-◌, length, take}
 
--- kept_backwards (src/keeping.rt). The items that stay, the last one first.
-
 -- The last of the items that are left is judged by the classes seen, and noted among them.
 pub loop-left-preserved : goal.loop-left-preserved
 loop-left-preserved c =

@@ -2,8 +2,6 @@ use Rattle.drv_cc.proofs.keeping.kept_backwards.Given as goal
 use Rattle.drv_cc.specs.Code.Staying.{Keeping, is_seen}
 use Rattle.std.proofs.Common.{length}
 
--- The loops of kept_backwards (src/keeping.rt). The items that stay, the last one first.
-
 -- Of the items behind those that are left these stay, the last one first, and their classes are those seen.
 abbrev pub invariant-loop-left : goal.invariant-loop-left
 invariant-loop-left l = Keeping l.items l.left l.stay.items (is_seen l.seen.keys (λ k. k))

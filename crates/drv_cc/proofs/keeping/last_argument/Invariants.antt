@@ -3,8 +3,6 @@ use Rattle.std.proofs.Common.{◌≡◌, drop}
 use Rattle.std.specs.Option.{option_map}
 use Rattle.drv_cc.proofs.keeping.last_argument.Given as goal
 
--- The loops of last_argument (src/keeping.rt). The argument of the last option of a name.
-
 abbrev pub invariant-loop-item : goal.invariant-loop-item
 invariant-loop-item l = last_from (option_map (λ argument. argument.now) l.found) l.name (drop l.item-index l.items)
     ≡ last_argument l.name l.items

@@ -2,9 +2,6 @@ use Rattle.drv_cc.proofs.Staying.{noted_class}
 use Rattle.drv_cc.proofs.keeping.note_class.Goals as goal
 use Rattle.std.proofs.Common.{◌∙◌}
 
--- note_class (src/keeping.rt). Notes the class of an item, and tells whether the item stays: whether none after it, whose classes were
--- noted before, is of its class.
-
 pub returns-clause-noted : goal.returns-clause-noted
 returns-clause-noted c p some =
     noted_class p c.args.class.now c.of.result _ _ (c.of.ensures ∙ c.as_bytes.ensures) (c.in_ok-insert.ensures.updates.0 p)

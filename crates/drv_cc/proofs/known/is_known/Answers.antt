@@ -5,8 +5,6 @@ use Rattle.std.proofs.Common.{◌==◌, rules, tests}
 use Rattle.std.proofs.lemmas.Iterator.Search.{any_from_yields_List}
 use Rattle.std.proofs.lemmas.Iterator.Splits.{YieldsList-from_slice_split}
 
--- is_known (src/known.rt). Whether a name is known, by all lines.
-
 -- Names: `same`: whether two texts have the same bytes.
 
 pub returns : goal.returns

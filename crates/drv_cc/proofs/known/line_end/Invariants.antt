@@ -1,8 +1,6 @@
 use Rattle.std.proofs.Common.{◌≤◌, ◌-◌, ◌<◌, length}
 use Rattle.drv_cc.proofs.known.line_end.Given as goal
 
--- The loops of line_end (src/known.rt). Where the line ends in which a place is.
-
 -- The place reached is not before the one given, and is within the text if that is.
 abbrev pub invariant-loop-eight : goal.invariant-loop-eight
 invariant-loop-eight l = (l.at ≤ l.end) × (l.at < length l.text → l.end ≤ length l.text)

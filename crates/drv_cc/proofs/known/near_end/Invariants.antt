@@ -1,8 +1,6 @@
 use Rattle.std.proofs.Common.{◌≤◌, ◌-◌, length}
 use Rattle.drv_cc.proofs.known.near_end.Given as goal
 
--- The loops of near_end (src/known.rt). Where the line ends in which a place is, byte by byte.
-
 -- The place reached is not before the one given, and is within the text if that is.
 abbrev pub invariant-loop-end : goal.invariant-loop-end
 invariant-loop-end l = (l.at ≤ l.end) × (l.at ≤ length l.text → l.end ≤ length l.text)

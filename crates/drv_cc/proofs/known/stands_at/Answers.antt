@@ -2,8 +2,6 @@ use Rattle.drv_cc.proofs.Lines.{further}
 use Rattle.drv_cc.proofs.known.stands_at.Goals as goal
 use Rattle.std.proofs.Common.{◌-◌}
 
--- stands_at (src/known.rt). Whether this line begins at a place of a text.
-
 -- the end of another line precedes the place, and this line begins there
 pub returns-then-byte-eq10 : goal.returns-then-byte-eq10
 returns-then-byte-eq10 c =

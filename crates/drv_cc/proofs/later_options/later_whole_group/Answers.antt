@@ -3,8 +3,6 @@ use Rattle.drv_cc.specs.Code.Groups.{whole_at}
 use Rattle.drv_cc.specs.Table.{sections}
 use Rattle.std.proofs.Common.{◌≡◌, ◌+◌, ap, arith, sym}
 
--- later_whole_group (src/later_options.rt). The options that a word is, of this key and 32.
-
 -- Names: `whole_at`: the rows of whole options in a group, in the table's order. `sections`: the options in sections.
 
 -- In the arm of each key the options of the group are found by computation: `returns-in-7` is the arm of the key 7, and `c.in-7.is` says

@@ -1,9 +1,6 @@
 use Rattle.drv_cc.proofs.LevelLaws.{first_level, first_toggle, first_version, last_level, last_toggle, last_version}
 use Rattle.drv_cc.proofs.laws.last_level_counts.Goals as goal
 
--- last_level_counts (src/laws.rt). A law: the level of a line is that of the last option that names one, raised to 2 by a later one that
--- asks for records.
-
 -- Names: `first_level`: the clause `no_level`. `first_toggle`: the clause `no_toggle`.
 
 pub returns-clause-level : goal.returns-clause-level

@@ -2,8 +2,6 @@ use Rattle.drv_cc.proofs.levels.add_level.Goals as goal
 use Rattle.std.proofs.Common.{[], ◌∷◌, ◌++◌, ◌∙◌, ap, append_assoc, codes}
 use Rattle.std.proofs.lemmas.Result.{on_ok_weaker}
 
--- add_level (src/levels.rt). Adds the words of a level above 0 and a version.
-
 pub returns : goal.returns
 returns c =
     on_ok_weaker c.add_joined-2.result

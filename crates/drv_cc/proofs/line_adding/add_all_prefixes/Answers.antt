@@ -3,8 +3,6 @@ use Rattle.drv_cc.proofs.line_adding.add_all_prefixes.Goals as goal
 use Rattle.std.proofs.Common.{◌∙◌}
 use Rattle.std.proofs.lemmas.Result.{on_ok_weaker}
 
--- add_all_prefixes (src/line_adding.rt). Adds all folders of programs, and of copied spec files, after those of the line.
-
 -- The three lists that were added are those of the definition, in its order.
 pub returns : goal.returns
 returns c =

@@ -3,8 +3,6 @@ use Rattle.drv_cc.specs.LineItems.{item_of}
 use Rattle.std.proofs.Common.{◌≡◌, ◌++◌, drop, map}
 use Rattle.drv_cc.proofs.line_adding.add_prefixes.Given as goal
 
--- The loops of add_prefixes (src/line_adding.rt). Adds each folder as a prefix of this option.
-
 abbrev pub invariant-loop-folder : goal.invariant-loop-folder
 invariant-loop-folder l = l.given ++ map (item_of effect.Prefix l.option) (drop l.folder-index l.folders) ≡ l.fn.given
     ++ map (item_of effect.Prefix l.option) l.folders

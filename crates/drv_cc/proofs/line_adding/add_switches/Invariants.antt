@@ -3,8 +3,6 @@ use Rattle.drv_cc.specs.LineItems.{alone}
 use Rattle.std.proofs.Common.{◌≡◌, ◌++◌, drop, map}
 use Rattle.drv_cc.proofs.line_adding.add_switches.Given as goal
 
--- The loops of add_switches (src/line_adding.rt). Adds each word as a switch.
-
 abbrev pub invariant-loop-word : goal.invariant-loop-word
 invariant-loop-word l = l.given ++ map (alone effect.Switch) (drop l.word-index l.words) ≡ l.fn.given
     ++ map (alone effect.Switch) l.words

@@ -1,8 +1,6 @@
 use Rattle.drv_cc.proofs.MacroWords.{macro_put, no_macro_put}
 use Rattle.drv_cc.proofs.macros.add_macro.Goals as goal
 
--- add_macro (src/macros.rt). Adds the word for a macro, if an item is one.
-
 pub returns-in_ok-add_joined : goal.returns-in_ok-add_joined
 returns-in_ok-add_joined c =
     macro_put c.args.item.now c.args.words.now c.add_joined.new.words c.as_bytes.result.now c.as_bytes-then-is.result.now c.is.result

@@ -4,8 +4,6 @@ use Rattle.drv_cc.specs.SideFiles.{sources, sources_from}
 use Rattle.std.proofs.Common.{◌≡◌, ◌++◌, drop, map}
 use Rattle.drv_cc.proofs.outputs.source_outputs.Given as goal
 
--- The loops of source_outputs (src/outputs.rt). The outputs of the sources of these kinds, whose names end so.
-
 -- The outputs so far, with those of the sources that are left, are all.
 abbrev pub invariant-loop-item : goal.invariant-loop-item
 invariant-loop-item l =

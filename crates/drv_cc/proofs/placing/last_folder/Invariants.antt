@@ -4,9 +4,6 @@ use Rattle.std.proofs.Common.{◌≡◌, drop}
 use Rattle.std.specs.Option.{option_map}
 use Rattle.std.specs.Prelude.{None}
 
--- The loops of last_folder (src/placing.rt). The folder that items give for an output that is a file: that of -dumpdir, or one's own where
--- an option after it says where -save-temps keeps files.
-
 abbrev pub invariant-loop-item : goal.invariant-loop-item
 invariant-loop-item l = given_from l.own (option_map (λ folder. folder.now) l.given) (drop l.item-index l.items)
     ≡ given_from l.own None l.items

@@ -3,8 +3,6 @@ use Rattle.drv_cc.specs.Front.{variable}
 use Rattle.std.proofs.Common.{[], ◌∷◌, ◌++◌, ◌∙◌, ap, codes}
 use Rattle.std.proofs.lemmas.Result.{on_ok_weaker}
 
--- add_compiler (src/quoting.rt). Adds the variable of the compiler that is called again.
-
 -- Names: `variable`: a variable of the environment, by its name and value.
 
 pub returns : goal.returns

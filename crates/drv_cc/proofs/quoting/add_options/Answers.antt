@@ -3,8 +3,6 @@ use Rattle.drv_cc.specs.Front.{variable}
 use Rattle.std.proofs.Common.{[], ◌∷◌, ◌++◌, ◌∙◌, ap, codes}
 use Rattle.std.proofs.lemmas.Result.{on_ok_weaker}
 
--- add_options (src/quoting.rt). Adds the variable of the words that the compiler is called again with.
-
 -- Names: `variable`: a variable of the environment, by its name and value.
 
 pub returns : goal.returns

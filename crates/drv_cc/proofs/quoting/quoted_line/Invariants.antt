@@ -4,7 +4,5 @@ use Rattle.std.proofs.Common.{◌≡◌, ◌∷◌, ◌++◌, drop}
 use Rattle.std.specs.List.{flat_map}
 use Rattle.drv_cc.proofs.quoting.quoted_line.Given as goal
 
--- The loops of quoted_line (src/quoting.rt). Words between single quotes, with a blank between two.
-
 abbrev pub invariant-loop-word : goal.invariant-loop-word
 invariant-loop-word l = l.text ++ flat_map (λ word. space ∷ quoted word) (drop l.word-index l.others) ≡ quoted_line l.words

@@ -2,8 +2,6 @@ use Rattle.drv_cc.proofs.Again.{none_named}
 use Rattle.drv_cc.proofs.reading.beyond.Goals as goal
 use Rattle.std.proofs.Common.{◌∙◌, sym}
 
--- beyond (src/reading.rt). A word that no row fits, as an item of its own name.
-
 -- Without names, a word that turns no warning off is unknown.
 pub returns-then-not-is_off : goal.returns-then-not-is_off
 returns-then-not-is_off c =

@@ -4,7 +4,5 @@ use Rattle.drv_cc.specs.Table.{renames}
 use Rattle.std.proofs.Common.{◌≡◌, drop, find, map}
 use Rattle.drv_cc.proofs.renaming.rename_of.Given as goal
 
--- The loops of rename_of (src/renaming.rt). The first that fits a word.
-
 abbrev pub invariant-loop-rename : goal.invariant-loop-rename
 invariant-loop-rename l = find (is_longer l.word) (map pair_shown (drop l.rename-index l.rename-items)) ≡ find (is_longer l.word) renames

@@ -3,8 +3,6 @@ use Rattle.drv_cc.specs.SideFiles.{beginning}
 use Rattle.std.proofs.Common.{[], ◌∷◌, ◌++◌, ◌∙◌, ap, codes}
 use Rattle.std.proofs.lemmas.Result.{on_ok_weaker}
 
--- add_aux_of (src/sides.rt). Adds the name of files that stay beside a source's output.
-
 -- The parts of the word are its beginning and the name without its end, as the definition has them.
 pub returns : goal.returns
 returns c =

@@ -2,8 +2,6 @@ use Rattle.drv_cc.proofs.sides.add_dependencies_of.Goals as goal
 use Rattle.std.proofs.Common.{[], ◌∷◌, ◌++◌, ◌∙◌, ap, codes}
 use Rattle.std.proofs.lemmas.Result.{on_ok_weaker}
 
--- add_dependencies_of (src/sides.rt). Adds the file of dependencies of an output.
-
 pub returns : goal.returns
 returns c =
     on_ok_weaker c.add_joined.result

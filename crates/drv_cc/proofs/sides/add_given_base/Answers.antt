@@ -3,8 +3,6 @@ use Rattle.drv_cc.specs.SideFiles.{end_words, given_end}
 use Rattle.std.proofs.Common.{◌++◌, ◌∙◌, ap, append_assoc}
 use Rattle.std.proofs.lemmas.Result.{on_ok_weaker}
 
--- add_given_base (src/sides.rt). Adds the name that is given and its end.
-
 -- Two words were added one after the other: the base, and then its end.
 pub returns : goal.returns
 returns c =

@@ -2,8 +2,6 @@ use Rattle.drv_cc.proofs.sides.add_named_dependencies.Goals as goal
 use Rattle.std.proofs.Common.{[], ◌∷◌, ◌++◌, ◌∙◌, ap, codes}
 use Rattle.std.proofs.lemmas.Result.{on_ok_weaker}
 
--- add_named_dependencies (src/sides.rt). Adds the file of dependencies of a source with a name that is given.
-
 pub returns : goal.returns
 returns c =
     on_ok_weaker c.add_joined.result

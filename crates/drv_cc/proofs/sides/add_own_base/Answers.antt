@@ -3,8 +3,6 @@ use Rattle.drv_cc.specs.SideFiles.{suffix, unnamed_stem, with_value}
 use Rattle.std.proofs.Common.{[], ◌∷◌, ◌++◌, ◌∙◌, ap, append_assoc, codes}
 use Rattle.std.proofs.lemmas.Result.{on_ok_weaker}
 
--- add_own_base (src/sides.rt). Adds the name of a source's side files and its suffix.
-
 -- Two words were added one after the other: the base is made of stem and suffix, and the suffix follows.
 pub returns : goal.returns
 returns c =

@@ -4,7 +4,5 @@ use Rattle.drv_cc.specs.Code.Building.{is_many}
 use Rattle.drv_cc.specs.SideFiles.{files}
 use Rattle.std.proofs.Common.{◌∙◌, ap}
 
--- has_several_files (src/sources.rt). Whether there are several files.
-
 pub returns : goal.returns
 returns c = c.is_several.ensures ∙ ap is_many c.files.ensures ∙ many_of (files c.args.items.now)

@@ -3,8 +3,6 @@ use Rattle.drv_cc.specs.SideFiles.{other_suffixes, sources, sources_from}
 use Rattle.std.proofs.Common.{◌≡◌, drop}
 use Rattle.drv_cc.proofs.sources.other_suffixes.Given as goal
 
--- The loops of other_suffixes (src/sources.rt). The suffixes of sources of these kinds that only their language makes sources.
-
 -- Counting on from what was counted with what is left is counting all.
 abbrev pub invariant-loop-item : goal.invariant-loop-item
 invariant-loop-item l =

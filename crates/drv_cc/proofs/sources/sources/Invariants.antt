@@ -3,8 +3,6 @@ use Rattle.drv_cc.specs.SideFiles.{sources, sources_from}
 use Rattle.std.proofs.Common.{◌≡◌, drop}
 use Rattle.drv_cc.proofs.sources.sources.Given as goal
 
--- The loops of sources (src/sources.rt). The sources of these kinds.
-
 abbrev pub invariant-loop-item : goal.invariant-loop-item
 invariant-loop-item l = all_counted (count_shown l.count) (sources_from (kinds_shown l.kinds) l.language (drop l.item-index l.items))
     ≡ count_of (sources (kinds_shown l.kinds) l.items)

@@ -6,8 +6,6 @@ use Rattle.std.proofs.Common.{rules, tests}
 use Rattle.std.proofs.lemmas.Iterator.Search.{find_from_yields_List}
 use Rattle.std.proofs.lemmas.Iterator.{YieldsList-from_slice}
 
--- row_among (src/table.rt). The first of these rows that fits a word.
-
 -- Names: `shown`: a row of the code, as the definitions have it. `fits`: whether a word fits a row of the table.
 
 pub returns : goal.returns

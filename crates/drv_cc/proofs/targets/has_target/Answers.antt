@@ -5,8 +5,6 @@ use Rattle.std.proofs.Common.{◌==◌, rules, tests}
 use Rattle.std.proofs.lemmas.Iterator.Search.{any_from_yields_List}
 use Rattle.std.proofs.lemmas.Iterator.Splits.{YieldsList-from_slice_split}
 
--- has_target (src/targets.rt). Whether a name is among those of a text, which has colons between them.
-
 -- Names: `same`: whether two texts have the same bytes.
 
 pub returns : goal.returns

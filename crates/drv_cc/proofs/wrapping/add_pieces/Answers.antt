@@ -8,8 +8,6 @@ use Rattle.std.proofs.lemmas.List.{flat_map_more, map-append}
 use Rattle.std.specs.List.{flat_map}
 use Rattle.std.specs.Slice.Iter.{split_callee, split_done, split_rest}
 
--- add_pieces (src/wrapping.rt). Adds the words between commas that are not empty.
-
 pub loop-piece-init : goal.loop-piece-init
 loop-piece-init c = sym (append-nil c.args.words.now)
 

@@ -3,7 +3,5 @@ use Rattle.drv_cc.specs.SideFiles.{with_value}
 use Rattle.std.proofs.Common.{◌≡◌, ◌++◌, map}
 use Rattle.std.specs.List.{flat_map}
 
--- The loops of add_pieces (src/wrapping.rt). Adds the words between commas that are not empty.
-
 abbrev pub invariant-loop-piece : goal.invariant-loop-piece
 invariant-loop-piece l = l.words ≡ l.fn.words ++ flat_map (with_value l.option) (map (λ piece. piece.now) l.yielded)

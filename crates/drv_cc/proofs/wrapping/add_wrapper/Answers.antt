@@ -5,8 +5,6 @@ use Rattle.drv_cc.specs.SideFiles.{with_value}
 use Rattle.std.proofs.Common.{◌∙◌, codes, sym}
 use Rattle.std.specs.List.{flat_map}
 
--- add_wrapper (src/wrapping.rt). Adds the words of an argument of -wrapper.
-
 -- The words of the pieces, and one for an empty last piece.
 pub returns-in_ok-add_word : goal.returns-in_ok-add_word
 returns-in_ok-add_word c =

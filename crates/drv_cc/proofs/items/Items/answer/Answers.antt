@@ -3,8 +3,6 @@ use Rattle.drv_cc.specs.Front.{answer_of}
 use Rattle.std.proofs.Common.{◌≡◌, ◌∙◌, IfOk}
 use Rattle.std.proofs.Math.Path.{subst}
 
--- answer (src/items.rt). The answer to the line, as that of `front`: `named` are names of switches that spec files of the line have.
-
 pub returns : goal.returns
 returns c = subst (λ items. IfOk c.answer_of.result (λ answer. answer ≡ answer_of c.args.named.now c.args.around.now items))
     (c.as_slice.ensures ∙ c.self.view_is) c.answer_of.ensures
