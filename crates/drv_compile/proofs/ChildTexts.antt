@@ -1,6 +1,6 @@
-use Rattle.drv_compile.specs.Machines.{without}
+use Rattle.drv_compile.specs.Machines.{with_words, without}
 use Rattle.std.proofs.Common.{◌≡◌, ◌-◌, ◌≤◌, ◌∙◌, List, [], ◌∷◌, ◌++◌, ap, append_assoc, arith, drop, false, get_or, if◌then◌else◌, length}
-use Rattle.std.proofs.Common.{nat_eq, sym, take, true, ℕ}
+use Rattle.std.proofs.Common.{codes, nat_eq, sym, take, true, ℕ}
 use Rattle.std.proofs.lemmas.List.{take_all}
 use Rattle.std.specs.List.{starts_with}
 
@@ -32,3 +32,25 @@ byte_stays (c ∷ text) part made after whole b d some first none put before =
     ∙ ap (λ l. made ++ (b ∷ without part l)) (after_first c text)
     ∙ ap (λ x. made ++ (x ∷ without part text)) first
     ∙ ap (λ t. made ++ (if t then drop (length part) (c ∷ text) else c ∷ without part text)) (sym none) ∙ before
+
+-- For `with_words`: `words` is put before the word -dumpdir.
+
+-- that word is here: the words come before what is left
+pub words_here : (left words made put after whole : List ℕ) → 1 ≤ length left → starts_with nat_eq left (codes " '-dumpdir' '") ≡ true
+    → put ≡ made ++ words → after ≡ put ++ left → made ++ with_words words left ≡ whole → after ≡ whole
+words_here [] words made put after whole some is first next before = absurd (omega (arith, some))
+words_here (b ∷ text) words made put after whole some is first next before =
+    next ∙ ap (λ l. l ++ b ∷ text) first ∙ append_assoc made words (b ∷ text)
+    ∙ ap (λ t. made ++ (if t then words ++ b ∷ text else b ∷ with_words words text)) (sym is) ∙ before
+
+-- that word is not here: the first byte stays
+pub byte_before : (left words made after whole : List ℕ) (b d : ℕ) → 1 ≤ length left → b ≡ get_or left 0 d
+    → starts_with nat_eq left (codes " '-dumpdir' '") ≡ false → after ≡ made ++ (b ∷ []) → made ++ with_words words left ≡ whole
+    → after ++ with_words words (take (length left - 1) (drop 1 left)) ≡ whole
+byte_before [] words made after whole b d some first none put before = absurd (omega (arith, some))
+byte_before (c ∷ text) words made after whole b d some first none put before =
+    ap (λ l. l ++ with_words words (take (length (c ∷ text) - 1) text)) put
+    ∙ append_assoc made (b ∷ []) (with_words words (take (length (c ∷ text) - 1) text))
+    ∙ ap (λ l. made ++ (b ∷ with_words words l)) (after_first c text)
+    ∙ ap (λ x. made ++ (x ∷ with_words words text)) first
+    ∙ ap (λ t. made ++ (if t then words ++ c ∷ text else c ∷ with_words words text)) (sym none) ∙ before

@@ -9,6 +9,7 @@ use Rattle.drv_compile.specs.Parts.{texts_at, texts_of}
 use Rattle.drv_compile.specs.Places.{part_or_whole, texts_for}
 use Rattle.drv_compile.specs.Reading.{line_read}
 use Rattle.drv_compile.specs.declared.deciding.Decision.{Decision}
+use Rattle.drv_compile.specs.declared.deciding.SpecFile.{SpecFile}
 use Rattle.drv_compile.specs.declared.parts.Texts.{Texts}
 use Rattle.drv_compile.specs.declared.reading.Reading.{Reading}
 use Rattle.drv_system.specs.Facts.{Facts, kind_of, variable_of}
@@ -19,9 +20,9 @@ use Rattle.std.proofs.Common.{◌≡◌, ◌∙◌, Err, IfOk, List, Ok, Option,
 -- For `decide` (src/deciding.rt): what was asked, one thing after another, gives the decision.
 -- Names: `F` is what is known of the outside. `own` is the place of the program's own spec file. `specs` is the path of the spec file, and
 -- `slice` the same as the code lends it. `words` is the words of the line. `text` is the text of the file beside the spec file, which names
--- the compiler. `around` is the compiler and its folders. `result` is what the code's call gives. `IfOk result P`: P holds of the value, if
--- there is one. `decide`, `decided_with`, `decided_over` and `decided_around` are the decision, from the whole line to its last step
--- (specs/Decides).
+-- the compiler, and `lent` the same as the code lends it. `file` is both files. `around` is the compiler and its folders. `result` is what
+-- the code's call gives. `IfOk result P`: P holds of the value, if there is one. `decide`, `decided_with`, `decided_over` and
+-- `decided_around` are the decision, from the whole line to its last step (specs/Decides).
 
 -- For `file_of_variable`: if the name is that of the variable, then what was made of its value is the file of the variable.
 pub named_by_variable : {E : Type 0} (F : Facts) (name : List ℕ) (value : Option (List ℕ)) (result : Result (Option (List ℕ)) E)
@@ -43,31 +44,33 @@ texts_found F specs items stages part path kind (Ok texts) part_is known path_is
     ∙ ap (texts_at F) (sym path_is) ∙ is
 
 -- For `decided_around`: if the result is the decision for what was read of the line, then it is the decision around this compiler.
-pub around_read : {E : Type 0} (F : Facts) (specs slice : List ℕ) (words : List (List ℕ)) (around : Surroundings) (reading : Option Reading)
-    (result : Result Decision E)
-    → slice ≡ specs → line_read F slice around words ≡ Is reading → IfOk result (λ decision. decision ≡ of_reading specs around reading)
-    → IfOk result (λ decision. decided_around F specs words around ≡ Is decision)
-around_read F specs slice words around reading (Err e) same read is = tt
-around_read F specs slice words around reading (Ok decision) same read is =
-    ap (λ k. k >>= λ r. Is (of_reading specs around r)) (ap (λ s. line_read F s around words) (sym same) ∙ read) ∙ ap Is (sym is)
+pub around_read : {E : Type 0} (F : Facts) (file : SpecFile) (slice : List ℕ) (words : List (List ℕ)) (around : Surroundings)
+    (reading : Option Reading) (result : Result Decision E)
+    → slice ≡ file.path → line_read F slice around words ≡ Is reading → IfOk result (λ decision. decision ≡ of_reading file around reading)
+    → IfOk result (λ decision. decided_around F file words around ≡ Is decision)
+around_read F file slice words around reading (Err e) same read is = tt
+around_read F file slice words around reading (Ok decision) same read is =
+    ap (λ k. k >>= λ r. Is (of_reading file around r)) (ap (λ s. line_read F s around words) (sym same) ∙ read) ∙ ap Is (sym is)
 
 -- For `decided_by`: if the file names a compiler, and both variables were asked for, then the decision in these surroundings is that by the
 -- file's text.
-pub compiler_given : {E : Type 0} (F : Facts) (specs : List ℕ) (words : List (List ℕ)) (text : List ℕ)
+pub compiler_given : {E : Type 0} (F : Facts) (specs : List ℕ) (words : List (List ℕ)) (text lent : List ℕ)
     (compiler : List ℕ) (around : Surroundings)
-    (programs libraries : Option (List ℕ)) (result : Result Decision E)
-    → first_of (values (codes "compiler ") text) ≡ Some compiler → around ≡ surroundings specs text compiler programs libraries
+    (programs libraries : Option (List ℕ)) (result : Result Decision E) → lent ≡ text
+    → first_of (values (codes "compiler ") lent) ≡ Some compiler → around ≡ surroundings specs lent compiler programs libraries
     → asked (variable_of F (codes "COMPILER_PATH")) ≡ Is programs
     → asked (variable_of F (codes "LIBRARY_PATH")) ≡ Is libraries
-    → IfOk result (λ decision. decided_around F specs words around ≡ Is decision)
+    → IfOk result (λ decision. decided_around F (record { path = specs; about = text }) words around ≡ Is decision)
     → IfOk result (λ decision. decided_over F specs words (Some text) ≡ Is decision)
-compiler_given F specs words text compiler around programs libraries (Err e) some around_is first second is = tt
-compiler_given F specs words text compiler around programs libraries (Ok decision) some around_is first second is =
-    ap (decided_by F specs words text) some
+compiler_given F specs words text lent compiler around programs libraries (Err e) same some around_is first second is = tt
+compiler_given F specs words text lent compiler around programs libraries (Ok decision) same some around_is first second is =
+    ap (decided_by F specs words text) (ap (λ t. first_of (values (codes "compiler ") t)) (sym same) ∙ some)
     ∙ ap (λ k. k >>= λ p. asked (variable_of F (codes "LIBRARY_PATH"))
-    >>= λ l. decided_around F specs words (surroundings specs text compiler p l)) first
-    ∙ ap (λ k. k >>= λ l. decided_around F specs words (surroundings specs text compiler programs l)) second
-    ∙ ap (decided_around F specs words) (sym around_is)
+    >>= λ l. decided_around F (record { path = specs; about = text }) words (surroundings specs text compiler p l)) first
+    ∙ ap (λ k. k >>= λ l. decided_around F (record { path = specs; about = text }) words (surroundings specs text compiler programs l))
+    second
+    ∙ ap (decided_around F (record { path = specs; about = text }) words)
+    (sym (around_is ∙ ap (λ t. surroundings specs t compiler programs libraries) same))
     ∙ is
 
 -- For `decided_by` too: the surroundings that the code makes are those of the text.

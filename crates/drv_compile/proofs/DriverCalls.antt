@@ -11,7 +11,7 @@ use Rattle.drv_compile.specs.Code.Refusing.{IsEndSaid}
 use Rattle.drv_compile.specs.Compilers.{values}
 use Rattle.drv_compile.specs.Driven.{IsCalled, IsChosen, IsDenied, IsMachined, IsMade, IsUnanswered, IsUncalled, IsUndrivenAfter, IsWorker}
 use Rattle.drv_compile.specs.Driven.{IsWorkerAfter, Passes, Replaces, Undriven, answer_of, asks, at_once, denied, driver_items}
-use Rattle.drv_compile.specs.Driven.{driver_line, drives, in_place, later, not_answered, not_whole, refuses, rows_of, runs, stays}
+use Rattle.drv_compile.specs.Driven.{driver_line, drives, in_place, later, not_answered, not_whole, refuses, runs, stays}
 use Rattle.drv_compile.specs.Driven.{uncalled, uncalled_after, unchanged, undriven_after, unworded}
 use Rattle.drv_compile.specs.Inputs.{Noted}
 use Rattle.drv_compile.specs.Machines.{RowAsked, items_by, row_of}
@@ -21,7 +21,6 @@ use Rattle.drv_compile.specs.Suffixes.{suffixed_by}
 use Rattle.drv_compile.specs.Tasks.{IfTold}
 use Rattle.drv_compile.specs.Texts.{damaged_text}
 use Rattle.drv_compile.specs.declared.driving.Driven.{Driven}
-use Rattle.drv_compile.specs.declared.driving.LineFiles.{LineFiles}
 use Rattle.drv_compile.specs.declared.driving.Worker.TheVariants.{Driver, Nobody}
 use Rattle.drv_compile.specs.declared.driving.Worker.{Worker}
 use Rattle.drv_compile.specs.declared.host.HostEvent.{HostEvent}
@@ -31,6 +30,7 @@ use Rattle.drv_compile.specs.declared.machines.MachineItems.{MachineItems}
 use Rattle.drv_compile.specs.declared.parts.Texts.TheVariants.{Damaged, Whole}
 use Rattle.drv_compile.specs.declared.request.GccLine.{GccLine}
 use Rattle.drv_compile.specs.declared.stop.Stop.{Stop}
+use Rattle.drv_compile.specs.declared.tasks.Toolchain.{Toolchain}
 use Rattle.drv_run.specs.declared.ending.Ending.TheVariants.{Done, OutOfMemory, Refused}
 use Rattle.drv_run.specs.declared.ending.Ending.{Ending}
 use Rattle.drv_system.specs.Facts.{Facts}
@@ -41,13 +41,13 @@ use Rattle.std.specs.Prelude.{MatchResult}
 
 -- For the functions of `driving` (src/driving.rt): who carries out a line.
 -- Names: `F` is what is known of the outside, and `knows` says which facts the call has. `line` is the line of gcc: its `request` is what
--- the call is given, its `given` the words, and its `chain` the spec file (`specs`), the compiler and the known names. `call` is what the
--- front made of it. `slice` is the items, or the refusals, as the code lends them. `first` is what the driver is called with before the
--- line's spec files. `answer` is the line that these give. `driven` and `made` are what the driver is called with in the end. `worker` is
--- who carries the line out: the driver or the compiler. `events` and `more` are what the host was asked. `stop` is why the call ends, and
--- `result` what the code's call gives. `Noted before after P`: events were added, of which P holds. `IfTold stop P`: P holds of the stop's
--- text, if it has one. `MatchResult result P Q`: P holds of the value, or Q of the fault. `IsErrAnd result P`: there is a fault, of which P
--- holds. `Replaces` and most claims that begin with Is are in specs/Driven.
+-- the call is given, its `given` the words, and its `chain` the spec file (`specs`), the text about the compiler (`about`), and the known
+-- names. `call` is what the front made of it. `slice` is the items, or the refusals, as the code lends them. `first` is what the driver is
+-- called with before the line's spec files. `answer` is the line that these give. `driven` and `made` are what the driver is called with in
+-- the end. `worker` is who carries the line out: the driver or the compiler. `events` and `more` are what the host was asked. `stop` is why
+-- the call ends, and `result` what the code's call gives. `Noted before after P`: events were added, of which P holds. `IfTold stop P`: P
+-- holds of the stop's text, if it has one. `MatchResult result P Q`: P holds of the value, or Q of the fault. `IsErrAnd result P`: there is
+-- a fault, of which P holds. `Replaces` and most claims that begin with Is are in specs/Driven.
 
 -- what its spec files give
 
@@ -99,45 +99,45 @@ made_alike path text rows given made made' (Driver driven) same suffix (items, c
   driven_is ∙ ap (λ its. record { line = driver_line path its given; children = children }) (suffix items),
 )
 
--- For `machined_call`: if the code left out the text of the rows, since it has no row and no suffix, then row and line are still those by
--- the file's text.
-pub machined_as : {E : Type 0} (specs : List ℕ) (files : LineFiles) (call : Call) (given : Expanded) (text : Option (List ℕ))
+-- For `machined_call`: if the code left out the text about the compiler, since it has no row and no suffix, then row and line are still
+-- those by that text.
+pub machined_as : {E : Type 0} (chain : Toolchain) (path lent : List ℕ) (call : Call) (given : Expanded) (text : Option (List ℕ))
     (slice : List Item) (row : LineRow) (made : MachineItems) (before after : List HostEvent) (result : Result Worker E)
-    → ((items : List Item) → row_of text items ≡ row_of files.rows items)
-    → ((items : List Item) → suffixed_by text items ≡ suffixed_by files.rows items)
-    → slice ≡ call.items → Noted before after (λ events. RowAsked specs text slice events row)
+    → lent ≡ chain.about → ((items : List Item) → row_of text items ≡ row_of (Some lent) items)
+    → ((items : List Item) → suffixed_by text items ≡ suffixed_by (Some lent) items)
+    → slice ≡ call.items → Noted before after (λ events. RowAsked chain.specs text slice events row)
     → made ≡ items_by row call.items call.children
-    → IfOk result (λ worker. IsMade files.texts text made given worker)
-    → Noted before after (λ events. IfOk result (λ worker. IsMachined specs files call given events worker))
-machined_as specs files call given text slice row made before after (Err e) same suffix are (events, grown, asked) made_is is =
+    → IfOk result (λ worker. IsMade path text made given worker)
+    → Noted before after (λ events. IfOk result (λ worker. IsMachined chain path call given events worker))
+machined_as chain path lent call given text slice row made before after (Err e) of same suffix are (events, grown, asked) made_is is =
     (events, grown, tt)
-machined_as specs files call given text slice row made before after (Ok worker) same suffix are (events, grown, asked) made_is is = (
+machined_as chain path lent call given text slice row made before after (Ok worker) of same suffix are (events, grown, asked) made_is is = (
   events,
   grown,
   (
     row,
-    asked_alike (same call.items) (subst (λ items. RowAsked specs text items events row) are asked),
-    made_alike files.texts text files.rows given made (items_by row call.items call.children) worker made_is suffix is,
+    asked_alike (same call.items ∙ ap (λ t. row_of (Some t) call.items) of)
+        (subst (λ items. RowAsked chain.specs text items events row) are asked),
+    made_alike path text (Some chain.about) given made (items_by row call.items call.children) worker made_is
+        (λ items. suffix items ∙ ap (λ t. suffixed_by (Some t) items) of) is,
   ),
 )
 
 -- For `driver_of_call`: if the facts say that the line's texts are whole, and its row was asked for, then the line is called as `IsCalled`
 -- says.
-pub called_whole : (line : GccLine) (call : Call) (specs : List ℕ) (slice : List Item) (files : LineFiles) (worker : Worker)
+pub called_whole : (line : GccLine) (call : Call) (specs : List ℕ) (slice : List Item) (path : List ℕ) (worker : Worker)
     (before after : List HostEvent) (knows : Facts → Type 0)
     → specs ≡ line.chain.specs → slice ≡ call.items
-    → ((F : Facts) → knows F → texts_of F specs slice call.stages ≡ Is (Whole files.texts))
-    → ((F : Facts) → knows F → rows_of F specs ≡ Is files.rows)
-    → Noted before after (λ events. IsMachined line.chain.specs files call line.given events worker)
-    → Noted before after (λ events. (F : Facts) → knows F → IsCalled F line.chain.specs call line.given events worker)
-called_whole line call specs slice files worker before after knows at same texts asked (events, grown, made) = (
+    → ((F : Facts) → knows F → texts_of F specs slice call.stages ≡ Is (Whole path))
+    → Noted before after (λ events. IsMachined line.chain path call line.given events worker)
+    → Noted before after (λ events. (F : Facts) → knows F → IsCalled F line.chain call line.given events worker)
+called_whole line call specs slice path worker before after knows at same texts (events, grown, made) = (
   events,
   grown,
   λ F k. (
-    files,
-    subst (λ s. texts_of F s call.items call.stages ≡ Is (Whole files.texts)) at
-        (subst (λ items. texts_of F specs items call.stages ≡ Is (Whole files.texts)) same (texts F k)),
-    subst (λ s. rows_of F s ≡ Is files.rows) at (asked F k),
+    path,
+    subst (λ s. texts_of F s call.items call.stages ≡ Is (Whole path)) at
+        (subst (λ items. texts_of F specs items call.stages ≡ Is (Whole path)) same (texts F k)),
     made,
   ),
 )
@@ -207,7 +207,7 @@ undriven_denied F line first answer stop result is gives tells =
 pub worker_in_place : (F : Facts) (line : GccLine) (first : Driven) (answer : Option Answer) (given : Option Call) (call : Call)
     (events : List HostEvent) (result : Result Worker Stop)
     → answer_of F line.chain line.given first ≡ Is (Ok answer) → Replaces answer given → given ≡ Some call
-    → MatchResult result (λ worker. IsCalled F line.chain.specs call line.given events worker)
+    → MatchResult result (λ worker. IsCalled F line.chain call line.given events worker)
     (λ s. IfTold s (IsUncalled F line.request.now.calling.now line.chain.specs call events))
     → MatchResult result (λ worker. IsWorkerAfter F line.chain line.given first events worker)
     (λ s. IfTold s (IsUndrivenAfter F line.request.now.calling.now line.chain line.given first events))
@@ -240,24 +240,24 @@ undriven_texts F line call events stop result is tells =
 -- both.
 pub worker_later : (F : Facts) (line : GccLine) (call : Call) (events more : List HostEvent) (worker : Worker) (first : Driven)
     (result : Result Worker Stop)
-    → IsCalled F line.chain.specs call line.given events worker → worker ≡ Driver first
+    → IsCalled F line.chain call line.given events worker → worker ≡ Driver first
     → MatchResult result (λ after. IsWorkerAfter F line.chain line.given first more after)
     (λ s. IfTold s (IsUndrivenAfter F line.request.now.calling.now line.chain line.given first more))
     → MatchResult result (λ after. IsChosen F line.chain call line.given (events ++ more) after)
     (λ s. IfTold s (Undriven F line.request.now.calling.now line.chain call line.given (events ++ more)))
 worker_later F line call events more worker first (Ok after) called is gives =
-    later (subst (λ w. IsCalled F line.chain.specs call line.given events w) is called) gives
+    later (subst (λ w. IsCalled F line.chain call line.given events w) is called) gives
 worker_later F line call events more worker first (Err stop) called is tells =
     told_as stop (IsUndrivenAfter F line.request.now.calling.now line.chain line.given first more)
     (Undriven F line.request.now.calling.now line.chain call line.given (events ++ more))
-    (λ text un. undriven_after (subst (λ w. IsCalled F line.chain.specs call line.given events w) is called) un) tells
+    (λ text un. undriven_after (subst (λ w. IsCalled F line.chain call line.given events w) is called) un) tells
 
 -- For `chosen_worker`: if no row has the words for the line's machine, then nobody is chosen at once.
 pub worker_at_once : (F : Facts) (line : GccLine) (call : Call) (events : List HostEvent) (worker : Worker) (options : List ℕ)
-    → IsCalled F line.chain.specs call line.given events worker → worker ≡ Nobody options
+    → IsCalled F line.chain call line.given events worker → worker ≡ Nobody options
     → IsChosen F line.chain call line.given events (Nobody options)
 worker_at_once F line call events worker options called is =
-    at_once (subst (λ w. IsCalled F line.chain.specs call line.given events w) is called)
+    at_once (subst (λ w. IsCalled F line.chain call line.given events w) is called)
 
 -- For `worker_of`: if the line can't be called, then nobody carries it out, for the same reason.
 pub undriven_line : (F : Facts) (line : GccLine) (call : Call) (events : List HostEvent) (stop : Stop) (result : Result Worker Stop)

@@ -9,38 +9,40 @@ use Rattle.drv_compile.specs.Texts.{damaged_text, no_compiler_text, no_place_tex
 use Rattle.drv_compile.specs.declared.calling.Calling.{Calling}
 use Rattle.drv_compile.specs.declared.deciding.Decision.TheVariants.{Damaged, NoCompiler, NoSpecs, Read}
 use Rattle.drv_compile.specs.declared.deciding.Decision.{Decision}
+use Rattle.drv_compile.specs.declared.deciding.SpecFile.{SpecFile}
 use Rattle.drv_compile.specs.declared.reading.Reading.{Reading}
 use Rattle.drv_compile.specs.declared.tasks.Task.TheVariants.{Compilation, Question}
 use Rattle.std.proofs.Common.{◌≡◌, ◌∙◌, Err, IfOk, List, [], None, Ok, Option, Result, Some, ap, subst, sym, ℕ}
 
 -- For the functions of `tasks` (src/tasks.rt): what a call does by the answer to its line.
--- Names: `calling` is the program's name and machine. `specs` is the path of the spec file. `around` is the compiler and its folders.
--- `reading` is what was read of the line: its answer and the known names. `decision` is what the line is decided to be. `text` is the text
--- of a refusal. `slice`, `place`, `name` and `known` are parts of these, as the code lends them. `Leads decision task`: the decision leads
--- to that task. `Declines calling decision text`: it is refused with that text (specs/Tasks).
+-- Names: `calling` is the program's name and machine. `specs` is the path of the spec file, and `file` the same with the text beside it.
+-- `around` is the compiler and its folders. `reading` is what was read of the line: its answer and the known names. `decision` is what the
+-- line is decided to be. `text` is the text of a refusal. `slice`, `place`, `name` and `known` are parts of these, as the code lends them.
+-- `Leads decision task`: the decision leads to that task. `Declines calling decision text`: it is refused with that text (specs/Tasks).
 
 -- For `task_by`: if the answer is a question, then the line leads to a question for the compiler.
-pub answer_asks : (specs : List ℕ) (around : Surroundings) (reading : Reading) → reading.answer ≡ Ask
-    → Leads (Read specs around reading) (Question specs around.compiler)
-answer_asks specs around reading is = subst (λ a. Leads (Read specs around (record { known = reading.known; answer = a }))
-    (Question specs around.compiler)) (sym is) asks
+pub answer_asks : (file : SpecFile) (around : Surroundings) (reading : Reading) → reading.answer ≡ Ask
+    → Leads (Read file around reading) (Question file around.compiler)
+answer_asks file around reading is = subst (λ a. Leads (Read file around (record { known = reading.known; answer = a }))
+    (Question file around.compiler)) (sym is) asks
 
 -- If the answer is a line that is carried out, then the line leads to its compilation.
-pub answer_runs : (specs : List ℕ) (around : Surroundings) (reading : Reading) (call : Call) → reading.answer ≡ Run call
-    → Leads (Read specs around reading) (Compilation (record { specs = specs; around = around; known = reading.known }) call)
-answer_runs specs around reading call is =
-    subst (λ a. Leads (Read specs around (record { known = reading.known; answer = a }))
-    (Compilation (record { specs = specs; around = around; known = reading.known }) call))
+pub answer_runs : (file : SpecFile) (around : Surroundings) (reading : Reading) (call : Call) → reading.answer ≡ Run call
+    → Leads (Read file around reading)
+    (Compilation (record { specs = file.path; about = file.about; around = around; known = reading.known }) call)
+answer_runs file around reading call is =
+    subst (λ a. Leads (Read file around (record { known = reading.known; answer = a }))
+    (Compilation (record { specs = file.path; about = file.about; around = around; known = reading.known }) call))
     (sym is) runs
 
 -- For `task_by`: if the answer is refusals, and the text has them all, then that text declines the line.
-pub answer_refused : (calling : Calling) (specs : List ℕ) (around : Surroundings) (reading : Reading) (refusals slice : List Refusal)
+pub answer_refused : (calling : Calling) (file : SpecFile) (around : Surroundings) (reading : Reading) (refusals slice : List Refusal)
     (name known text : List ℕ)
     → reading.answer ≡ Refuse refusals → name ≡ calling.name → known ≡ reading.known → slice ≡ refusals
     → AreTold name (values [] known) slice text
-    → Declines calling (Read specs around reading) text
-answer_refused calling specs around reading refusals slice name known text is named same are told =
-    subst (λ a. Declines calling (Read specs around (record { known = reading.known; answer = a })) text) (sym is)
+    → Declines calling (Read file around reading) text
+answer_refused calling file around reading refusals slice name known text is named same are told =
+    subst (λ a. Declines calling (Read file around (record { known = reading.known; answer = a })) text) (sym is)
     (refused (subst (λ n. AreTold n (values [] reading.known) refusals text) named
     (subst (λ k. AreTold name (values [] k) refusals text) same (subst (λ rs. AreTold name (values [] known) rs text) are told))))
 

@@ -11,7 +11,7 @@ use Rattle.drv_compile.specs.Decides.{decide}
 use Rattle.drv_compile.specs.Driven.{IsWorker, Undriven}
 use Rattle.drv_compile.specs.Inputs.{Noted, objection}
 use Rattle.drv_compile.specs.Opening.{opening}
-use Rattle.drv_compile.specs.Overwriting.{Overwrites, files_read}
+use Rattle.drv_compile.specs.Overwriting.{Overwrites, files_read, files_written}
 use Rattle.drv_compile.specs.Runs.{Works}
 use Rattle.drv_compile.specs.Tasks.{Declines, IfTold, Leads}
 use Rattle.drv_compile.specs.Texts.{gone_text, overwritten_text, unworded_text}
@@ -19,6 +19,7 @@ use Rattle.drv_compile.specs.Words.{RefusesWords, Words}
 use Rattle.drv_compile.specs.Wrapper.{wrapper_of}
 use Rattle.drv_compile.specs.declared.calling.Calling.{Calling}
 use Rattle.drv_compile.specs.declared.deciding.Decision.{Decision}
+use Rattle.drv_compile.specs.declared.deciding.SpecFile.{SpecFile}
 use Rattle.drv_compile.specs.declared.driving.Driven.{Driven}
 use Rattle.drv_compile.specs.declared.driving.Worker.TheVariants.{Driver, Nobody}
 use Rattle.drv_compile.specs.declared.driving.Worker.{Worker}
@@ -46,37 +47,38 @@ use Rattle.std.specs.Prelude.{MatchResult}
 -- notes before a step and after each. `prepared` is what the call has to do. `stop` is why it ends, and `result` what the code's call
 -- gives. `Noted before after P`: events were added, of which P holds. `IfTold stop P`: P holds of the stop's text, if it has one.
 -- `MatchResult result P Q`: P holds of the value, or Q of the fault. `IsErrAnd result P`: there is a fault, of which P holds. `objection`
--- is what speaks against a line, and `Overwrites` says whether it writes a file that it reads
--- (specs/Overwriting). `IsPrepared`, `IsUnplanned`, `IsDone` and `IsUndone` are in specs/Code/Preparing. `Plans` and `Refuses` are the whole call: what it has to do, or the text of its refusal
--- (specs/Compiles).
+-- is what speaks against a line, and `Overwrites` says whether it writes a file that it reads (specs/Overwriting). `IsPrepared`,
+-- `IsUnplanned`, `IsDone` and `IsUndone` are in specs/Code/Preparing. `Plans` and `Refuses` are the whole call: what it has to do, or the
+-- text of its refusal (specs/Compiles).
 
 -- an output that is a file that the line reads, or none
 
 -- For `refuse_overwriting`: if no output is read, then the line overwrites nothing.
 pub not_overwriting : (files slice : List FileRead) (outputs lent : List (List ℕ)) (call : Call) (args : List (List ℕ))
-    (found : Option Clash) (before after : List HostEvent) → slice ≡ files → files ≡ files_read call args → lent ≡ outputs → found ≡ None
-    → Noted before after (λ events. Overwrites slice lent events found)
-    → Noted before after (λ events. Overwrites (files_read call args) outputs events None)
-not_overwriting files slice outputs lent call args found before after same are lends none (events, grown, overwrites) = (
+    (found : Option Clash) (before after : List HostEvent) → slice ≡ files → files ≡ files_read call args → lent ≡ outputs
+    → outputs ≡ files_written call → found ≡ None → Noted before after (λ events. Overwrites slice lent events found)
+    → Noted before after (λ events. Overwrites (files_read call args) (files_written call) events None)
+not_overwriting files slice outputs lent call args found before after same are lends writes none (events, grown, overwrites) = (
   events,
   grown,
-  subst (λ xs. Overwrites xs outputs events None) (same ∙ are)
-      (subst (λ os. Overwrites slice os events None) lends (subst (λ f. Overwrites slice lent events f) none overwrites)),
+  subst (λ xs. Overwrites xs (files_written call) events None) (same ∙ are)
+      (subst (λ os. Overwrites slice os events None) (lends ∙ writes) (subst (λ f. Overwrites slice lent events f) none overwrites)),
 )
 
 -- For `refuse_overwriting`: if an output is read, then the text with its name says so.
-pub overwriting_told : (line : GccLine) (name text : List ℕ) (files slice : List FileRead) (lent : List (List ℕ)) (call : Call)
+pub overwriting_told : (line : GccLine) (name text : List ℕ) (files slice : List FileRead) (outputs lent : List (List ℕ)) (call : Call)
     (found : Option Clash) (clash : Clash) (before after : List HostEvent) → slice ≡ files
-    → files ≡ files_read call line.request.now.args.now → lent ≡ call.outputs → found ≡ Some clash
+    → files ≡ files_read call line.request.now.args.now → lent ≡ outputs → outputs ≡ files_written call → found ≡ Some clash
     → Noted before after (λ events. Overwrites slice lent events found) → name ≡ line.request.now.calling.now.name
     → text ≡ overwritten_text name clash → Noted before after (λ events. IsOverwriting line call events text)
-overwriting_told line name text files slice lent call found clash before after same are lends some (events, grown, overwrites) named is = (
+overwriting_told line name text files slice outputs lent call found clash before after same are lends writes some (events, grown, overwrites) named is = (
   events,
   grown,
   (
     clash,
-    subst (λ xs. Overwrites xs call.outputs events (Some clash)) (same ∙ are)
-        (subst (λ os. Overwrites slice os events (Some clash)) lends (subst (λ f. Overwrites slice lent events f) some overwrites)),
+    subst (λ xs. Overwrites xs (files_written call) events (Some clash)) (same ∙ are)
+        (subst (λ os. Overwrites slice os events (Some clash)) (lends ∙ writes)
+        (subst (λ f. Overwrites slice lent events f) some overwrites)),
     is ∙ ap (λ n. overwritten_text n clash) named,
   ),
 )
@@ -86,7 +88,8 @@ overwriting_told line name text files slice lent call found clash before after s
 -- For `compilation`: if nothing speaks against the line, then what is prepared for it is done, and why nothing is prepared is why it is
 -- refused.
 fails_planned : (F : Facts) (line : GccLine) (call : Call) (read asked : List HostEvent) (result : Result Prepared Stop)
-    → objection F line.request.now.calling.now.name call.inputs ≡ Is [] → Overwrites (files_read call line.request.now.args.now) call.outputs read None
+    → objection F line.request.now.calling.now.name call.inputs ≡ Is []
+    → Overwrites (files_read call line.request.now.args.now) (files_written call) read None
     → MatchResult result (λ prepared. IsPrepared F line call asked prepared) (λ stop. IfTold stop (IsUnplanned F line call asked))
     → MatchResult result (λ prepared. IsDone F line call (read ++ asked) prepared)
     (λ stop. IfTold stop (IsUndone F line call (read ++ asked)))
@@ -142,13 +145,13 @@ overwriting_fails line call stop before after result knows is free (events, grow
 pub performs_noted : (line : GccLine) (call : Call) (before mid after : List HostEvent) (result : Result Prepared Stop)
     (knows : Facts → Type 0)
     → ((F : Facts) → knows F → objection F line.request.now.calling.now.name call.inputs ≡ Is [])
-    → Noted before mid (λ events. Overwrites (files_read call line.request.now.args.now) call.outputs events None)
+    → Noted before mid (λ events. Overwrites (files_read call line.request.now.args.now) (files_written call) events None)
     → Noted mid after (λ events. (F : Facts) → knows F → MatchResult result (λ prepared. IsPrepared F line call events prepared)
     (λ stop. IfTold stop (IsUnplanned F line call events)))
     → Noted before after (λ events. (F : Facts) → knows F
     → MatchResult result (λ prepared. IsDone F line call events prepared) (λ s. IfTold s (IsUndone F line call events)))
 performs_noted line call before mid after result knows free =
-    noted_then before mid after (λ events. Overwrites (files_read call line.request.now.args.now) call.outputs events None)
+    noted_then before mid after (λ events. Overwrites (files_read call line.request.now.args.now) (files_written call) events None)
     (λ events. (F : Facts) → knows F → MatchResult result (λ prepared. IsPrepared F line call events prepared)
     (λ stop. IfTold stop (IsUnplanned F line call events)))
     (λ events. (F : Facts) → knows F
@@ -158,9 +161,10 @@ performs_noted line call before mid after result knows free =
 -- the work of a line
 
 -- For `prepare_plan`: if each part is that of what the driver is called with, then the record of them is what the definition plans.
-pub planned_so : (F : Facts) (line : GccLine) (driven : Driven) (specs wrapper said hint remark : List ℕ) (items : List Item)
+pub planned_so : (F : Facts) (line : GccLine) (driven : Driven) (specs about lent wrapper said hint remark : List ℕ) (items : List Item)
     (children : List Variable) (work : Work) → specs ≡ line.chain.specs → items ≡ driven.line.items → children ≡ driven.children
-    → wrapper ≡ wrapper_of items → opening F specs items children ≡ Is said → Works F driven.line line.request.now.seed work
+    → about ≡ line.chain.about → lent ≡ about
+    → wrapper ≡ wrapper_of items → said ≡ opening lent items children → Works F driven.line line.request.now.seed work
     → hint ≡ gone_text line.request.now.calling.now.name specs line.request.now.calling.now.machine → remark ≡ []
     → IsPlanned F line.request.now.calling.now line.chain driven line.request.now.seed (record {
       work = work;
@@ -169,17 +173,19 @@ pub planned_so : (F : Facts) (line : GccLine) (driven : Driven) (specs wrapper s
       said = said;
       hint =
           hint;
+      about = about;
       remark = remark;
     })
-planned_so F line driven specs wrapper said hint remark items children work same are set wraps opens works hints none =
+planned_so F line driven specs about lent wrapper said hint remark items children work same are set of lends wraps opens works hints none =
     record {
       opens =
-          sym (ap (λ s. opening F s items children) same ∙ ap (λ w. opening F line.chain.specs w children) are
-          ∙ ap (opening F line.chain.specs driven.line.items) set) ∙ opens;
+          sym (opens ∙ ap (λ t. opening t items children) (lends ∙ of) ∙ ap (λ w. opening line.chain.about w children) are
+          ∙ ap (opening line.chain.about driven.line.items) set);
       works = works;
       children = refl;
       wrapper = wraps ∙ ap wrapper_of are;
       hint = hints ∙ ap (λ s. gone_text line.request.now.calling.now.name s line.request.now.calling.now.machine) same;
+      about = of;
       remark = none;
     }
 
@@ -234,12 +240,12 @@ unworded_plan F line call events worker options slice name specs text works is s
 
 -- For `prepare_task`: if the decision leads to a question, then asking the compiler is what the call has to do.
 pub question_comes : (F : Facts) (calling : Calling) (own : Option (List ℕ)) (args : List (List ℕ)) (seed : ℕ) (words : Expanded)
-    (slice : List (List ℕ)) (decision : Decision) (task : Task) (specs lent compiler : List ℕ) (prepared : Prepared)
+    (slice : List (List ℕ)) (decision : Decision) (task : Task) (file : SpecFile) (compiler : List ℕ) (prepared : Prepared)
     → slice ≡ words.words → Words F calling args words → decide F own slice ≡ Is decision → Leads decision task
-    → task ≡ Question specs compiler → lent ≡ specs → IsQuestion calling lent compiler args prepared
+    → task ≡ Question file compiler → IsQuestion calling file compiler args prepared
     → Plans F calling own args seed [] prepared
-question_comes F calling own args seed words slice decision task specs lent compiler prepared same gives decides leads is at asked =
-    subst (λ p. Plans F calling own args seed [] p) (sym (subst (λ s. IsQuestion calling s compiler args prepared) at asked))
+question_comes F calling own args seed words slice decision task file compiler prepared same gives decides leads is asked =
+    subst (λ p. Plans F calling own args seed [] p) (sym asked)
     (asks gives (ap (decide F own) (sym same) ∙ decides) (subst (Leads decision) is leads))
 
 -- If the decision leads to a compilation, then doing the line, or refusing it, is what the call has to do.

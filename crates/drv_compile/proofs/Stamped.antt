@@ -1,30 +1,28 @@
-use Rattle.drv_compile.proofs.Noting.{noted_as, noted_then}
-use Rattle.drv_compile.specs.Beside.{spec_file}
+use Rattle.drv_compile.proofs.Noting.{noted_then}
+use Rattle.drv_compile.specs.Compilers.{values}
 use Rattle.drv_compile.specs.Compiles.{Comes, Plans, comes}
 use Rattle.drv_compile.specs.Inputs.{Noted}
-use Rattle.drv_compile.specs.Said.{compiler_lines}
-use Rattle.drv_compile.specs.Stamps.{AnyOther, IsOther, IsStale, later_other, no_other, pathless, stamped, stamps_beside, stamps_of}
-use Rattle.drv_compile.specs.Stamps.{this_other, warned}
+use Rattle.drv_compile.specs.Stamps.{AnyOther, IsOther, IsStale, later_other, no_other, pathless, stamped, this_other, warned}
 use Rattle.drv_compile.specs.declared.calling.Calling.{Calling}
 use Rattle.drv_compile.specs.declared.host.HostEvent.TheVariants.{Stamped}
 use Rattle.drv_compile.specs.declared.host.HostEvent.{HostEvent}
 use Rattle.drv_compile.specs.declared.preparing.Prepared.{Prepared}
 use Rattle.drv_system.specs.Facts.{Facts}
-use Rattle.drv_system.specs.Known.{◌>>=◌, Is}
 use Rattle.drv_words.specs.Bytes.{space}
 use Rattle.drv_words.specs.FileNames.{split_at_last}
-use Rattle.std.proofs.Common.{◌≡◌, ◌<◌, ◌≤◌, ◌+◌, ◌∙◌, ◌∷◌, ◌++◌, [], Bool, Err, IfOk, List, None, Ok, Option, Result, Some, ap}
+use Rattle.std.proofs.Common.{◌≡◌, ◌<◌, ◌≤◌, ◌+◌, ◌∙◌, ◌∷◌, ◌++◌, [], Bool, IfOk, List, None, Option, Result, Some, ap}
 use Rattle.std.proofs.Common.{append_assoc, codes, drop, false, length, nat_eq, not, subst, sym, true, ℕ}
 use Rattle.std.proofs.lemmas.List.{append-nil, drop_all, drop_more}
 use Rattle.std.specs.Cmp.Lexicographic.{pointwise}
-use Rattle.std.specs.Prelude.{get_or, ⊤}
+use Rattle.std.specs.Prelude.{get_or}
 
 -- For the stamps of a spec file (src/stamps.rt, src/preparing.rt): whether a file has another one by now, line after line.
 -- Names: `lines` is the lines of stamps, and `line` the one at index `i`, `lent` as the code lends it. `path` and `stamp` are what the line
 -- has, and `found` is the file's stamp by now. `before`, `so` and `after` are the notes before the search, so far, and after one line more.
 -- `other` says whether a file has another stamp. `F` is what is known of the outside, and `knows` says which facts the call has. `own`,
--- `calling`, `args` and `seed` are what the call is given, and `prepared` is what it has to do. `Noted before after P`: events were added,
--- of which P holds. `IsOther`, `AnyOther` and `IsStale` are in specs/Stamps, `Plans` and `Comes` in specs/Compiles.
+-- `calling`, `args` and `seed` are what the call is given, `prepared` is what it has to do, and `about` the text about its compiler. `Noted
+-- before after P`: events were added, of which P holds. `IsOther`, `AnyOther` and `IsStale` are in specs/Stamps, `Plans` and `Comes` in
+-- specs/Compiles.
 
 -- For `is_other`: a line without a path, of which the host is asked nothing.
 pub pathless_asked : (line : List ℕ) (notes : List HostEvent) → split_at_last space line ≡ None
@@ -96,37 +94,24 @@ other_nowhere lines i before so past (events, grown, so_far) = (
       (so_far [] false (subst (λ ls. AnyOther ls [] false) (sym (drop_all i lines past)) no_other)),
 )
 
--- the spec file
-
--- For `stamps_of`: if there is a spec file, then its stamps are those of the file beside it.
-pub stamps_found : {E : Type 0} (F : Facts) (own place found : Option (List ℕ)) (specs lent : List ℕ) (result : Result (List (List ℕ)) E)
-    → place ≡ own → spec_file F place ≡ Is found → found ≡ Some specs → lent ≡ specs
-    → IfOk result (λ lines. compiler_lines F (codes "stamp ") lent ≡ Is lines) → IfOk result (λ lines. stamps_of F own ≡ Is lines)
-stamps_found F own place found specs lent (Err e) same gives some is lines_are = tt
-stamps_found F own place found specs lent (Ok lines) same gives some is lines_are =
-    ap (λ o. spec_file F o >>= λ s. stamps_beside F s) (sym same) ∙ ap (λ k. k >>= λ s. stamps_beside F s) (gives ∙ ap Is some)
-    ∙ ap (compiler_lines F (codes "stamp ")) (sym is) ∙ lines_are
-
--- For `is_stale`: if the lines are those of the spec file, then what holds of them holds of it.
-pub stale_by : {E : Type 0} (own : Option (List ℕ)) (lines lent : List (List ℕ)) (before after : List HostEvent) (result : Result Bool E)
-    (knows : Facts → Type 0) → ((F : Facts) → knows F → stamps_of F own ≡ Is lines) → lent ≡ lines
+-- For `is_stale`: if the lines are those of the text, as the code lends them, then what holds of them holds of it.
+pub stale_by : {E : Type 0} (about : List ℕ) (lines lent : List (List ℕ)) (before after : List HostEvent) (result : Result Bool E)
+    → lines ≡ values (codes "stamp ") about → lent ≡ lines
     → Noted before after (λ events. IfOk result (λ other. AnyOther lent events other))
-    → Noted before after (λ events. (F : Facts) → knows F → IfOk result (λ stale. IsStale F own events stale))
-stale_by own lines lent before after (Err e) knows known same =
-    noted_as before after (λ events. ⊤) (λ events. (F : Facts) → knows F → ⊤) (λ events is F k. tt)
-stale_by own lines lent before after (Ok other) knows known same =
-    noted_as before after (λ events. AnyOther lent events other) (λ events. (F : Facts) → knows F → IsStale F own events other)
-    (λ events is F k. (lines, known F k, subst (λ ls. AnyOther ls events other) same is))
+    → Noted before after (λ events. IfOk result (λ stale. IsStale about events stale))
+stale_by about lines lent before after result are same =
+    subst (λ ls. Noted before after (λ events. IfOk result (λ other. AnyOther ls events other))) (same ∙ are)
 
 -- For `prepare`: what the line asks for, and then what the host says of the stamps, is what the call does.
-pub comes_warned : (calling : Calling) (own : Option (List ℕ)) (args : List (List ℕ)) (seed : ℕ) (prepared made : Prepared) (stale : Bool)
-    (before mid after : List HostEvent) (knows : Facts → Type 0) → made ≡ warned stale prepared
+pub comes_warned : (calling : Calling) (own : Option (List ℕ)) (args : List (List ℕ)) (seed : ℕ) (prepared made : Prepared)
+    (about : List ℕ) (stale : Bool) (before mid after : List HostEvent) (knows : Facts → Type 0) → made ≡ warned stale prepared
+    → about ≡ prepared.about
     → Noted before mid (λ events. (F : Facts) → knows F → Plans F calling own args seed events prepared)
-    → Noted mid after (λ events. (F : Facts) → knows F → IsStale F own events stale)
+    → Noted mid after (λ events. IsStale about events stale)
     → Noted before after (λ events. (F : Facts) → knows F → Comes F calling own args seed events made)
-comes_warned calling own args seed prepared made stale before mid after knows is =
+comes_warned calling own args seed prepared made about stale before mid after knows is of =
     noted_then before mid after (λ events. (F : Facts) → knows F → Plans F calling own args seed events prepared)
-    (λ events. (F : Facts) → knows F → IsStale F own events stale)
+    (λ events. IsStale about events stale)
     (λ events. (F : Facts) → knows F → Comes F calling own args seed events made)
     (λ asked looked planned looks F k. subst (λ p. Comes F calling own args seed (asked ++ looked) p) (sym is)
-    (comes (planned F k) (looks F k)))
+    (comes (planned F k) (subst (λ t. IsStale t looked stale) of looks)))

@@ -5,7 +5,7 @@ use Rattle.drv_compile.specs.Decides.{decide}
 use Rattle.drv_compile.specs.Driven.{IsWorker, Undriven}
 use Rattle.drv_compile.specs.Inputs.{objection}
 use Rattle.drv_compile.specs.Opening.{opening}
-use Rattle.drv_compile.specs.Overwriting.{Overwrites, files_read}
+use Rattle.drv_compile.specs.Overwriting.{Overwrites, files_read, files_written}
 use Rattle.drv_compile.specs.Runs.{Stops, Works}
 use Rattle.drv_compile.specs.Stamps.{IsStale, warned}
 use Rattle.drv_compile.specs.Tasks.{Declines, Leads}
@@ -17,6 +17,7 @@ use Rattle.drv_compile.specs.declared.calling.Calling.{Calling}
 use Rattle.drv_compile.specs.declared.compiling.Outcome.TheVariants.{Done, OutOfMemory, Unnoted}
 use Rattle.drv_compile.specs.declared.compiling.Outcome.{Outcome}
 use Rattle.drv_compile.specs.declared.deciding.Decision.{Decision}
+use Rattle.drv_compile.specs.declared.deciding.SpecFile.{SpecFile}
 use Rattle.drv_compile.specs.declared.driving.Driven.{Driven}
 use Rattle.drv_compile.specs.declared.driving.Worker.TheVariants.{Driver, Nobody}
 use Rattle.drv_compile.specs.declared.host.HostEvent.TheVariants.{Set}
@@ -25,7 +26,6 @@ use Rattle.drv_compile.specs.declared.overwriting.Clash.{Clash}
 use Rattle.drv_compile.specs.declared.preparing.Prepared.{Prepared}
 use Rattle.drv_compile.specs.declared.tasks.Task.TheVariants.{Compilation, Question}
 use Rattle.drv_compile.specs.declared.tasks.Toolchain.{Toolchain}
-use Rattle.drv_core.specs.declared.failure_status.FailureStatus.TheVariants.{GreatestCode}
 use Rattle.drv_run.specs.Calls.{AreSaid, Does}
 use Rattle.drv_run.specs.declared.ending.Ending.TheVariants.{Refused}
 use Rattle.drv_run.specs.declared.ending.Refusal.{Refusal}
@@ -71,18 +71,19 @@ one_command command = record {
 -- the work of a question: the compiler gets the arguments as they are, and its status is the call's
 abbrev pub question : List ℕ → List (List ℕ) → Work
 question compiler args = CarryOut (one_command (record { program = compiler; words = args }))
-    (record { telling = Notices; pass_codes = GreatestCode; window = 1 })
+    (record { telling = Notices; pass_codes = true; window = 1 })
 
 -- What is done for a line that the driver is called with so: its work.
 
 -- the work is that of the driver's line, its variables and wrapper are set, and `said` is said before it. After it the call says `hint`, if
 -- a program of the compiler lacks; such a line has no `remark`
 pub record IsPlanned (F : Facts) (calling : Calling) (chain : Toolchain) (driven : Driven) (seed : ℕ) (prepared : Prepared) : Type 0 where
-  pub opens : opening F chain.specs driven.line.items driven.children ≡ Is prepared.said
+  pub opens : opening chain.about driven.line.items driven.children ≡ prepared.said
   pub works : Works F driven.line seed prepared.work
   pub children : prepared.children ≡ driven.children
   pub wrapper : prepared.wrapper ≡ wrapper_of driven.line.items
   pub hint : prepared.hint ≡ gone_text calling.name chain.specs calling.machine
+  pub about : prepared.about ≡ chain.about
   pub remark : prepared.remark ≡ []
 
 -- A line that is carried out: nothing speaks against it, it writes no file that it reads, and the items that the driver is called with
@@ -90,7 +91,7 @@ pub record IsPlanned (F : Facts) (calling : Calling) (chain : Toolchain) (driven
 pub data Performs (F : Facts) (calling : Calling) (chain : Toolchain) (call : Call) (args : List (List ℕ)) (given : Expanded) (seed : ℕ)
     : List HostEvent → Prepared → Type 0 where
   drives : {driven : Driven} {read asked : List HostEvent} {prepared : Prepared} → objection F calling.name call.inputs ≡ Is []
-      → Overwrites (files_read call args) call.outputs read None → IsWorker F chain call given asked (Driver driven)
+      → Overwrites (files_read call args) (files_written call) read None → IsWorker F chain call given asked (Driver driven)
       → IsPlanned F calling chain driven seed prepared → Performs F calling chain call args given seed (read ++ asked) prepared
 
 -- why a line that could be carried out is refused, and the text that says it: an input is missing, an output is a file that it reads, it
@@ -100,16 +101,16 @@ pub data Fails (F : Facts) (calling : Calling) (chain : Toolchain) (call : Call)
   objected : {b : ℕ} {text : List ℕ} → objection F calling.name call.inputs ≡ Is (b ∷ text)
       → Fails F calling chain call args given seed [] (b ∷ text)
   overwriting : {events : List HostEvent} {clash : Clash} → objection F calling.name call.inputs ≡ Is []
-      → Overwrites (files_read call args) call.outputs events (Some clash)
+      → Overwrites (files_read call args) (files_written call) events (Some clash)
       → Fails F calling chain call args given seed events (overwritten_text calling.name clash)
   undriven : {read asked : List HostEvent} {text : List ℕ} → objection F calling.name call.inputs ≡ Is []
-      → Overwrites (files_read call args) call.outputs read None
+      → Overwrites (files_read call args) (files_written call) read None
       → Undriven F calling chain call given asked text → Fails F calling chain call args given seed (read ++ asked) text
   unworded : {read asked : List HostEvent} {options : List ℕ} → objection F calling.name call.inputs ≡ Is []
-      → Overwrites (files_read call args) call.outputs read None → IsWorker F chain call given asked (Nobody options)
+      → Overwrites (files_read call args) (files_written call) read None → IsWorker F chain call given asked (Nobody options)
       → Fails F calling chain call args given seed (read ++ asked) (unworded_text calling.name chain.specs options)
   stopped : {read asked : List HostEvent} {driven : Driven} {refusal : Refusal} {text : List ℕ}
-      → objection F calling.name call.inputs ≡ Is [] → Overwrites (files_read call args) call.outputs read None
+      → objection F calling.name call.inputs ≡ Is [] → Overwrites (files_read call args) (files_written call) read None
       → IsWorker F chain call given asked (Driver driven) → Stops F driven.line seed (Refused refusal)
       → text ≡ told_refusal calling.name refusal → Fails F calling chain call args given seed (read ++ asked) text
 
@@ -117,15 +118,16 @@ pub data Fails (F : Facts) (calling : Calling) (chain : Toolchain) (call : Call)
 -- where the spec file of this program lies, if that is known.
 pub data Plans (F : Facts) (calling : Calling) (own : Option (List ℕ)) (args : List (List ℕ)) (seed : ℕ) : List HostEvent → Prepared
     → Type 0 where
-  asks : {words : Expanded} {decision : Decision} {specs compiler : List ℕ} → Words F calling args words
+  asks : {words : Expanded} {decision : Decision} {file : SpecFile} {compiler : List ℕ} → Words F calling args words
       → decide F own words.words ≡ Is decision
-      → Leads decision (Question specs compiler)
+      → Leads decision (Question file compiler)
       → Plans F calling own args seed [] (record {
         work = question compiler args;
         children = [];
         wrapper = [];
         said = help_text calling.name compiler args;
-        hint = gone_text calling.name specs calling.machine;
+        hint = gone_text calling.name file.path calling.machine;
+        about = file.about;
         remark = version_text calling.name compiler args;
       })
   performs : {words : Expanded} {decision : Decision} {chain : Toolchain} {call : Call} {events : List HostEvent} {prepared : Prepared}
@@ -137,7 +139,7 @@ pub data Plans (F : Facts) (calling : Calling) (own : Option (List ℕ)) (args :
 pub data Comes (F : Facts) (calling : Calling) (own : Option (List ℕ)) (args : List (List ℕ)) (seed : ℕ) : List HostEvent → Prepared
     → Type 0 where
   comes : {asked looked : List HostEvent} {prepared : Prepared} {stale : Bool} → Plans F calling own args seed asked prepared
-      → IsStale F own looked stale → Comes F calling own args seed (asked ++ looked) (warned stale prepared)
+      → IsStale prepared.about looked stale → Comes F calling own args seed (asked ++ looked) (warned stale prepared)
 
 -- why arguments are refused, with what the host was asked before: by their words, by what they ask for, or by the line
 pub data Refuses (F : Facts) (calling : Calling) (own : Option (List ℕ)) (args : List (List ℕ)) (seed : ℕ) : List HostEvent → List ℕ
@@ -178,7 +180,7 @@ abbrev pub is_absent : List Job → List ℕ → Event → Bool
 is_absent jobs wrapper (Run e) = is_missing e.answer && is_own wrapper (program_of jobs e.step)
 is_absent jobs wrapper _ = false
 
--- whether any event of a work shows that: then the spec file may be for a gcc that is gone. It decides which text ends the call
+-- whether any event of a work shows that: then the gcc of the spec file may be gone, or another. It decides which text ends the call
 abbrev pub lacks_program : Prepared → List Event → Bool
 lacks_program prepared = list_any (is_absent (jobs_before_link prepared.work) prepared.wrapper)
 

@@ -5,6 +5,7 @@ use Rattle.drv_compile.specs.Places.{companion}
 use Rattle.drv_compile.specs.Reading.{line_read}
 use Rattle.drv_compile.specs.declared.deciding.Decision.TheVariants.{Damaged, NoCompiler, NoSpecs, Read}
 use Rattle.drv_compile.specs.declared.deciding.Decision.{Decision}
+use Rattle.drv_compile.specs.declared.deciding.SpecFile.{SpecFile}
 use Rattle.drv_compile.specs.declared.reading.Reading.{Reading}
 use Rattle.drv_system.specs.Facts.{Facts, variable_of}
 use Rattle.drv_system.specs.Known.{◌>>=◌, Is, Known, asked}
@@ -15,13 +16,13 @@ use Rattle.std.specs.Prelude.{List, [], ◌∷◌, None, Option, Some, codes, ma
 -- For clauses of src/deciding.rt and src/compilers.rt.
 
 -- what the reading of a line decides; the file with the names of options was damaged where there is no reading
-abbrev pub of_reading : List ℕ → Surroundings → Option Reading → Decision
-of_reading specs around None = Damaged specs (companion specs (codes ".options"))
-of_reading specs around (Some reading) = Read specs around reading
+abbrev pub of_reading : SpecFile → Surroundings → Option Reading → Decision
+of_reading file around None = Damaged file.path (companion file.path (codes ".options"))
+of_reading file around (Some reading) = Read file around reading
 
 -- what a line asks for where the compiler and its folders are known
-abbrev pub decided_around : Facts → List ℕ → List (List ℕ) → Surroundings → Known Decision
-decided_around F specs words around = line_read F specs around words >>= λ reading. Is (of_reading specs around reading)
+abbrev pub decided_around : Facts → SpecFile → List (List ℕ) → Surroundings → Known Decision
+decided_around F file words around = line_read F file.path around words >>= λ reading. Is (of_reading file around reading)
 
 -- the folders beside the spec file that have copies of vendors' spec files: a line `copies` of that file has the ending of one
 abbrev pub copies_of : List ℕ → List ℕ → List (List ℕ)
@@ -50,7 +51,7 @@ abbrev pub decided_by : Facts → List ℕ → List (List ℕ) → List ℕ → 
 decided_by F specs words text None = Is (NoCompiler specs)
 decided_by F specs words text (Some compiler) =
     asked (variable_of F (codes "COMPILER_PATH")) >>= λ programs. asked (variable_of F (codes "LIBRARY_PATH")) >>= λ libraries.
-    decided_around F specs words (surroundings specs text compiler programs libraries)
+    decided_around F (record { path = specs; about = text }) words (surroundings specs text compiler programs libraries)
 
 -- what a line asks for, by the text of that file, if it is whole
 abbrev pub decided_over : Facts → List ℕ → List (List ℕ) → Option (List ℕ) → Known Decision

@@ -7,7 +7,6 @@ use Rattle.drv_cc.specs.declared.answer.Answer.{Answer}
 use Rattle.drv_cc.specs.declared.answer.Call.{Call}
 use Rattle.drv_cc.specs.declared.answer.Variable.{Variable}
 use Rattle.drv_cc.specs.declared.refusal.Refusal.{Refusal}
-use Rattle.drv_compile.specs.Beside.{written_beside}
 use Rattle.drv_compile.specs.Compilers.{values}
 use Rattle.drv_compile.specs.Machines.{RowAsked, items_by}
 use Rattle.drv_compile.specs.Near.{AreTold}
@@ -19,7 +18,6 @@ use Rattle.drv_compile.specs.Texts.{damaged_text}
 use Rattle.drv_compile.specs.Words.{told_refusal}
 use Rattle.drv_compile.specs.declared.calling.Calling.{Calling}
 use Rattle.drv_compile.specs.declared.driving.Driven.{Driven}
-use Rattle.drv_compile.specs.declared.driving.LineFiles.{LineFiles}
 use Rattle.drv_compile.specs.declared.driving.Worker.TheVariants.{Driver, Nobody}
 use Rattle.drv_compile.specs.declared.driving.Worker.{Worker}
 use Rattle.drv_compile.specs.declared.host.HostEvent.{HostEvent}
@@ -32,7 +30,7 @@ use Rattle.drv_compile.specs.declared.tasks.Toolchain.{Toolchain}
 use Rattle.drv_run.specs.declared.ending.Ending.TheVariants.{Refused}
 use Rattle.drv_run.specs.declared.ending.Refusal as driver
 use Rattle.drv_system.specs.Facts.{Facts}
-use Rattle.drv_system.specs.Known.{Is, Known}
+use Rattle.drv_system.specs.Known.{Is}
 use Rattle.std.specs.Prelude.{◌≡◌, List, [], ◌∷◌, ◌++◌, None, Ok, Err, Option, Some, codes, ℕ}
 
 -- Who carries out a line, over facts: the driver, with the file that has the line's texts and its items, with the options that its spec
@@ -57,21 +55,16 @@ IsMade path rows made given (Driver driven) =
     × (driven ≡ record { line = driver_line path (suffixed_by rows items) given; children = children })
 IsMade path rows made given (Nobody options) = made ≡ Lacks options
 
--- with the words for its machine, by its row in the file that names the compiler, or by that compiler's answer
-abbrev pub IsMachined : List ℕ → LineFiles → Call → Expanded → List HostEvent → Worker → Type 0
-IsMachined specs files call given events worker =
-    (row : LineRow) × RowAsked specs files.rows call.items events row
-    × IsMade files.texts files.rows (items_by row call.items call.children) given worker
-
--- the file that names the compiler and has the rows of its machines, if it is whole
-abbrev pub rows_of : Facts → List ℕ → Known (Option (List ℕ))
-rows_of F specs = written_beside F specs (codes ".gcc")
+-- with the words for its machine, by its row in the text about the compiler, or by that compiler's answer
+abbrev pub IsMachined : Toolchain → List ℕ → Call → Expanded → List HostEvent → Worker → Type 0
+IsMachined chain path call given events worker =
+    (row : LineRow) × RowAsked chain.specs (Some chain.about) call.items events row
+    × IsMade path (Some chain.about) (items_by row call.items call.children) given worker
 
 -- a line by itself, with the file that has its texts, if that is whole, and with what the host was asked for its row
-abbrev pub IsCalled : Facts → List ℕ → Call → Expanded → List HostEvent → Worker → Type 0
-IsCalled F specs call given events worker =
-    (files : LineFiles) × (texts_of F specs call.items call.stages ≡ Is (Whole files.texts)) × (rows_of F specs ≡ Is files.rows)
-    × IsMachined specs files call given events worker
+abbrev pub IsCalled : Facts → Toolchain → Call → Expanded → List HostEvent → Worker → Type 0
+IsCalled F chain call given events worker =
+    (path : List ℕ) × (texts_of F chain.specs call.items call.stages ≡ Is (Whole path)) × IsMachined chain path call given events worker
 
 -- the refusal of a line by itself, as the file with its texts isn't whole: the host was asked nothing
 pub data IsUncalled (F : Facts) (calling : Calling) (specs : List ℕ) (call : Call) : List HostEvent → List ℕ → Type 0 where
@@ -101,7 +94,7 @@ IsUnanswered F name chain given first text =
 -- a line that the driver would be called with so, after its spec files: the line in its place, or itself
 pub data IsWorkerAfter (F : Facts) (chain : Toolchain) (given : Expanded) (first : Driven) : List HostEvent → Worker → Type 0 where
   in_place : {answer : Option Answer} {call : Call} {events : List HostEvent} {worker : Worker}
-      → answer_of F chain given first ≡ Is (Ok answer) → Replaces answer (Some call) → IsCalled F chain.specs call given events worker
+      → answer_of F chain given first ≡ Is (Ok answer) → Replaces answer (Some call) → IsCalled F chain call given events worker
       → IsWorkerAfter F chain given first events worker
   unchanged : {answer : Option Answer} → answer_of F chain given first ≡ Is (Ok answer) → Replaces answer None
       → IsWorkerAfter F chain given first [] (Driver first)
@@ -118,9 +111,9 @@ pub data IsUndrivenAfter (F : Facts) (calling : Calling) (chain : Toolchain) (gi
 
 -- who carries out a line: nobody at once, or the driver unless the line's spec files give it another
 pub data IsChosen (F : Facts) (chain : Toolchain) (call : Call) (given : Expanded) : List HostEvent → Worker → Type 0 where
-  at_once : {options : List ℕ} {events : List HostEvent} → IsCalled F chain.specs call given events (Nobody options)
+  at_once : {options : List ℕ} {events : List HostEvent} → IsCalled F chain call given events (Nobody options)
       → IsChosen F chain call given events (Nobody options)
-  later : {first : Driven} {worker : Worker} {events more : List HostEvent} → IsCalled F chain.specs call given events (Driver first)
+  later : {first : Driven} {worker : Worker} {events more : List HostEvent} → IsCalled F chain call given events (Driver first)
       → IsWorkerAfter F chain given first more worker → IsChosen F chain call given (events ++ more) worker
 
 -- what the driver is called with, with the libraries of its link
@@ -139,5 +132,5 @@ pub data Undriven (F : Facts) (calling : Calling) (chain : Toolchain) (call : Ca
     : List HostEvent → List ℕ → Type 0 where
   uncalled : {events : List HostEvent} {text : List ℕ} → IsUncalled F calling chain.specs call events text
       → Undriven F calling chain call given events text
-  undriven_after : {first : Driven} {events more : List HostEvent} {text : List ℕ} → IsCalled F chain.specs call given events (Driver first)
+  undriven_after : {first : Driven} {events more : List HostEvent} {text : List ℕ} → IsCalled F chain call given events (Driver first)
       → IsUndrivenAfter F calling chain given first more text → Undriven F calling chain call given (events ++ more) text

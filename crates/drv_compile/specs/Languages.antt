@@ -1,11 +1,12 @@
 use Rattle.drv_args.specs.declared.line.Input.TheVariants.{File, Library, LinkWord}
 use Rattle.drv_args.specs.declared.line.Input.{Input}
+use Rattle.drv_compile.specs.declared.languages.TheConstants.{FOREIGN}
 use Rattle.drv_plan.specs.Languages.{Chosen, chosen_for}
 use Rattle.drv_plan.specs.declared.fault.PlanFault.{PlanFault}
 use Rattle.drv_specs.specs.Sets.{Set}
 use Rattle.std.specs.List.{ends_with}
 use Rattle.std.specs.Option.{option_map}
-use Rattle.std.specs.Prelude.{◌&&◌, Bool, List, [], ◌∷◌, None, Ok, Option, Result, Some, codes, false, find, if◌then◌else◌, length, nat_eq}
+use Rattle.std.specs.Prelude.{◌&&◌, Bool, List, [], ◌∷◌, None, Ok, Option, Result, Some, false, find, if◌then◌else◌, length, map, nat_eq}
 use Rattle.std.specs.Prelude.{nat_lt, true, ℕ}
 
 -- Sources in languages that gcc compiles and this program doesn't, unless a spec file has texts for their suffixes (GCC manual, "Overall
@@ -15,48 +16,15 @@ use Rattle.std.specs.Prelude.{nat_lt, true, ℕ}
 
 -- a suffix, and the language of the sources that have it
 unfoldable pub foreign_suffixes : List (List ℕ × List ℕ)
-foreign_suffixes =
-    (codes ".ads", codes "Ada")
-    ∷ (codes ".adb", codes "Ada")
-    ∷ (codes ".f", codes "Fortran")
-    ∷ (codes ".F", codes "Fortran")
-    ∷ (codes ".for", codes "Fortran")
-    ∷ (codes ".FOR", codes "Fortran")
-    ∷ (codes ".ftn", codes "Fortran")
-    ∷ (codes ".FTN", codes "Fortran")
-    ∷ (codes ".fpp", codes "Fortran")
-    ∷ (codes ".FPP", codes "Fortran")
-    ∷ (codes ".f90", codes "Fortran")
-    ∷ (codes ".F90", codes "Fortran")
-    ∷ (codes ".f95", codes "Fortran")
-    ∷ (codes ".F95", codes "Fortran")
-    ∷ (codes ".f03", codes "Fortran")
-    ∷ (codes ".F03", codes "Fortran")
-    ∷ (codes ".f08", codes "Fortran")
-    ∷ (codes ".F08", codes "Fortran")
-    ∷ (codes ".r", codes "Ratfor")
-    ∷ (codes ".go", codes "Go")
-    ∷ (codes ".d", codes "D")
-    ∷ (codes ".dd", codes "D")
-    ∷ (codes ".di", codes "D")
-    ∷ (codes ".mod", codes "Modula-2")
-    ∷ (codes ".hh", codes "C++ header")
-    ∷ (codes ".H", codes "C++ header")
-    ∷ (codes ".hp", codes "C++ header")
-    ∷ (codes ".hxx", codes "C++ header")
-    ∷ (codes ".hpp", codes "C++ header")
-    ∷ (codes ".HPP", codes "C++ header")
-    ∷ (codes ".h++", codes "C++ header")
-    ∷ (codes ".tcc", codes "C++ header")
-    ∷ []
+foreign_suffixes = map (λ row. (row.0.now, row.1.now)) FOREIGN
 
--- whether a name ends with the suffix of a row, and has more than that
-abbrev pub ends_so : List ℕ → List ℕ × List ℕ → Bool
-ends_so name row = nat_lt (length row.0) (length name) && ends_with nat_eq name row.0
+-- whether a name ends with a suffix, and has more than that
+abbrev pub ends_so : List ℕ → List ℕ → Bool
+ends_so name suffix = nat_lt (length suffix) (length name) && ends_with nat_eq name suffix
 
 -- the language of a name by its suffix, if it is one of these
 abbrev pub language_by : List ℕ → Option (List ℕ)
-language_by name = option_map (λ row. row.1) (find (ends_so name) foreign_suffixes)
+language_by name = option_map (λ row. row.1) (find (λ row. ends_so name row.0) foreign_suffixes)
 
 -- the language of an input by its name
 abbrev pub language_of : Input → Option (List ℕ)

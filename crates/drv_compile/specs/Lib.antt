@@ -16,7 +16,6 @@ pub mod Passed
 pub mod Places
 pub mod Reading
 pub mod Runs
-pub mod Said
 pub mod SelfSpecs
 pub mod Stamps
 pub mod Suffixes

@@ -125,9 +125,15 @@ child_word (b ∷ word) =
 abbrev pub child_words : List ℕ → List ℕ
 child_words row = flat_map child_word (slice_split (λ b. b == byte.tab) row)
 
+-- words in a text before the word -dumpdir, which gcc's driver adds last, or behind all
+abbrev pub with_words : List ℕ → List ℕ → List ℕ
+with_words words [] = words
+with_words words (b ∷ text) =
+    if starts_with nat_eq (b ∷ text) (codes " '-dumpdir' '") then words ++ b ∷ text else b ∷ with_words words text
+
 -- a line's switches for the children, by its row
 abbrev pub child_line : List Item → List ℕ → List ℕ → List ℕ
-child_line items row text = drop 1 (without_options items (byte.space ∷ text) ++ child_words row)
+child_line items row text = drop 1 (with_words (child_words row) (without_options items (byte.space ∷ text)))
 
 -- a variable of the children, by the row of the line
 abbrev pub child_variable : List Item → List ℕ → Variable → Variable

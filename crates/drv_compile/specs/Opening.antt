@@ -3,10 +3,8 @@ use Rattle.drv_args.specs.declared.option_table.Effect.TheVariants as effect
 use Rattle.drv_args.specs.declared.option_table.Effect.{Effect}
 use Rattle.drv_args.specs.declared.option_table.Setting.TheVariants as setting
 use Rattle.drv_cc.specs.declared.answer.Variable.{Variable}
-use Rattle.drv_compile.specs.Said.{compiler_lines}
+use Rattle.drv_compile.specs.Compilers.{values}
 use Rattle.drv_compile.specs.Texts.{said_text}
-use Rattle.drv_system.specs.Facts.{Facts}
-use Rattle.drv_system.specs.Known.{◌>>=◌, Is, Known}
 use Rattle.std.specs.List.{list_any}
 use Rattle.std.specs.Prelude.{Bool, List, [], ◌∷◌, codes, false, if◌then◌else◌, true, ℕ}
 
@@ -20,15 +18,13 @@ shows (effect.TurnsOn setting.Verbose) = true
 shows (effect.TurnsOn setting.Dry) = true
 shows _ = false
 
--- what the compiler says of itself, if the line shows its commands
-abbrev pub lines_shown : Facts → List ℕ → List Item → Known (List (List ℕ))
-lines_shown F specs items = if list_any (λ i. shows i.effect) items then compiler_lines F (codes "said ") specs else Is []
-
 -- what the compiler says of itself, and then the switches of a link; nothing where it says nothing
 abbrev pub text_shown : List Variable → List (List ℕ) → List ℕ
 text_shown children [] = []
 text_shown children (line ∷ lines) = said_text (line ∷ lines) children
 
--- the text that is said before a line's work, over facts; it is empty where no command is shown
-abbrev pub opening : Facts → List ℕ → List Item → List Variable → Known (List ℕ)
-opening F specs items children = lines_shown F specs items >>= λ lines. Is (text_shown children lines)
+-- the text that is said before a line's work: a line `said` of the text about the compiler is one that it says of itself. It is empty where
+-- no command is shown
+abbrev pub opening : List ℕ → List Item → List Variable → List ℕ
+opening about items children =
+    if list_any (λ i. shows i.effect) items then text_shown children (values (codes "said ") about) else []

@@ -1,27 +1,15 @@
-use Rattle.drv_compile.specs.Beside.{spec_file}
-use Rattle.drv_compile.specs.Said.{compiler_lines}
+use Rattle.drv_compile.specs.Compilers.{values}
 use Rattle.drv_compile.specs.declared.host.HostEvent.TheVariants.{Stamped}
 use Rattle.drv_compile.specs.declared.host.HostEvent.{HostEvent}
 use Rattle.drv_compile.specs.declared.preparing.Prepared.{Prepared}
-use Rattle.drv_system.specs.Facts.{Facts}
-use Rattle.drv_system.specs.Known.{◌>>=◌, Is, Known}
 use Rattle.drv_words.specs.Bytes.{space}
 use Rattle.drv_words.specs.FileNames.{split_at_last}
 use Rattle.std.specs.Cmp.Lexicographic.{pointwise}
-use Rattle.std.specs.Prelude.{◌≡◌, Bool, List, [], ◌∷◌, ◌++◌, None, Option, Some, codes, false, nat_eq, not, true, ℕ}
+use Rattle.std.specs.Prelude.{◌≡◌, Bool, List, [], ◌∷◌, ◌++◌, None, Some, codes, false, nat_eq, not, true, ℕ}
 
 -- Whether the compiler of a spec file is as it was when that was written (this project's profile). A line `stamp PATH STAMP` of the file
 -- beside it has the stamp of a file then: its size and the time of its last change, or a minus where it was missing.
 -- For clauses of src/stamps.rt and src/preparing.rt.
-
--- the stamps beside a spec file, if there is one
-abbrev pub stamps_beside : Facts → Option (List ℕ) → Known (List (List ℕ))
-stamps_beside F None = Is []
-stamps_beside F (Some specs) = compiler_lines F (codes "stamp ") specs
-
--- the stamps of a call's spec file
-abbrev pub stamps_of : Facts → Option (List ℕ) → Known (List (List ℕ))
-stamps_of F own = spec_file F own >>= λ specs. stamps_beside F specs
 
 -- whether a file has another stamp by now, as the host says; of a line without a path it is asked nothing
 pub data IsOther (line : List ℕ) : List HostEvent → Bool → Type 0 where
@@ -37,9 +25,9 @@ pub data AnyOther : List (List ℕ) → List HostEvent → Bool → Type 0 where
   later_other : {line : List ℕ} {lines : List (List ℕ)} {events more : List HostEvent} {other : Bool} → IsOther line events false
       → AnyOther lines more other → AnyOther (line ∷ lines) (events ++ more) other
 
--- whether a file of the compiler is another by now
-abbrev pub IsStale : Facts → Option (List ℕ) → List HostEvent → Bool → Type 0
-IsStale F own events stale = (lines : List (List ℕ)) × (stamps_of F own ≡ Is lines) × AnyOther lines events stale
+-- whether a file of the compiler that a text is about is another by now
+abbrev pub IsStale : List ℕ → List HostEvent → Bool → Type 0
+IsStale about events stale = AnyOther (values (codes "stamp ") about) events stale
 
 -- what a call does then: it says its hint first, and not again
 abbrev pub warned : Bool → Prepared → Prepared

@@ -143,7 +143,7 @@ unwritten_text name before path specs machine = error_line name (quoted before p
 
 -- after a run that did not find a program
 abbrev pub gone_text : List ℕ → List ℕ → List ℕ → List ℕ
-gone_text name specs machine = name ++ codes ": note: the spec file may be for a gcc that is gone: " ++ writing specs machine
+gone_text name specs machine = name ++ codes ": note: the spec file may be for a gcc that was changed or is gone: " ++ writing specs machine
     ++ codes " again\n"
 
 -- Where the only word of a line is --help or --version, the compiler's answer gets a line in the name of this program: before it, or after

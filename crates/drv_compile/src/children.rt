@@ -1,7 +1,7 @@
 //! The switches of a line for the children of its link, by the row for its machine.
 
 ghost use Rattle.drv_compile.specs.Machines.{child_word, child_variable, child_words, child_line, quoted_word};
-ghost use Rattle.drv_compile.specs.Machines.{without, without_option, without_options};
+ghost use Rattle.drv_compile.specs.Machines.{with_words, without, without_option, without_options};
 ghost use Rattle.std.specs.Prelude.{◌≡◌, ◌++◌, IfOk, OnOk, map};
 
 use crate::compilers::rest_of;
@@ -90,14 +90,38 @@ fn child_words(alloc: Global, row: &[u8]) -> Result<Word, AllocError>
     Ok(words)
 }
 
+/// The word before which the words of a row are: the driver says last where dumps go.
+const LAST: &[u8] = b" '-dumpdir' '";
+
+/// A text with words before that word, or behind all.
+#[tactic(auto, using(crate::proofs::ChildTexts::words_here, crate::proofs::ChildTexts::byte_before))]
+fn with_words(alloc: Global, text: &[u8], words: &[u8]) -> Result<Word, AllocError>
+    ensures { IfOk result (λ made. made ≡ with_words words.now text.now) }
+{
+    let mut made = Word::empty(alloc);
+    let mut left = text;
+    while let [byte, rest @ ..] = left {
+        if left.starts_with(LAST) {
+            made.extend_from_slice(words)?;
+            made.extend_from_slice(left)?;
+            return Ok(made);
+        }
+        made.push(*byte)?;
+        left = rest;
+    }
+    made.extend_from_slice(words)?;
+    Ok(made)
+}
+
 /// The switches of a line for the children, by its row.
 fn child_line(alloc: Global, items: &[Item], row: &[u8], text: &[u8]) -> Result<Word, AllocError>
     ensures { IfOk result (λ line. line ≡ child_line items.now row.now text.now) }
 {
     let mut spaced = Word::from_bytes(alloc, b" ")?;
     spaced.extend_from_slice(text)?;
-    let mut line = without_options(alloc, items, spaced)?;
-    line.extend_from_slice(child_words(alloc, row)?.as_bytes())?;
+    let others = without_options(alloc, items, spaced)?;
+    let words = child_words(alloc, row)?;
+    let line = with_words(alloc, others.as_bytes(), words.as_bytes())?;
     Word::from_bytes(alloc, line.as_bytes().get(1..).unwrap_or(&[]))
 }
 

@@ -21,6 +21,15 @@ use drv_system::{Outside, System};
 use drv_words::{Listing, Word, copy_word};
 use std::alloc::{AllocError, Global};
 
+/// The spec file of a call, and what is written of its compiler.
+#[derive(Drop)]
+pub(crate) struct SpecFile {
+    /// The path of the spec file.
+    pub(crate) path: Word,
+    /// The lines of the file beside it that is about the compiler.
+    pub(crate) about: Word,
+}
+
 /// What the words of a line ask for.
 #[derive(Drop)]
 pub(crate) enum Decision {
@@ -38,7 +47,7 @@ pub(crate) enum Decision {
     /// The line was read.
     Read {
         /// The spec file.
-        specs: Word,
+        file: SpecFile,
         /// The compiler of the spec file, and where it looks.
         around: Surroundings,
         /// The answer to the line.
@@ -66,19 +75,20 @@ pub(crate) fn variable<S: System>(
 /// The decision by what a line was read as, if the files that this took are whole.
 fn of_reading(
     alloc: Global,
-    specs: Word,
+    file: SpecFile,
     around: Surroundings,
     reading: Option<Reading>,
 ) -> Result<Decision, AllocError>
-    ensures { IfOk result (λ decision. decision ≡ of_reading specs around reading) }
+    ensures { IfOk result (λ decision. decision ≡ of_reading file around reading) }
 {
     match reading {
         Some(reading) => Ok(Decision::Read {
-            specs,
+            file,
             around,
             reading,
         }),
         None => {
+            let specs = file.path;
             let path = companion(alloc, specs.as_bytes(), b".options")?;
             Ok(Decision::Damaged { specs, path })
         }
@@ -88,16 +98,16 @@ fn of_reading(
 /// The decision over a compiler and where it looks.
 fn decided_around<S: System>(
     alloc: Global,
-    specs: Word,
+    file: SpecFile,
     words: &[Word],
     around: Surroundings,
     outside: &mut Outside<'_, S>,
 ) -> Result<Decision, AllocError>
     ensures asks { Asked S.events outside.old outside.new }
-    ensures decision { Tells outside.new result (λ F. decided_around F specs words.now around) }
+    ensures decision { Tells outside.new result (λ F. decided_around F file words.now around) }
 {
-    let reading = read_line(alloc, specs.as_bytes(), &around, words, outside)?;
-    of_reading(alloc, specs, around, reading)
+    let reading = read_line(alloc, file.path.as_bytes(), &around, words, outside)?;
+    of_reading(alloc, file, around, reading)
 }
 
 /// The folders beside a spec file that have copies of vendors' spec files.
@@ -115,21 +125,22 @@ fn copies_of(alloc: Global, specs: &[u8], text: &[u8]) -> Result<Listing<Word>, 
 #[tactic(auto, using(drv_system::proofs::AskedCalls::asked_further))]
 fn decided_by<S: System>(
     alloc: Global,
-    specs: Word,
+    path: Word,
     words: &[Word],
-    text: &[u8],
+    about: Word,
     outside: &mut Outside<'_, S>,
 ) -> Result<Decision, AllocError>
     ensures asks { Asked S.events outside.old outside.new }
     ensures decision { Tells outside.new result
-        (λ F. decided_over F specs words.now (Some text.now)) }
+        (λ F. decided_over F path words.now (Some about)) }
 {
+    let text = about.as_bytes();
     let compiler = first_value(alloc, b"compiler ", text)?;
     let Some(compiler) = compiler else {
-        return Ok(Decision::NoCompiler(specs));
+        return Ok(Decision::NoCompiler(path));
     };
     let folders = values(alloc, b"folder ", text)?;
-    let copies = copies_of(alloc, specs.as_bytes(), text)?;
+    let copies = copies_of(alloc, path.as_bytes(), text)?;
     let children = values(alloc, b"child ", text)?;
     let compiler_path = variable(alloc, b"COMPILER_PATH", outside)?;
     let library_path = variable(alloc, b"LIBRARY_PATH", outside)?;
@@ -141,7 +152,7 @@ fn decided_by<S: System>(
         library_path,
         children,
     };
-    decided_around(alloc, specs, words, around, outside)
+    decided_around(alloc, SpecFile { path, about }, words, around, outside)
 }
 
 /// The decision over a spec file with this text beside it, if that is whole.
@@ -159,7 +170,7 @@ fn decided_over<S: System>(
         let path = companion(alloc, specs.as_bytes(), b".gcc")?;
         return Ok(Decision::Damaged { specs, path });
     };
-    decided_by(alloc, specs, words, text.as_bytes(), outside)
+    decided_by(alloc, specs, words, text, outside)
 }
 
 /// The decision with a spec file, if there is one.

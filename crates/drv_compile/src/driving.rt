@@ -15,7 +15,6 @@ ghost use Rattle.drv_system.specs.Known.{Is};
 ghost use Rattle.std.specs.Option.{option_copied};
 ghost use Rattle.std.specs.Prelude.{◌≡◌, IfOk, MatchResult, Ok};
 
-use crate::finding::written_beside;
 use crate::host::Host;
 use crate::machines::{MachineItems, for_machines, items_by};
 use crate::parts::{Texts, texts_asked};
@@ -76,16 +75,6 @@ fn driver_items(
     Ok(Listing::from_vec(all))
 }
 
-/// The bytes of a text, if there is one.
-fn slice_of(text: &Option<Word>) -> Option<&[u8]>
-    ensures { option_copied result ≡ text.now }
-{
-    match text {
-        Some(text) => Some(text.as_bytes()),
-        None => None,
-    }
-}
-
 /// Who carries out a line with these items, with this file that has its texts, and with the suffix
 /// of programs that the rows name.
 fn made_call(
@@ -111,32 +100,23 @@ fn made_call(
     }
 }
 
-/// The files by which a line is called.
-#[derive(Drop)]
-struct LineFiles {
-    /// The path of the one that has its texts.
-    texts: Word,
-    /// The lines of the one that has the rows for machines, if that is whole.
-    rows: Option<Word>,
-}
-
-/// Who carries out a line by itself, by these files. The host is asked for a row that they lack.
+/// Who carries out a line by itself, with the file at this path, which has its texts. The host is
+/// asked for a row that the text about the compiler lacks.
 fn machined_call<S: System, H: Host<S>>(
     alloc: Global,
     line: &GccLine<'_>,
-    files: LineFiles,
+    path: Word,
     call: Call,
     host: &mut H,
 ) -> Result<Worker, AllocError>
     ensures { Noted (H.notes host.old) (H.notes host.new)
-        (λ events. IfOk result (λ worker. IsMachined line.now.chain.specs files call line.now.given
+        (λ events. IfOk result (λ worker. IsMachined line.now.chain path call line.now.given
         events worker)) }
 {
-    let LineFiles { texts, rows } = files;
-    let lines = for_machines(slice_of(&rows));
-    let row = row_asked(alloc, &line.chain.specs, lines, call.items.as_slice(), host)?;
+    let rows = for_machines(line.chain.about.as_bytes());
+    let row = row_asked(alloc, &line.chain.specs, rows, call.items.as_slice(), host)?;
     let made = items_by(alloc, row, call.items, call.children)?;
-    made_call(alloc, texts, lines, made, &line.given)
+    made_call(alloc, path, rows, made, &line.given)
 }
 
 /// Who carries out a line by itself, with the file that has its texts.
@@ -154,17 +134,15 @@ fn driver_of_call<S: System, H: Host<S>>(
     ensures calls { Noted (H.notes host.old) (H.notes host.new)
         (λ events. (F : Facts) → Extends outside.new.facts.now F
         → MatchResult result
-        (λ worker. IsCalled F line.now.chain.specs call line.now.given events worker)
+        (λ worker. IsCalled F line.now.chain call line.now.given events worker)
         (λ stop. IfTold stop
         (IsUncalled F line.now.request.now.calling.now line.now.chain.specs call events))) }
 {
     let specs = line.chain.specs.as_bytes();
-    let rows = written_beside(alloc, specs, b".gcc", outside)?;
     let texts = texts_asked(alloc, specs, call.items.as_slice(), call.stages, outside)?;
     match texts {
         Texts::Whole(path) => {
-            let files = LineFiles { texts: path, rows };
-            let worker = machined_call(alloc, line, files, call, host)?;
+            let worker = machined_call(alloc, line, path, call, host)?;
             Ok(worker)
         }
         Texts::Damaged(path) => {

@@ -1,6 +1,5 @@
 //! Sources in languages that no spec file serves.
 
-ghost use Rattle.drv_compile.specs.Code.Working.{row_shown};
 ghost use Rattle.drv_compile.specs.Languages.{ends_so, first_unserved, foreign_suffixes, is_linkers};
 ghost use Rattle.drv_compile.specs.Languages.{language_by, language_of, unserved};
 ghost use Rattle.drv_plan.specs.Languages.{chosen_for};
@@ -12,81 +11,64 @@ use drv_plan::{PlanFault, language};
 use drv_specs::SpecSet;
 use std::alloc::{AllocError, Global};
 
-/// A suffix of sources.
-#[derive(Clone, Copy)]
-struct Foreign {
-    /// The suffix.
-    suffix: &'static [u8],
-    /// The language of the sources that have it.
-    language: &'static [u8],
-}
-
-/// Suffixes and their languages.
-macro_rules! foreign {
-    ($($suffix:literal => $language:literal;)+) => {
-        [$(Foreign { suffix: $suffix, language: $language }),+]
-    };
-}
-
-/// The suffixes of languages that gcc compiles and this program doesn't (GCC, "gcc.cc",
-/// default_compilers, and "cp/lang-specs.h").
-const FOREIGN: [Foreign; 32] = foreign! {
-    b".ads" => b"Ada";
-    b".adb" => b"Ada";
-    b".f" => b"Fortran";
-    b".F" => b"Fortran";
-    b".for" => b"Fortran";
-    b".FOR" => b"Fortran";
-    b".ftn" => b"Fortran";
-    b".FTN" => b"Fortran";
-    b".fpp" => b"Fortran";
-    b".FPP" => b"Fortran";
-    b".f90" => b"Fortran";
-    b".F90" => b"Fortran";
-    b".f95" => b"Fortran";
-    b".F95" => b"Fortran";
-    b".f03" => b"Fortran";
-    b".F03" => b"Fortran";
-    b".f08" => b"Fortran";
-    b".F08" => b"Fortran";
-    b".r" => b"Ratfor";
-    b".go" => b"Go";
-    b".d" => b"D";
-    b".dd" => b"D";
-    b".di" => b"D";
-    b".mod" => b"Modula-2";
-    b".hh" => b"C++ header";
-    b".H" => b"C++ header";
-    b".hp" => b"C++ header";
-    b".hxx" => b"C++ header";
-    b".hpp" => b"C++ header";
-    b".HPP" => b"C++ header";
-    b".h++" => b"C++ header";
-    b".tcc" => b"C++ header";
-};
+/// The suffixes of languages that gcc compiles and this program doesn't, each with its language (GCC,
+/// "gcc.cc", default_compilers, and "cp/lang-specs.h").
+pub const FOREIGN: [(&[u8], &[u8]); 32] = [
+    (b".ads", b"Ada"),
+    (b".adb", b"Ada"),
+    (b".f", b"Fortran"),
+    (b".F", b"Fortran"),
+    (b".for", b"Fortran"),
+    (b".FOR", b"Fortran"),
+    (b".ftn", b"Fortran"),
+    (b".FTN", b"Fortran"),
+    (b".fpp", b"Fortran"),
+    (b".FPP", b"Fortran"),
+    (b".f90", b"Fortran"),
+    (b".F90", b"Fortran"),
+    (b".f95", b"Fortran"),
+    (b".F95", b"Fortran"),
+    (b".f03", b"Fortran"),
+    (b".F03", b"Fortran"),
+    (b".f08", b"Fortran"),
+    (b".F08", b"Fortran"),
+    (b".r", b"Ratfor"),
+    (b".go", b"Go"),
+    (b".d", b"D"),
+    (b".dd", b"D"),
+    (b".di", b"D"),
+    (b".mod", b"Modula-2"),
+    (b".hh", b"C++ header"),
+    (b".H", b"C++ header"),
+    (b".hp", b"C++ header"),
+    (b".hxx", b"C++ header"),
+    (b".hpp", b"C++ header"),
+    (b".HPP", b"C++ header"),
+    (b".h++", b"C++ header"),
+    (b".tcc", b"C++ header"),
+];
 
 /// All of them.
-fn foreign_suffixes() -> &'static [Foreign]
-    ensures { map row_shown result.now ≡ foreign_suffixes }
+fn foreign_suffixes() -> &'static [(&'static [u8], &'static [u8])]
+    ensures { map (λ row. (row.0.now, row.1.now)) result.now ≡ foreign_suffixes }
 {
     &FOREIGN
 }
 
-impl Foreign {
-    /// Whether a name ends with the suffix, and has more than that.
-    fn fits(&self, name: &[u8]) -> bool
-        ensures { result ≡ ends_so name.now (row_shown self.now) }
-    {
-        self.suffix.len() < name.len() && name.ends_with(self.suffix)
-    }
+/// Whether a name ends with a suffix, and has more than that.
+fn ends_so(name: &[u8], suffix: &[u8]) -> bool
+    ensures { result ≡ ends_so name.now suffix.now }
+{
+    suffix.len() < name.len() && name.ends_with(suffix)
 }
 
-/// The first of them that fits a name.
-fn row_of(name: &[u8]) -> Option<Foreign>
-    ensures { option_map row_shown result ≡ find (ends_so name.now) foreign_suffixes }
+/// The first of them that fits a name, with its language.
+fn row_of(name: &[u8]) -> Option<(&'static [u8], &'static [u8])>
+    ensures { option_map (λ row. (row.0.now, row.1.now)) result
+        ≡ find (λ row. ends_so name.now row.0) foreign_suffixes }
 {
     for row in foreign_suffixes() {
-        if row.fits(name) {
+        if ends_so(name, row.0) {
             return Some(*row);
         }
     }
@@ -98,7 +80,7 @@ fn language_by(name: &[u8]) -> Option<&'static [u8]>
     ensures { option_map (λ l. l.now) result ≡ language_by name.now }
 {
     match row_of(name) {
-        Some(row) => Some(row.language),
+        Some((_, language)) => Some(language),
         None => None,
     }
 }

@@ -26,7 +26,6 @@ mod refusing;
 mod request;
 mod row_asking;
 mod running;
-mod saying;
 mod self_specs;
 mod sources;
 mod speaking;

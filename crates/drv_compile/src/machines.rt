@@ -11,7 +11,7 @@ ghost use Rattle.drv_args.specs.declared.items.Item.{Item};
 ghost use Rattle.drv_cc.specs.declared.answer.Variable.{Variable};
 ghost use Rattle.std.specs.List.{flat_map};
 ghost use Rattle.std.specs.Option.{option_copied};
-ghost use Rattle.std.specs.Prelude.{◌≡◌, ◌++◌, IfOk, List, OnOk, drop};
+ghost use Rattle.std.specs.Prelude.{◌≡◌, ◌++◌, IfOk, List, OnOk, Some, drop};
 
 use crate::children::child_variables;
 use crate::compilers::{first_value, has_either, rest_of, values};
@@ -306,15 +306,12 @@ pub(crate) fn items_by(
 
 /// The text, if it has rows for machines or names a suffix of programs. A line by any other text
 /// stays as it is.
-pub(crate) fn for_machines(text: Option<&[u8]>) -> Option<&[u8]>
+pub(crate) fn for_machines(text: &[u8]) -> Option<&[u8]>
     ensures rows { (items : List Item)
-        → row_of (option_copied result) items ≡ row_of (option_copied text.entry) items }
+        → row_of (option_copied result) items ≡ row_of (Some text.now) items }
     ensures suffix { (items : List Item)
-        → suffixed_by (option_copied result) items ≡ suffixed_by (option_copied text.entry) items }
+        → suffixed_by (option_copied result) items ≡ suffixed_by (Some text.now) items }
 {
-    let Some(text) = text else {
-        return None;
-    };
     if has_either(b"machine", b"suffix ", text) {
         return Some(text);
     }

@@ -129,7 +129,7 @@ fn are_rooted(items: &[Item]) -> bool
 }
 
 /// Whether a line may have a link.
-fn may_link(stages: Stages) -> bool
+pub(crate) fn may_link(stages: Stages) -> bool
     ensures { result ≡ may_link stages }
 {
     matches!(stages, Stages::Link | Stages::AllOfC | Stages::All)

@@ -6,7 +6,7 @@
 ghost use Rattle.drv_compile.specs.Compiles.{Comes, IsPlanned, Plans, Refuses};
 ghost use Rattle.drv_compile.specs.Compiles.{one_command, question};
 ghost use Rattle.drv_compile.specs.Inputs.{Noted};
-ghost use Rattle.drv_compile.specs.Overwriting.{Overwrites, files_read};
+ghost use Rattle.drv_compile.specs.Overwriting.{Overwrites, files_read, files_written};
 ghost use Rattle.drv_compile.specs.Code.Preparing.{IsDone, IsFailure, IsOverwriting, IsPrepared};
 ghost use Rattle.drv_compile.specs.Code.Preparing.{IsQuestion, IsUndone, IsUnplanned};
 ghost use Rattle.drv_compile.specs.Runs.{Works};
@@ -17,12 +17,12 @@ ghost use Rattle.drv_system.specs.Code.Asked.{Asked};
 ghost use Rattle.drv_system.specs.Facts.{Facts};
 ghost use Rattle.std.specs.Prelude.{◌≡◌, IfOk, MatchResult, None};
 
-use crate::deciding::decide;
+use crate::deciding::{SpecFile, decide};
 use crate::driving::{Driven, Worker, worker_of};
 use crate::expanding::line_words;
 use crate::host::Host;
 use crate::inputs::objection;
-use crate::overwriting::{files_read, overwrites};
+use crate::overwriting::{files_read, files_written, overwrites};
 use crate::refusing::stop_after;
 use crate::request::{GccLine, Request};
 use crate::running::{DriverLine, work_of_items};
@@ -34,7 +34,7 @@ use crate::wording::{gone_text, help_text, overwrite_text, unworded_text, versio
 use crate::wrapping::wrapper_of;
 use drv_args::Expanded;
 use drv_cc::{Call, Variable};
-use drv_core::{FailureStatus, Window};
+use drv_core::Window;
 use drv_run::{Manner, Telling, Work};
 use drv_system::{Outside, System};
 use drv_words::{Command, Group, Job, Listing, Plan, Word};
@@ -54,6 +54,8 @@ pub(crate) struct Prepared {
     pub(crate) said: Word,
     /// What is said after a run that did not find a program of the compiler.
     pub(crate) hint: Word,
+    /// The lines about the compiler that it goes by.
+    pub(crate) about: Word,
     /// What is said after any other.
     pub(crate) remark: Word,
 }
@@ -96,7 +98,7 @@ fn question(alloc: Global, compiler: Word, args: &Listing<Word>) -> Result<Work,
     let plan = one_command(alloc, command)?;
     let manner = Manner {
         telling: Telling::Notices,
-        pass_codes: FailureStatus::GreatestCode,
+        pass_codes: true,
         window: Window::new(1),
     };
     Ok(Work::CarryOut { plan, manner })
@@ -137,11 +139,12 @@ fn refuse_overwriting<S: System, H: Host<S>>(
 ) -> Result<(), Stop>
     ensures { Noted (H.notes host.old) (H.notes host.new)
         (λ events. MatchResult result
-        (λ _. Overwrites (files_read call.now line.now.request.now.args.now) call.now.outputs events None)
+        (λ _. Overwrites (files_read call.now line.now.request.now.args.now) (files_written call.now) events None)
         (λ stop. IfTold stop (IsOverwriting line.now call.now events))) }
 {
     let files = files_read(alloc, call, line.request.args)?;
-    let found = overwrites(files.as_slice(), call.outputs.as_slice(), host)?;
+    let outputs = files_written(alloc, call)?;
+    let found = overwrites(files.as_slice(), outputs.as_slice(), host)?;
     let Some(clash) = found else {
         return Ok(());
     };
@@ -173,7 +176,8 @@ fn prepare_plan<S: System>(
     let hint = gone_text(alloc, calling, specs)?;
     let items = driven.line.items.as_slice();
     let wrapper = Word::from_bytes(alloc, wrapper_of(items))?;
-    let said = opening(alloc, specs, items, driven.children.as_slice(), outside)?;
+    let about = line.chain.about.clone()?;
+    let said = opening(alloc, about.as_bytes(), items, driven.children.as_slice())?;
     let work = work_or_stop(alloc, name, &driven.line, line.request.seed, outside)?;
     Ok(Prepared {
         work,
@@ -181,6 +185,7 @@ fn prepare_plan<S: System>(
         wrapper,
         said,
         hint,
+        about,
         remark: Word::empty(alloc),
     })
 }
@@ -247,15 +252,15 @@ fn compilation<S: System, H: Host<S>>(
 fn prepare_question(
     alloc: Global,
     request: &Request<'_>,
-    specs: &[u8],
+    file: SpecFile,
     compiler: Word,
 ) -> Result<Prepared, AllocError>
-    ensures asks { IfOk result (λ prepared. IsQuestion request.now.calling.now specs.now compiler
+    ensures asks { IfOk result (λ prepared. IsQuestion request.now.calling.now file compiler
         request.now.args.now prepared) }
 {
     let name = request.calling.name.as_bytes();
     let args = request.args;
-    let hint = gone_text(alloc, request.calling, specs)?;
+    let hint = gone_text(alloc, request.calling, file.path.as_bytes())?;
     let said = help_text(alloc, name, compiler.as_bytes(), args.as_slice())?;
     let remark = version_text(alloc, name, compiler.as_bytes(), args.as_slice())?;
     let work = question(alloc, compiler, args)?;
@@ -265,6 +270,7 @@ fn prepare_question(
         wrapper: Word::empty(alloc),
         said,
         hint,
+        about: file.about,
         remark,
     })
 }
@@ -294,8 +300,8 @@ fn prepare_task<S: System, H: Host<S>>(
     let decision = decide(alloc, request.own, words.words.as_slice(), outside)?;
     let task = task_of(alloc, calling, decision)?;
     match task {
-        Task::Question(specs, compiler) => {
-            let prepared = prepare_question(alloc, request, specs.as_bytes(), compiler)?;
+        Task::Question(file, compiler) => {
+            let prepared = prepare_question(alloc, request, file, compiler)?;
             Ok(prepared)
         }
         Task::Compilation(chain, call) => {
@@ -344,7 +350,7 @@ pub(crate) fn prepare<S: System, H: Host<S>>(
         request.now.args.now request.now.seed events))) }
 {
     let prepared = prepare_task(alloc, request, outside, host)?;
-    let stale = is_stale(alloc, request.own, outside, host)?;
+    let stale = is_stale(alloc, prepared.about.as_bytes(), host)?;
     let made = warned(alloc, prepared, stale)?;
     Ok(made)
 }

@@ -1,18 +1,13 @@
 //! What is said before a run whose commands are shown.
 
-// In clauses: `Asked` says that a call only asked, and that the table has the answers. `Tells` says
-// that a result is that of a definition, by any facts that extend what is known.
-ghost use Rattle.drv_compile.specs.Opening.{lines_shown, opening, shows, text_shown};
+ghost use Rattle.drv_compile.specs.Opening.{opening, shows, text_shown};
 ghost use Rattle.drv_compile.specs.Texts.{line_of, said_text, switches_line};
-ghost use Rattle.drv_search.specs.Code.Telling.{Tells};
-ghost use Rattle.drv_system.specs.Code.Asked.{Asked};
 ghost use Rattle.std.specs.List.{flat_map, list_any};
 ghost use Rattle.std.specs.Prelude.{◌≡◌, ◌++◌, IfOk, OnOk};
 
-use crate::saying::compiler_lines;
+use crate::compilers::values;
 use drv_args::{Effect, Item, Setting};
 use drv_cc::Variable;
-use drv_system::{Outside, System};
 use drv_words::{Listing, Word};
 use std::alloc::{AllocError, Global};
 
@@ -80,23 +75,6 @@ fn is_shown(items: &[Item]) -> bool
     items.iter().any(|item| shows(item.effect))
 }
 
-/// The lines that the compiler says of itself, where the commands are shown.
-#[tactic(auto, using(drv_system::proofs::AskedCalls::asked_none))]
-fn lines_shown<S: System>(
-    alloc: Global,
-    specs: &[u8],
-    items: &[Item],
-    outside: &mut Outside<'_, S>,
-) -> Result<Listing<Word>, AllocError>
-    ensures asks { Asked S.events outside.old outside.new }
-    ensures lines { Tells outside.new result (λ F. lines_shown F specs.now items.now) }
-{
-    if !is_shown(items) {
-        return Ok(Listing::new(alloc));
-    }
-    compiler_lines(alloc, b"said ", specs, outside)
-}
-
 /// The text of these lines, if there are any.
 fn text_shown(alloc: Global, lines: &[Word], children: &[Variable]) -> Result<Word, AllocError>
     ensures { IfOk result (λ text. text ≡ text_shown children.now lines.now) }
@@ -107,18 +85,19 @@ fn text_shown(alloc: Global, lines: &[Word], children: &[Variable]) -> Result<Wo
     }
 }
 
-/// What is said before the work of a line with these items, where its commands are shown. It asks
-/// the system only where the table has no answer.
-pub(crate) fn opening<S: System>(
+/// What is said before the work of a line with these items, where its commands are shown, by a text
+/// about the compiler.
+pub(crate) fn opening(
     alloc: Global,
-    specs: &[u8],
+    about: &[u8],
     items: &[Item],
     children: &[Variable],
-    outside: &mut Outside<'_, S>,
 ) -> Result<Word, AllocError>
-    ensures asks { Asked S.events outside.old outside.new }
-    ensures text { Tells outside.new result (λ F. opening F specs.now items.now children.now) }
+    ensures { IfOk result (λ text. text ≡ opening about.now items.now children.now) }
 {
-    let lines = lines_shown(alloc, specs, items, outside)?;
+    if !is_shown(items) {
+        return Ok(Word::empty(alloc));
+    }
+    let lines = values(alloc, b"said ", about)?;
     text_shown(alloc, lines.as_slice(), children)
 }

@@ -6,7 +6,7 @@ ghost use Rattle.drv_compile.specs.declared.deciding.Decision.TheVariants.{NoSpe
 ghost use Rattle.std.specs.Prelude.{IfOk, MatchResult};
 
 use crate::calling::Calling;
-use crate::deciding::Decision;
+use crate::deciding::{Decision, SpecFile};
 use crate::reading::Reading;
 use crate::stop::Stop;
 use crate::telling::refusals_text;
@@ -20,6 +20,8 @@ use std::alloc::{AllocError, Global};
 pub(crate) struct Toolchain {
     /// The spec file.
     pub(crate) specs: Word,
+    /// The lines of the file beside it that is about the compiler.
+    pub(crate) about: Word,
     /// The compiler that it was written for, and where that looks.
     pub(crate) around: Surroundings,
     /// The names of options that were taken to read the line, a line each.
@@ -30,7 +32,7 @@ pub(crate) struct Toolchain {
 #[derive(Drop)]
 pub(crate) enum Task {
     /// The compiler of a spec file is asked the line.
-    Question(Word, Word),
+    Question(SpecFile, Word),
     /// The line is carried out.
     Compilation(Toolchain, Call),
 }
@@ -49,19 +51,20 @@ fn without_specs(alloc: Global, calling: &Calling, path: &Option<Word>) -> Resul
 fn task_by(
     alloc: Global,
     calling: &Calling,
-    specs: Word,
+    file: SpecFile,
     around: Surroundings,
     reading: Reading,
 ) -> Result<Task, Stop>
-    ensures { MatchResult result (λ task. Leads (Read specs around reading) task)
-        (λ stop. IfTold stop (Declines calling.now (Read specs around reading))) }
+    ensures { MatchResult result (λ task. Leads (Read file around reading) task)
+        (λ stop. IfTold stop (Declines calling.now (Read file around reading))) }
 {
     let Reading { known, answer } = reading;
     match answer {
-        Answer::Ask => Ok(Task::Question(specs, around.compiler)),
+        Answer::Ask => Ok(Task::Question(file, around.compiler)),
         Answer::Run(call) => {
             let chain = Toolchain {
-                specs,
+                specs: file.path,
+                about: file.about,
                 around,
                 known,
             };
@@ -97,9 +100,9 @@ pub(crate) fn task_of(alloc: Global, calling: &Calling, decision: Decision) -> R
             Err(Stop::Told(text))
         }
         Decision::Read {
-            specs,
+            file,
             around,
             reading,
-        } => task_by(alloc, calling, specs, around, reading),
+        } => task_by(alloc, calling, file, around, reading),
     }
 }

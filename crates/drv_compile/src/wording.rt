@@ -338,7 +338,9 @@ fn add_gone(text: &mut Word, name: &[u8], specs: &[u8], machine: &[u8]) -> Resul
     ensures { OnOk result (text.new ≡ text.old ++ gone_text name.now specs.now machine.now) }
 {
     text.extend_from_slice(name)?;
-    text.extend_from_slice(b": note: the spec file may be for a gcc that is gone: ")?;
+    text.extend_from_slice(
+        b": note: the spec file may be for a gcc that was changed or is gone: ",
+    )?;
     add_writing(text, specs, machine)?;
     text.extend_from_slice(b" again\n")
 }

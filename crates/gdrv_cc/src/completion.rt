@@ -56,18 +56,20 @@ _gdrv_cc() {
 _gdrv_specs() {
     local current=${COMP_WORDS[COMP_CWORD]}
     if [ "$COMP_CWORD" = 1 ]; then
-        _gdrv_words 'check plan after translate diff why --help --version' "$current"
+        _gdrv_words 'check plan after diff why --help --version' "$current"
     elif [[ ${COMP_WORDS[1]} == check && $current == -* ]]; then
         _gdrv_words '--gcc --json --over -Werror -Wno-append-to-nothing -Wno-directive-in-body -Wno-hidden-pair
             -Wno-lost-mark -Wno-never-true -Wno-quoted-word -Wno-unknown-text -Wno-unreachable -Wno-unused-text' "$current"
     elif [[ ${COMP_WORDS[1]} == after && $current == -* ]]; then
         _gdrv_words "--fail $_gdrv_options" "$current"
-    elif [[ ${COMP_WORDS[1]} == diff && $COMP_CWORD == 4 ]]; then
+    elif [[ ${COMP_WORDS[1]} == diff && $COMP_CWORD -ge 4 && $current == -* ]]; then
         _gdrv_words '--' "$current"
+    elif [[ ${COMP_WORDS[1]} == diff && $current == -* ]]; then
+        _gdrv_words '--full' "$current"
     elif [[ ${COMP_WORDS[1]} == why && $COMP_CWORD -le 3 && $current == -* ]]; then
-        _gdrv_words "--json --parts --switches --words $_gdrv_options" "$current"
+        _gdrv_words "--json --switches --words $_gdrv_options" "$current"
     elif [[ ${COMP_WORDS[1]} == plan && $COMP_CWORD == 2 && $current == -* ]]; then
-        _gdrv_words "--json --sh --dot --compdb $_gdrv_options" "$current"
+        _gdrv_words "--json --sh $_gdrv_options" "$current"
     else
         _gdrv
     fi

@@ -91,7 +91,7 @@ fn call(rt: &HostRuntime) -> io::Result<Outcome> {
     }
     let own = own_specs(rt, calling.machine.as_bytes())?;
     let seed = clock_seed(rt)?;
-    let mut sys = HostSystem::new(rt.clone()?, Reporter::GdrvCc);
+    let mut sys = HostSystem::reporting_as(rt.clone()?, Reporter::GdrvCc);
     let mut host = Process::new(rt.clone()?);
     let request = Request {
         calling: &calling,

@@ -1,11 +1,12 @@
 use Rattle.drv_cc.specs.declared.answer.Call.{Call}
 use Rattle.drv_compile.specs.Compiles.{Fails, IsPlanned, Performs, question}
 use Rattle.drv_compile.specs.Driven.{IsWorker, Undriven}
-use Rattle.drv_compile.specs.Overwriting.{Overwrites, files_read}
+use Rattle.drv_compile.specs.Overwriting.{Overwrites, files_read, files_written}
 use Rattle.drv_compile.specs.Runs.{Stops}
 use Rattle.drv_compile.specs.Texts.{gone_text, help_text, overwritten_text, unworded_text, version_text}
 use Rattle.drv_compile.specs.Words.{told_refusal}
 use Rattle.drv_compile.specs.declared.calling.Calling.{Calling}
+use Rattle.drv_compile.specs.declared.deciding.SpecFile.{SpecFile}
 use Rattle.drv_compile.specs.declared.driving.Driven.{Driven}
 use Rattle.drv_compile.specs.declared.driving.Worker.TheVariants.{Driver, Nobody}
 use Rattle.drv_compile.specs.declared.host.HostEvent.{HostEvent}
@@ -31,7 +32,7 @@ IsFailure F name line seed text = (refusal : Refusal) × Stops F line seed (Refu
 -- an output is a file that it reads
 abbrev pub IsOverwriting : GccLine → Call → List HostEvent → List ℕ → Type 0
 IsOverwriting line call events text =
-    (clash : Clash) × Overwrites (files_read call line.request.now.args.now) call.outputs events (Some clash)
+    (clash : Clash) × Overwrites (files_read call line.request.now.args.now) (files_written call) events (Some clash)
     × (text ≡ overwritten_text line.request.now.calling.now.name clash)
 
 -- what is done for a line that the driver carries out
@@ -65,13 +66,14 @@ IsUndone F line call events text =
     Fails F line.request.now.calling.now line.chain call line.request.now.args.now line.given line.request.now.seed events text
 
 -- what is done for a question
-abbrev pub IsQuestion : Calling → List ℕ → List ℕ → List (List ℕ) → Prepared → Type 0
-IsQuestion calling specs compiler args prepared =
+abbrev pub IsQuestion : Calling → SpecFile → List ℕ → List (List ℕ) → Prepared → Type 0
+IsQuestion calling file compiler args prepared =
     prepared ≡ record {
       work = question compiler args;
       children = [];
       wrapper = [];
       said = help_text calling.name compiler args;
-      hint = gone_text calling.name specs calling.machine;
+      hint = gone_text calling.name file.path calling.machine;
+      about = file.about;
       remark = version_text calling.name compiler args;
     }

@@ -2,7 +2,6 @@ use Rattle.drv_args.specs.declared.fault.ArgsFault.TheVariants as args_fault
 use Rattle.drv_args.specs.declared.fault.ArgsFault.{ArgsFault}
 use Rattle.drv_args.specs.declared.line.Line.{Line}
 use Rattle.drv_compile.specs.Runs.{has_several, work_served}
-use Rattle.drv_compile.specs.declared.languages.Foreign.{Foreign}
 use Rattle.drv_plan.specs.declared.fault.PlanFault.{PlanFault}
 use Rattle.drv_run.specs.Drives.{stopped_by_args, stopped_by_plan}
 use Rattle.drv_run.specs.declared.ending.Ending.TheVariants.{OutOfMemory}
@@ -11,9 +10,9 @@ use Rattle.drv_run.specs.declared.work.Work.{Work}
 use Rattle.drv_specs.specs.Sets.{Set}
 use Rattle.drv_system.specs.Facts.{Facts}
 use Rattle.drv_system.specs.Known.{Is}
-use Rattle.std.specs.Prelude.{◌≡◌, ◌⊎◌, Err, List, Ok, Result, false, true, ℕ}
+use Rattle.std.specs.Prelude.{◌≡◌, ◌⊎◌, Err, Ok, Result, false, true, ℕ}
 
--- The work of a line over a set that is loaded. Only private clauses of src/running.rt, src/languages.rt and src/sources.rt cite it.
+-- The work of a line over a set that is loaded. Only private clauses of src/running.rt and src/sources.rt cite it.
 -- Names: `F` is what is known of the outside. `line` is the driver's line. `set` is its spec texts. `seed` is that for the names of
 -- temporaries. `work` is what is done. `has_several` says that one -o is for several sources (specs/Runs).
 
@@ -32,7 +31,3 @@ pub data IsUnworked (F : Facts) (line : Line) (set : Set) (seed : ℕ) : Ending 
   of_many : has_several set line ≡ true → IsUnworked F line set seed (stopped_by_args args_fault.OutputWithMany)
   of_plan : {fault : PlanFault} → has_several set line ≡ false → work_served F line set seed ≡ Is (Err fault)
       → IsUnworked F line set seed (stopped_by_plan fault)
-
--- a row of the code's table of suffixes
-abbrev pub row_shown : Foreign → List ℕ × List ℕ
-row_shown row = (row.suffix.now, row.language.now)

@@ -2,8 +2,6 @@ use Rattle.drv_compile.specs.Calling.{last_from}
 use Rattle.std.proofs.Common.{◌≡◌, length}
 use Rattle.drv_compile.proofs.calling.last_part.Given as goal
 
--- The loops of last_part (src/calling.rt). What follows the last slash of a path.
-
 abbrev pub invariant-loop-left : goal.invariant-loop-left
 invariant-loop-left l = last_from l.part l.left ≡ last_from l.path l.path
 

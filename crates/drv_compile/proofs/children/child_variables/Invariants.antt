@@ -2,8 +2,6 @@ use Rattle.drv_compile.proofs.children.child_variables.Given as goal
 use Rattle.drv_compile.specs.Machines.{child_variable}
 use Rattle.std.proofs.Common.{◌≡◌, ◌++◌, drop, map}
 
--- The loops of child_variables (src/children.rt). The variables of the children, by the row of the line.
-
 abbrev pub invariant-loop-variable : goal.invariant-loop-variable
 invariant-loop-variable l = l.made ++ map (child_variable l.items l.row) (drop l.variable-index l.children)
     ≡ map (child_variable l.items l.row) l.children

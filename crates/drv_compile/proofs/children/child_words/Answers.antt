@@ -7,8 +7,6 @@ use Rattle.std.proofs.lemmas.Iterator.Splits.{YieldsList-from_slice_split}
 use Rattle.std.specs.List.{flat_map}
 use Rattle.std.specs.Slice.Iter.{split_callee, split_done, split_rest}
 
--- child_words (src/children.rt). The words of a row for the children.
-
 -- The pieces that the loop took are all words of the row between its tabs.
 pub returns : goal.returns
 returns c =

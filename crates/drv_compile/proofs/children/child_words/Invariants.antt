@@ -3,7 +3,5 @@ use Rattle.drv_compile.specs.Machines.{child_word}
 use Rattle.std.specs.List.{flat_map}
 use Rattle.std.proofs.Common.{◌≡◌, map}
 
--- The loops of child_words (src/children.rt). The words of a row for the children.
-
 abbrev pub invariant-loop-word : goal.invariant-loop-word
 invariant-loop-word l = l.words ≡ flat_map child_word (map (λ word. word.now) l.yielded)

@@ -2,8 +2,6 @@ use Rattle.drv_compile.proofs.children.without.Given as goal
 use Rattle.drv_compile.specs.Machines.{without}
 use Rattle.std.proofs.Common.{◌≡◌, ◌++◌, length}
 
--- The loops of without (src/children.rt). A text without a part, at the first place where that is.
-
 abbrev pub invariant-loop-left : goal.invariant-loop-left
 invariant-loop-left l = l.made ++ without l.part l.left ≡ without l.part l.text
 

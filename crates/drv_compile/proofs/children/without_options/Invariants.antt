@@ -2,7 +2,5 @@ use Rattle.drv_compile.proofs.children.without_options.Given as goal
 use Rattle.drv_compile.specs.Machines.{without_options}
 use Rattle.std.proofs.Common.{◌≡◌, drop}
 
--- The loops of without_options (src/children.rt). A text without the options of a line for its machine.
-
 abbrev pub invariant-loop-item : goal.invariant-loop-item
 invariant-loop-item l = without_options (drop l.item-index l.items) l.left ≡ without_options l.items l.fn.text

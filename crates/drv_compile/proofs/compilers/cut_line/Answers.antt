@@ -1,7 +1,5 @@
 use Rattle.drv_compile.proofs.CutLines.{line_cut_off}
 use Rattle.drv_compile.proofs.compilers.cut_line.Goals as goal
 
--- cut_line (src/compilers.rt). A text's first line, and what follows its newline, if it has one.
-
 pub returns-in-Some-clause-lines : goal.returns-in-Some-clause-lines
 returns-in-Some-clause-lines c = line_cut_off c.args.text.now c.find_byte.result c.in-Some.at c.find_byte.ensures c.in-Some.is

@@ -5,8 +5,6 @@ use Rattle.std.proofs.Common.{◌≡◌, find, nat_eq}
 use Rattle.std.specs.List.{starts_with}
 use Rattle.std.specs.Option.{option_map}
 
--- The loops of first_line (src/compilers.rt). The first line of a text that begins with a key.
-
 abbrev pub invariant-loop-left : goal.invariant-loop-left
 invariant-loop-left l =
     find (λ line. starts_with nat_eq line l.key) (lines_from (option_map (λ text. text.now) l.left))

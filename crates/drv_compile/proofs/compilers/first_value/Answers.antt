@@ -4,8 +4,6 @@ use Rattle.drv_compile.specs.Compilers.{lines}
 use Rattle.std.proofs.Common.{◌∙◌, ap}
 use Rattle.std.specs.Option.{option_map}
 
--- first_value (src/compilers.rt). The first value of a key in a text, if there is one.
-
 -- Names: `lines`: the lines of a file's text. `value_none`: `first_value` has none where no line begins with the key.
 
 pub returns-in-None : goal.returns-in-None

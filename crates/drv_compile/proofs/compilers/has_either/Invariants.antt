@@ -5,8 +5,6 @@ use Rattle.std.proofs.Common.{◌≡◌}
 use Rattle.std.specs.List.{list_any}
 use Rattle.std.specs.Option.{option_map}
 
--- The loops of has_either (src/compilers.rt). Whether a line of a text begins with one of two keys.
-
 abbrev pub invariant-loop-left : goal.invariant-loop-left
 invariant-loop-left l =
     list_any (begins_with l.one l.other) (lines_from (option_map (λ text. text.now) l.left))

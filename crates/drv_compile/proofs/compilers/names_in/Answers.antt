@@ -5,8 +5,6 @@ use Rattle.std.proofs.lemmas.Iterator.Consumers.{YieldsList-end}
 use Rattle.std.proofs.lemmas.Iterator.Splits.{YieldsList-from_slice_split}
 use Rattle.std.specs.Slice.Iter.{split_callee, split_done, split_rest}
 
--- names_in (src/compilers.rt). The names in a spec file's text (GCC, "gcc.cc", validate_switches), and what else there looks like one.
-
 -- The pieces that the loop took are all names of the text.
 pub returns : goal.returns
 returns c =

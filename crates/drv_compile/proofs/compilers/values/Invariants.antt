@@ -5,9 +5,6 @@ use Rattle.std.specs.List.{flat_map}
 use Rattle.std.specs.Option.{option_map}
 use Rattle.drv_compile.proofs.compilers.values.Given as goal
 
--- The loops of values (src/compilers.rt). The values of a key in a text, in its order: what follows the key in each line that begins with
--- it.
-
 abbrev pub invariant-loop-left : goal.invariant-loop-left
 invariant-loop-left l = l.found ++ flat_map (value_in l.key) (lines_from (option_map (λ text. text.now) l.left)) ≡ values l.key l.text
 

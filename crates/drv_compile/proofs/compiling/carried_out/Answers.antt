@@ -1,8 +1,6 @@
 use Rattle.drv_compile.proofs.Done.{carried, nothing_carried}
 use Rattle.drv_compile.proofs.compiling.carried_out.Goals as goal
 
--- carried_out (src/compiling.rt). Sets the variables for the children of what is prepared, says what is said first, and does it.
-
 -- Names: `carried`: after all variables were set, the line was carried out. `nothing_carried`: `carried_out` did nothing where memory
 -- lacked for a variable.
 

@@ -2,9 +2,6 @@ use Rattle.drv_compile.proofs.Done.{longer_than, work_noted}
 use Rattle.drv_compile.proofs.compiling.carry_out.Goals as goal
 use Rattle.std.proofs.Common.{ap, length}
 
--- carry_out (src/compiling.rt). Does what is prepared, and says the hint where its run does not find a program of the compiler, or else the
--- remark.
-
 -- Names: `longer_than`: `done` counts the events before a work. `work_noted`: `done` does its work whole where it says something after it.
 
 pub say_hint_or_remark-requires-clause-before : goal.say_hint_or_remark-requires-clause-before

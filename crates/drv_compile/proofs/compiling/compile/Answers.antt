@@ -1,8 +1,6 @@
 use Rattle.drv_compile.proofs.Done.{compiled_by_none}
 use Rattle.drv_compile.proofs.compiling.compile.Goals as goal
 
--- compile (src/compiling.rt). A call of `gdrv-cc` with these arguments (GCC manual, "Invoking GCC"; as `c99`, POSIX c99).
-
 -- Names: `compiled_by_none`: `compile` ends without facts where memory lacked for the folder of temporaries.
 
 pub returns-in-Ok-clause-compiled : goal.returns-in-Ok-clause-compiled

@@ -3,8 +3,6 @@ use Rattle.drv_compile.proofs.Settled.{going_further}
 use Rattle.drv_compile.proofs.compiling.compile_settled.Goals as goal
 use Rattle.std.proofs.Common.{rules}
 
--- compile_settled (src/compiling.rt). A call over a table that has the folder of temporaries.
-
 -- Names: `journal`: what was done outside so far. `notes`: the calls of the host so far. `before`: the clause's condition `Going`.
 -- `going_further`: `compile_settled` asks more, and still goes by that folder. `compiled_done`: `compile_settled` carries out what was
 -- prepared, in the name of the call.

@@ -1,8 +1,6 @@
 use Rattle.drv_compile.proofs.Done.{no_bytes, no_pipe_after_text, nothing_closed, some_bytes, text_closed, text_unclosed}
 use Rattle.drv_compile.proofs.compiling.say_after.Goals as goal
 
--- say_after (src/compiling.rt). Says a text after a work, if there is one.
-
 -- Names: `some_bytes`: `is_empty` says that a text has bytes. `no_bytes`: `is_empty` says that a text has no bytes. `no_pipe_after_text`: a
 -- text that is said starts nothing.
 

@@ -1,8 +1,6 @@
 use Rattle.drv_compile.proofs.Done.{no_bytes, no_pipe_after_text, nothing_opened, some_bytes, text_opened}
 use Rattle.drv_compile.proofs.compiling.say_before.Goals as goal
 
--- say_before (src/compiling.rt). Says what is said before a work, if there is anything.
-
 -- Names: `no_bytes`: `is_empty` says that a text has no bytes. `no_pipe_after_text`: a text that is said starts nothing.
 
 pub returns-in_ok-say-clause-opens : goal.returns-in_ok-say-clause-opens

@@ -4,9 +4,6 @@ use Rattle.drv_compile.proofs.compiling.say_hint_or_remark.Goals.{else-lacks_pro
 use Rattle.std.proofs.Common.{◌∙◌, ap, sym}
 use Rattle.std.specs.Prelude.{false, true}
 
--- say_hint_or_remark (src/compiling.rt). Says the hint if the work after the first `before` events did not find a program of the compiler,
--- or else the remark.
-
 -- By what was found in the events of the work: the hint, or else the remark, was said.
 pub returns-clause-notes : goal.returns-clause-notes
 returns-clause-notes g c =

@@ -2,8 +2,6 @@ use Rattle.drv_compile.proofs.Done.{all_set, none_set, set_more, some_set}
 use Rattle.drv_compile.proofs.compiling.set_children.Goals as goal
 use Rattle.std.proofs.Common.{◌∙◌, ap, arith, length, rules}
 
--- set_children (src/compiling.rt). Sets the variables of a line for children.
-
 pub loop-variable-init : goal.loop-variable-init
 loop-variable-init g c = record { sets = none_set _ _ _; same = search rules }
 

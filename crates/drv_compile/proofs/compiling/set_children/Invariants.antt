@@ -2,8 +2,6 @@ use Rattle.drv_compile.proofs.Done.{Setting}
 use Rattle.drv_compile.proofs.compiling.set_children.Given as goal
 use Rattle.std.proofs.Common.{◌≡◌, length}
 
--- The loops of set_children (src/compiling.rt). Sets the variables of a line for children.
-
 -- The first variables were set, and the system's journal is the same.
 abbrev pub invariant-loop-variable : goal.invariant-loop-variable
 invariant-loop-variable g l = record {

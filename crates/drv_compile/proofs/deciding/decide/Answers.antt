@@ -2,9 +2,6 @@ use Rattle.drv_compile.proofs.Decided.{decided_so}
 use Rattle.drv_compile.proofs.deciding.decide.Goals as goal
 use Rattle.drv_system.proofs.AskedCalls.{extends_before}
 
--- decide (src/deciding.rt). What the words of a line ask for, response files expanded and those of c99 turned into gcc's, where the spec
--- file of this program lies at `own`, if that is known.
-
 -- Names: `decided_so`: `decide` takes its own place twice, since the look for the spec file uses the first copy up. `extends_before`: what
 -- extends the facts after a call extends those before it.
 

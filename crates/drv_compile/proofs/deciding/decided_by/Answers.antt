@@ -3,8 +3,6 @@ use Rattle.drv_compile.proofs.deciding.decided_by.Goals as goal
 use Rattle.drv_system.proofs.AskedCalls.{asked_further, extends_before}
 use Rattle.std.proofs.Common.{◌∙◌, sym}
 
--- decided_by (src/deciding.rt). The decision by the compiler that a text names, if it names one.
-
 pub returns-clause-asks : goal.returns-clause-asks
 returns-clause-asks g c = asked_further (asked_further c.variable.ensures.asks c.variable-2.ensures.asks) c.decided_around.ensures.asks
 
@@ -12,10 +10,11 @@ returns-clause-asks g c = asked_further (asked_further c.variable.ensures.asks c
 pub returns-clause-decision : goal.returns-clause-decision
 returns-clause-decision g c F e =
     let after = extends_before c.decided_around.ensures.asks e in
-    compiler_given F c.args.specs c.args.words.now c.args.text.now c.in-Some.compiler _
-    c.in_ok-compiler_path.compiler_path c.in_ok-library_path.library_path c.decided_around.result
+    compiler_given F c.args.path c.args.words.now c.args.about c.as_bytes-text.result.now c.in-Some.compiler _
+    c.in_ok-compiler_path.compiler_path c.in_ok-library_path.library_path c.decided_around.result c.as_bytes-text.ensures
     (sym c.in_ok-compiler.ensures ∙ c.in-Some.is)
-    (surrounded c.args.specs c.as_bytes.result.now c.args.text.now c.in-Some.compiler c.in_ok-folders.folders c.in_ok-copies.copies
+    (surrounded c.args.path c.as_bytes.result.now c.as_bytes-text.result.now c.in-Some.compiler
+    c.in_ok-folders.folders c.in_ok-copies.copies
     c.in_ok-children.children c.in_ok-compiler_path.compiler_path c.in_ok-library_path.library_path c.as_bytes.ensures
     c.in_ok-folders.ensures c.in_ok-copies.ensures c.in_ok-children.ensures)
     (c.in_ok-compiler_path.ensures.value F (extends_before c.variable-2.ensures.asks after))

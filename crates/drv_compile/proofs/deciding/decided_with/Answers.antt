@@ -2,8 +2,6 @@ use Rattle.drv_compile.proofs.Decided.{specs_given}
 use Rattle.drv_compile.proofs.deciding.decided_with.Goals as goal
 use Rattle.drv_system.proofs.AskedCalls.{extends_before}
 
--- decided_with (src/deciding.rt). The decision with a spec file, if there is one.
-
 -- Names: `specs_given`: `decided_with` reads the file that names the compiler, by the bytes of the spec file's path. `extends_before`: what
 -- extends the facts after a call extends those before it.
 

@@ -1,8 +1,6 @@
 use Rattle.drv_compile.proofs.DriverCalls.{answer_told}
 use Rattle.drv_compile.proofs.driving.answer.Goals as goal
 
--- answer (src/driving.rt). What the spec files of a line give it.
-
 -- Names: `F`: what is known of the outside. `e`: that `F` extends the facts of this call. `answer_told`: where the line's self spec can't
 -- be carried out, there is no answer, and the driver's ending says why.
 

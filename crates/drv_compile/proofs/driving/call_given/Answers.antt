@@ -2,8 +2,6 @@ use Rattle.drv_compile.proofs.DriverCalls.{given_ask, given_none, given_refusal,
 use Rattle.drv_compile.proofs.driving.call_given.Goals as goal
 use Rattle.std.proofs.Common.{◌∙◌, Some, ap}
 
--- call_given (src/driving.rt). The call that the spec files of a line ask for in its place, if they ask for one.
-
 -- Names: `given_ask`: `call_given` gives no line where the spec files made a question of it. `given_none`: `call_given` gives no line where
 -- the spec files gave it nothing.
 

@@ -3,8 +3,6 @@ use Rattle.drv_compile.proofs.Noting.{noted_as, noted_then}
 use Rattle.drv_compile.proofs.driving.chosen_worker.Goals as goal
 use Rattle.drv_system.proofs.AskedCalls.{asked_further, extends_before}
 
--- chosen_worker (src/driving.rt). Who carries out a line, with the options that its spec files give it.
-
 -- Names: `noted_as`: what was noted, said in other words. `undriven_texts`: `chosen_worker` refuses a line whose texts are damaged.
 -- `worker_at_once`: `chosen_worker` says at once that nobody carries out a line of whose machine no row has the words.
 

@@ -2,54 +2,31 @@ use Rattle.drv_compile.proofs.DriverCalls.{called_damaged, called_whole}
 use Rattle.drv_compile.proofs.Noting.{memory_noted_over, none_noted}
 use Rattle.drv_compile.proofs.Worded.{memory_stops}
 use Rattle.drv_compile.proofs.driving.driver_of_call.Goals as goal
-use Rattle.drv_system.proofs.AskedCalls.{asked_further, extends_before}
 use Rattle.drv_system.specs.Known.{Is}
 use Rattle.std.proofs.Common.{◌∙◌, ap}
 
--- driver_of_call (src/driving.rt). Who carries out a line by itself, with the file that has its texts.
-
--- Names: `asked_further`: calls that only asked, one after another. `none_noted`: nothing was noted. `memory_stops`: lack of memory says
--- nothing. `called_damaged`: `driver_of_call` refuses a line whose texts are damaged, by the parts of its call.
-
-pub returns-in_err-rows-clause-calls : goal.returns-in_err-rows-clause-calls
-returns-in_err-rows-clause-calls g c = none_noted _ _ (λ F e. memory_stops c.from_residual.result _ _ c.from_residual.ensures.1)
-
-pub returns-in_err-texts-clause-asks : goal.returns-in_err-texts-clause-asks
-returns-in_err-texts-clause-asks g c = asked_further c.written_beside.ensures.asks c.texts_asked.ensures.asks
+-- Names: `none_noted`: nothing was noted. `memory_stops`: lack of memory says nothing. `called_damaged`: `driver_of_call` refuses a line
+-- whose texts are damaged, by the parts of its call.
 
 pub returns-in_err-texts-clause-calls : goal.returns-in_err-texts-clause-calls
-returns-in_err-texts-clause-calls g c =
-    none_noted _ _ (λ F e. memory_stops c.from_residual-in_err-texts.result _ _ c.from_residual-in_err-texts.ensures.1)
-
-pub returns-in_err-worker-in-Whole-clause-asks : goal.returns-in_err-worker-in-Whole-clause-asks
-returns-in_err-worker-in-Whole-clause-asks g c = asked_further c.written_beside.ensures.asks c.texts_asked.ensures.asks
+returns-in_err-texts-clause-calls g c = none_noted _ _ (λ F e. memory_stops c.from_residual.result _ _ c.from_residual.ensures.1)
 
 pub returns-in_err-worker-in-Whole-clause-calls : goal.returns-in_err-worker-in-Whole-clause-calls
 returns-in_err-worker-in-Whole-clause-calls g c =
     memory_noted_over _ _ _ c.from_residual-in_err-worker-in-Whole.result _ _ _ c.in_err-worker-in-Whole.ensures
     c.from_residual-in_err-worker-in-Whole.ensures.1
 
-pub returns-in_ok-worker-in-Whole-clause-asks : goal.returns-in_ok-worker-in-Whole-clause-asks
-returns-in_ok-worker-in-Whole-clause-asks g c = asked_further c.written_beside.ensures.asks c.texts_asked.ensures.asks
-
--- the texts are whole: the rows are read, and the line is called by both
+-- the texts are whole: the line is called by them
 pub returns-in_ok-worker-in-Whole-clause-calls : goal.returns-in_ok-worker-in-Whole-clause-calls
 returns-in_ok-worker-in-Whole-clause-calls g c =
-    called_whole c.args.line.now c.args.call _ _ (record { texts = c.in-Whole.path; rows = c.in_ok-rows.rows })
+    called_whole c.args.line.now c.args.call _ _ c.in-Whole.path
     c.in_ok-worker-in-Whole.worker _ _ _ c.as_bytes-specs.ensures c.as_slice.ensures
-    (λ F e. c.in_ok-texts.ensures.texts F e ∙ ap Is c.in-Whole.is)
-    (λ F e. c.in_ok-rows.ensures.lines F (extends_before c.texts_asked.ensures.asks e)) c.in_ok-worker-in-Whole.ensures
-
-pub returns-in_err-text-in-Damaged-clause-asks : goal.returns-in_err-text-in-Damaged-clause-asks
-returns-in_err-text-in-Damaged-clause-asks g c = asked_further c.written_beside.ensures.asks c.texts_asked.ensures.asks
+    (λ F e. c.in_ok-texts.ensures.texts F e ∙ ap Is c.in-Whole.is) c.in_ok-worker-in-Whole.ensures
 
 pub returns-in_err-text-in-Damaged-clause-calls : goal.returns-in_err-text-in-Damaged-clause-calls
 returns-in_err-text-in-Damaged-clause-calls g c =
     none_noted _ _ (λ F e. memory_stops c.from_residual-in_err-text-in-Damaged.result _ _
     c.from_residual-in_err-text-in-Damaged.ensures.1)
-
-pub returns-in_ok-text-in-Damaged-clause-asks : goal.returns-in_ok-text-in-Damaged-clause-asks
-returns-in_ok-text-in-Damaged-clause-asks g c = asked_further c.written_beside.ensures.asks c.texts_asked.ensures.asks
 
 -- the file of the texts isn't whole: the line is refused, and the host was asked nothing
 pub returns-in_ok-text-in-Damaged-clause-calls : goal.returns-in_ok-text-in-Damaged-clause-calls

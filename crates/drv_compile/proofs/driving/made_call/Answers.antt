@@ -3,9 +3,6 @@ use Rattle.drv_compile.proofs.driving.made_call.Goals as goal
 use Rattle.std.proofs.Common.{refl}
 use Rattle.std.specs.Option.{option_copied}
 
--- made_call (src/driving.rt). Who carries out a line with these items, with this file that has its texts, and with the suffix of programs
--- that the rows name.
-
 -- Names: `made_driver`: `made_call` calls the driver with the items and the suffix.
 
 pub returns-in_ok-all-in-Made : goal.returns-in_ok-all-in-Made

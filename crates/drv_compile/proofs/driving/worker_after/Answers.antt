@@ -3,9 +3,6 @@ use Rattle.drv_compile.proofs.Noting.{none_noted, noted_as}
 use Rattle.drv_compile.proofs.driving.worker_after.Goals as goal
 use Rattle.drv_system.proofs.AskedCalls.{asked_further, extends_before}
 
--- worker_after (src/driving.rt). Who carries out a line that the driver would be called with so, with the options that the spec files of
--- the line give it.
-
 -- Names: `none_noted`: nothing was noted. `undriven_answer`: a line whose spec files give no answer is refused for that. `undriven_denied`:
 -- a line for which they give what is refused is refused too.
 

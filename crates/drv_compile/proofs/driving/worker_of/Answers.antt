@@ -3,8 +3,6 @@ use Rattle.drv_compile.proofs.Noting.{noted_as}
 use Rattle.drv_compile.proofs.driving.worker_of.Goals as goal
 use Rattle.drv_system.proofs.AskedCalls.{extends_before}
 
--- worker_of (src/driving.rt). Who carries out a line, with the options and libraries that its spec files give it.
-
 -- Names: `noted_as`: what was noted, said in other words. `undriven_line`: `worker_of` refuses a line that no driver takes.
 -- `worker_unworded`: `worker_of` says that nobody carries out a line of whose machine no row has the words.
 

@@ -5,8 +5,6 @@ use Rattle.drv_compile.specs.Words.{stop_of, within_limit}
 use Rattle.std.proofs.Common.{◌≡◌, ◌∙◌, Err, Ok, ap, subst}
 use Rattle.std.specs.List.{each_same}
 
--- expansion (src/expanding.rt). Arguments with their response files expanded.
-
 -- Names: `F`: what is known of the outside. `e`: that `F` extends the facts of this call. `args_told`: `expansion` tells the refusal of the
 -- driver's words, unless memory lacked. `stop_of`: how a call ends before its work that the driver would end so.
 

@@ -6,8 +6,6 @@ use Rattle.drv_system.proofs.AskedCalls.{asked_further, extends_before}
 use Rattle.drv_system.specs.Known.{Is}
 use Rattle.std.proofs.Common.{◌∙◌, ap, arith, sym}
 
--- first_unread (src/expanding.rt). The path of the first response file that words name and that can't be read.
-
 -- The word at hand names no file, or one that can be read: so the rest decides (`unread_more`).
 pub loop-word-preserved : goal.loop-word-preserved
 loop-word-preserved g c = record {

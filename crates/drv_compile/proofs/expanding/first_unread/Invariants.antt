@@ -5,8 +5,6 @@ use Rattle.drv_system.specs.Code.Asked.{Asked}
 use Rattle.drv_system.specs.Facts.{Facts}
 use Rattle.std.proofs.Common.{◌≡◌, drop}
 
--- The loops of first_unread (src/expanding.rt). The path of the first response file that words name and that can't be read.
-
 abbrev pub invariant-loop-word : goal.invariant-loop-word
 invariant-loop-word g l = record {
   asks : Asked g.S.System.events l.fn.outside l.outside;

@@ -3,8 +3,6 @@ use Rattle.drv_compile.proofs.expanding.gcc_words.Goals as goal
 use Rattle.drv_compile.specs.Words.{stop_of}
 use Rattle.std.proofs.Common.{◌∙◌, ap}
 
--- gcc_words (src/expanding.rt). The words of gcc for those of the call's front.
-
 -- Names: `stop_of`: how a call ends before its work that the driver would end so. `front_told`: `gcc_words` says the front's refusal.
 
 -- the front refuses the words: the call ends as the driver ends for them

@@ -3,8 +3,6 @@ use Rattle.drv_compile.proofs.expanding.line_words.Goals as goal
 use Rattle.drv_system.proofs.AskedCalls.{extends_before}
 use Rattle.std.proofs.Common.{rules}
 
--- line_words (src/expanding.rt). The words of a call: response files expanded, and those of c99 turned into gcc's.
-
 -- Names: `F`: what is known of the outside. `e`: that `F` extends the facts of this call. `extends_before`: what extends the facts after a
 -- call extends those before it. `unexpanded`: where the words can't be expanded, the call stops for the same reason. `unreadable`: why a
 -- response file can't be read.

@@ -3,8 +3,6 @@ use Rattle.drv_compile.specs.Texts.{unread_text}
 use Rattle.drv_system.specs.Known.{Is}
 use Rattle.std.proofs.Common.{◌∙◌, ap}
 
--- refuse_unread (src/expanding.rt). Refuses words of which one names a response file that can't be read.
-
 -- Names: `F`: what is known of the outside. `e`: that `F` extends the facts of this call. `unread_text`: a response file that is there.
 
 -- a response file can't be read: the refusal names its path

@@ -3,8 +3,6 @@ use Rattle.drv_compile.proofs.expanding.unread_at.Goals as goal
 use Rattle.std.proofs.Common.{ap}
 use Rattle.std.specs.Option.{option_copied}
 
--- unread_at (src/expanding.rt). The path of a response file that is there and can't be read, if there is a path.
-
 -- Names: `unread_asked`: a response file.
 
 -- there is a path: it is given if the file is there and its read fails

@@ -5,8 +5,6 @@ use Rattle.drv_run.specs.declared.ending.Ending.TheVariants.{OutOfMemory}
 use Rattle.drv_words.specs.Gives.{Gives}
 use Rattle.std.proofs.Common.{subst, sym}
 
--- words_of_front (src/expanding.rt). The words of gcc for those of a front.
-
 -- c99 refuses the words, or lacks memory: the call ends so
 pub returns-in_err-words-in-C99 : goal.returns-in_err-words-in-C99
 returns-in_err-words-in-C99 c =

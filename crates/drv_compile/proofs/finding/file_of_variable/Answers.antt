@@ -2,8 +2,6 @@ use Rattle.drv_compile.proofs.Decided.{named_by_variable}
 use Rattle.drv_compile.proofs.finding.file_of_variable.Goals as goal
 use Rattle.std.specs.Option.{option_copied}
 
--- file_of_variable (src/finding.rt). The path of the spec file that a variable names, if it names one.
-
 -- Names: `named_by_variable`: `file_of_variable` asks for the variable by a word that it makes of its name.
 
 pub returns-clause-path : goal.returns-clause-path

@@ -4,8 +4,6 @@ use Rattle.drv_system.proofs.Asking.{asks_extends, extends_then}
 use Rattle.std.proofs.Common.{◌∙◌, ap, sym}
 use Rattle.drv_system.specs.Known.{Is}
 
--- is_written (src/finding.rt). Whether a file that `gdrv-write-specs` wrote is a plain file and whole.
-
 -- Names: `whole_read`: `is_written` does the same without a copy of the lines. `asks_extends`: a call that only asked keeps every answer.
 
 -- a plain file: whether it is whole is known by its text

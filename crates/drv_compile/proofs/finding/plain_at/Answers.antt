@@ -1,8 +1,6 @@
 use Rattle.drv_compile.proofs.Files.{plain_asked}
 use Rattle.drv_compile.proofs.finding.plain_at.Goals as goal
 
--- plain_at (src/finding.rt). The path, if it is a plain file.
-
 -- Names: `plain_asked`: `plain_at` asks what is at a path, if there is one.
 
 pub returns-clause-path : goal.returns-clause-path

@@ -2,9 +2,6 @@ use Rattle.drv_compile.proofs.Files.{file_found_so}
 use Rattle.drv_compile.proofs.finding.spec_file.Goals as goal
 use Rattle.drv_system.proofs.AskedCalls.{extends_before}
 
--- spec_file (src/finding.rt). The path of the spec file that a variable names, or else of the one at its own place, if that is a plain
--- file.
-
 -- Names: `file_found_so`: `spec_file` asks the variable first, and then what is at the path. `extends_before`: what extends the facts after
 -- a call extends those before it.
 

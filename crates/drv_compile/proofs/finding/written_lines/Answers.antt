@@ -3,8 +3,6 @@ use Rattle.drv_compile.proofs.finding.written_lines.Goals as goal
 use Rattle.drv_system.proofs.Asking.{asks_extends, extends_then}
 use Rattle.std.proofs.Common.{◌∙◌, sym}
 
--- written_lines (src/finding.rt). The lines before the mark of a file that `gdrv-write-specs` wrote, where it is a plain file and whole.
-
 -- Names: `written_read`: `written_lines` reads a plain file, and takes its lines if it is whole. `asks_extends`: a call that only asked
 -- keeps every answer.
 

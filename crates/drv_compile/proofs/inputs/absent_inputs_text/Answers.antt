@@ -5,8 +5,6 @@ use Rattle.drv_system.proofs.Asking.{asks_extends, extends_then}
 use Rattle.drv_compile.specs.Inputs.{absent_by}
 use Rattle.std.proofs.Common.{◌++◌, ◌∙◌, ap, refl}
 
--- absent_inputs_text (src/inputs.rt). The text about the inputs that are not there.
-
 -- One input more was asked for, and its line added if it isn't there (`absent_more`).
 pub loop-input-preserved : goal.loop-input-preserved
 loop-input-preserved g c = record {

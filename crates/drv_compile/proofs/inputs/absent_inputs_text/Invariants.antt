@@ -6,8 +6,6 @@ use Rattle.drv_system.specs.Code.Asked.{Asked}
 use Rattle.drv_system.specs.Facts.{Facts}
 use Rattle.std.proofs.Common.{◌≡◌, drop}
 
--- The loops of absent_inputs_text (src/inputs.rt). The text about the inputs that are not there.
-
 -- The text so far, with what the inputs left add, is the whole.
 abbrev pub invariant-loop-input : goal.invariant-loop-input
 invariant-loop-input g l = record {

@@ -3,8 +3,6 @@ use Rattle.drv_compile.proofs.inputs.objection.Goals as goal
 use Rattle.drv_system.proofs.AskedCalls.{extends_before}
 use Rattle.std.proofs.Common.{◌∙◌, sym}
 
--- objection (src/inputs.rt). The text that refuses a line: about a variable that gcc's driver takes, or else about missing inputs.
-
 -- Names: `set_objects`: a variable that is set, and one that is not. `unset_objects`: `objection` goes on to the inputs where the variable
 -- is not set.
 

@@ -2,8 +2,6 @@ use Rattle.drv_compile.proofs.Served.{served_all, served_more, served_not}
 use Rattle.drv_compile.proofs.languages.first_unserved.Goals as goal
 use Rattle.std.proofs.Common.{◌∙◌, arith, sym}
 
--- first_unserved (src/languages.rt). The first language of inputs that no spec file serves.
-
 pub loop-input-preserved : goal.loop-input-preserved
 loop-input-preserved c =
     served_more _ c.args.set.now c.args.inputs.now c.loop-input.input-index c.input-item.result c.in_ok-found.found

@@ -3,7 +3,5 @@ use Rattle.drv_compile.specs.Machines.{plain_item}
 use Rattle.std.specs.List.{flat_map}
 use Rattle.std.proofs.Common.{◌≡◌, ◌++◌, drop}
 
--- The loops of push_all_plain (src/machines.rt). Adds the items that are for no machine.
-
 abbrev pub invariant-loop-item : goal.invariant-loop-item
 invariant-loop-item l = l.plain ++ flat_map plain_item (drop l.item-index l.items) ≡ l.fn.plain ++ flat_map plain_item l.items

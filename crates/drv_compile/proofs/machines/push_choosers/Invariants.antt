@@ -3,8 +3,6 @@ use Rattle.drv_compile.specs.Machines.{chooser_word}
 use Rattle.std.specs.List.{flat_map}
 use Rattle.std.proofs.Common.{◌≡◌, ◌++◌, drop}
 
--- The loops of push_choosers (src/machines.rt). Adds the words that a line `key` has for these options.
-
 abbrev pub invariant-loop-item : goal.invariant-loop-item
 invariant-loop-item l =
     l.key ++ flat_map (chooser_word l.line) (drop l.item-index l.items) ≡ l.fn.key ++ flat_map (chooser_word l.line) l.items

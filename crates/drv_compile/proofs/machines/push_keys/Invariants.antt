@@ -3,7 +3,5 @@ use Rattle.drv_compile.specs.Machines.{key_word}
 use Rattle.std.specs.List.{flat_map}
 use Rattle.std.proofs.Common.{◌≡◌, ◌++◌, drop}
 
--- The loops of push_keys (src/machines.rt). Adds the options that choose a machine.
-
 abbrev pub invariant-loop-item : goal.invariant-loop-item
 invariant-loop-item l = l.key ++ flat_map key_word (drop l.item-index l.items) ≡ l.fn.key ++ flat_map key_word l.items

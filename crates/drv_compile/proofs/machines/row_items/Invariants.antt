@@ -3,7 +3,5 @@ use Rattle.drv_compile.specs.Machines.{word_items}
 use Rattle.std.specs.List.{flat_map}
 use Rattle.std.proofs.Common.{◌≡◌, map}
 
--- The loops of row_items (src/machines.rt). The words of a row as items.
-
 abbrev pub invariant-loop-word : goal.invariant-loop-word
 invariant-loop-word l = l.items ≡ flat_map word_items (map (λ word. word.now) l.yielded)

@@ -3,8 +3,6 @@ use Rattle.drv_compile.proofs.naming.items_at.Goals as goal
 use Rattle.drv_system.proofs.Asking.{asks_extends, extends_then}
 use Rattle.std.proofs.Common.{◌∙◌, sym}
 
--- items_at (src/naming.rt). The items of a line by the names of options in the file at a path, if that is a plain file and whole.
-
 -- Names: `is`: the clause's equation. `items_read_at`: `items_at` takes that file if it is a plain one. `asks_extends`: a call that only
 -- asked keeps every answer.
 

@@ -3,8 +3,6 @@ use Rattle.drv_compile.proofs.naming.items_in.Goals as goal
 use Rattle.std.proofs.Common.{ap}
 use Rattle.std.specs.Option.{option_copied}
 
--- items_in (src/naming.rt). The items of a line by the names of options in a file that was read, if that is whole.
-
 -- Names: `is`: the clause's equation. `whole_named`: `items_in` reads the words again by the names in a whole file.
 
 pub returns-in_ok-with_names-in-Some : goal.returns-in_ok-with_names-in-Some

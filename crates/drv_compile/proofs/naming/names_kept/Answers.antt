@@ -2,8 +2,6 @@ use Rattle.drv_compile.proofs.Names.{kept_so}
 use Rattle.drv_compile.proofs.naming.names_kept.Goals as goal
 use Rattle.std.proofs.Common.{◌∙◌, sym}
 
--- names_kept (src/naming.rt). The names of the compiler's options, which are known, if they are read again after this answer.
-
 -- Names: `F`: what is known of the outside. `e`: that `F` extends the facts of this call. `some`: the clause's equation.
 
 -- the words are read again, so the names are those of the file

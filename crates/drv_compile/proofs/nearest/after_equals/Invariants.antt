@@ -2,8 +2,6 @@ use Rattle.drv_compile.proofs.nearest.after_equals.Given as goal
 use Rattle.drv_compile.specs.Near.{after_equals}
 use Rattle.std.proofs.Common.{◌≡◌, length}
 
--- The loops of after_equals (src/nearest.rt). What follows the first `=` of a word.
-
 abbrev pub invariant-loop-left : goal.invariant-loop-left
 invariant-loop-left l = after_equals l.left ≡ after_equals l.word
 

@@ -3,8 +3,6 @@ use Rattle.drv_compile.proofs.overwriting.clash_with.Goals as goal
 use Rattle.drv_compile.specs.Suffixes.{is_no_file}
 use Rattle.std.proofs.Common.{◌∙◌, ap, sym}
 
--- clash_with (src/overwriting.rt). The output with what it is read as, if it is one of these files; `-` and `/dev/null` are none.
-
 pub returns-then-is_no_file : goal.returns-then-is_no_file
 returns-then-is_no_file g c =
     sink_read c.args.files.now c.args.output.now c.as_bytes.result.now c.is_no_file.result _ c.as_bytes.ensures c.is_no_file.ensures

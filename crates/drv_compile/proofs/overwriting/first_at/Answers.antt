@@ -3,8 +3,6 @@ use Rattle.drv_compile.proofs.overwriting.first_at.Goals as goal
 use Rattle.drv_compile.specs.Overwriting.{IsAt}
 use Rattle.std.proofs.Common.{◌∙◌, arith, sym}
 
--- first_at (src/overwriting.rt). What the file at a path is read as, if it is one of these.
-
 pub returns-in_err-found : goal.returns-in_err-found
 returns-in_err-found g c =
     short_noted _ _ _ _ _ c.from_residual.result _ _ c.loop-file.invariant c.in_err-found.ensures c.from_residual.ensures.1

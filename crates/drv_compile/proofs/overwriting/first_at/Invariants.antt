@@ -5,8 +5,6 @@ use Rattle.drv_compile.specs.declared.host.HostEvent.{HostEvent}
 use Rattle.drv_compile.specs.declared.overwriting.ReadAs.{ReadAs}
 use Rattle.std.proofs.Common.{List, Option, ◌++◌, drop}
 
--- The loops of first_at (src/overwriting.rt). What the file at a path is read as, if it is one of these.
-
 -- No file so far leads there, so those that are left decide, by the events so far and theirs.
 abbrev pub invariant-loop-file : goal.invariant-loop-file
 invariant-loop-file g l =

@@ -3,8 +3,6 @@ use Rattle.drv_compile.proofs.overwriting.overwrites.Goals as goal
 use Rattle.drv_compile.specs.Overwriting.{IsRead}
 use Rattle.std.proofs.Common.{◌∙◌, arith, sym}
 
--- overwrites (src/overwriting.rt). The first output that is one of these files, by whatever path.
-
 pub returns-in_err-found : goal.returns-in_err-found
 returns-in_err-found g c =
     short_noted _ _ _ _ _ c.from_residual.result _ _ c.loop-output.invariant c.in_err-found.ensures c.from_residual.ensures.1

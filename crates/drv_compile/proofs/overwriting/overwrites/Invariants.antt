@@ -5,8 +5,6 @@ use Rattle.drv_compile.specs.declared.host.HostEvent.{HostEvent}
 use Rattle.drv_compile.specs.declared.overwriting.Clash.{Clash}
 use Rattle.std.proofs.Common.{List, Option, ◌++◌, drop}
 
--- The loops of overwrites (src/overwriting.rt). The first output that is one of these files, by whatever path.
-
 -- No output so far is read, so those that are left decide, by the events so far and theirs.
 abbrev pub invariant-loop-output : goal.invariant-loop-output
 invariant-loop-output g l =

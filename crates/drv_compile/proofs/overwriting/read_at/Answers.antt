@@ -2,8 +2,6 @@ use Rattle.drv_compile.proofs.FirstRead.{asked_at}
 use Rattle.drv_compile.proofs.overwriting.read_at.Goals as goal
 use Rattle.std.proofs.Common.{◌∙◌, None, Some, ap, if◌then◌else◌, sym}
 
--- read_at (src/overwriting.rt). What a file is read as, if it is the one at a path.
-
 pub returns-then-is_at : goal.returns-then-is_at
 returns-then-is_at g c =
     asked_at c.args.path.now c.args.file.now c.in_ok-answer.answer _ _ _ c.in_ok-answer.ensures.event

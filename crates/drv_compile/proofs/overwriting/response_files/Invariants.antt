@@ -3,7 +3,5 @@ use Rattle.drv_compile.proofs.overwriting.response_files.Given as goal
 use Rattle.std.proofs.Common.{◌≡◌, ◌++◌, drop}
 use Rattle.std.specs.List.{filter_map}
 
--- The loops of response_files (src/overwriting.rt). The response files that arguments name.
-
 abbrev pub invariant-loop-arg : goal.invariant-loop-arg
 invariant-loop-arg l = l.names ++ filter_map file_named (drop l.arg-index l.args) ≡ filter_map file_named l.args

@@ -4,8 +4,6 @@ use Rattle.drv_compile.specs.Places.{part_or_whole}
 use Rattle.drv_system.proofs.AskedCalls.{extends_before}
 use Rattle.std.proofs.Common.{◌∙◌, ap}
 
--- texts_asked (src/parts.rt). The file that has the texts for a line with these items and stages: the spec file, or a part of it beside it.
-
 -- Names: `texts_found`: `texts_asked` asks whether the part for a line is there. `extends_before`: what extends the facts after a call
 -- extends those before it.
 

@@ -1,8 +1,6 @@
 use Rattle.drv_compile.proofs.LinkLibraries.{last_library}
 use Rattle.drv_compile.proofs.passing.libraries.Goals as goal
 
--- libraries (src/passing.rt). The libraries among the words of a link.
-
 -- Names: `last_library`: once no word is left, the libraries so far are all.
 
 pub returns : goal.returns

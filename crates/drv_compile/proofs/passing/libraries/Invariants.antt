@@ -2,8 +2,6 @@ use Rattle.drv_compile.proofs.passing.libraries.Given as goal
 use Rattle.drv_compile.specs.Passed.{libraries}
 use Rattle.std.proofs.Common.{◌≡◌, ◌++◌, length}
 
--- The loops of libraries (src/passing.rt). The libraries among the words of a link.
-
 abbrev pub invariant-loop-left : goal.invariant-loop-left
 invariant-loop-left l = l.found ++ libraries l.left ≡ libraries l.words
 

@@ -3,8 +3,6 @@ use Rattle.drv_compile.proofs.passing.push_first.Goals as goal
 use Rattle.drv_compile.specs.Passed.{is_lone}
 use Rattle.std.proofs.Common.{◌∙◌, ap, inl, inr, sym}
 
--- push_first (src/passing.rt). Adds the library that begins with this word, if one does, and gives the words behind it.
-
 -- Names: `joined_goes`: -l and the word after it are a library. `single_goes`: any other word is one by itself, or none.
 
 pub returns-in_default-clause-goes : goal.returns-in_default-clause-goes

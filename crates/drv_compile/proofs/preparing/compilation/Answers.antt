@@ -4,8 +4,6 @@ use Rattle.drv_compile.proofs.Worded.{memory_stops}
 use Rattle.drv_compile.proofs.preparing.compilation.Goals as goal
 use Rattle.drv_system.proofs.AskedCalls.{extends_before}
 
--- compilation (src/preparing.rt). A line that is carried out.
-
 pub returns-in_err-text-clause-performs : goal.returns-in_err-text-clause-performs
 returns-in_err-text-clause-performs g c = none_noted _ _ (λ F e. memory_stops c.from_residual.result _ _ c.from_residual.ensures.1)
 

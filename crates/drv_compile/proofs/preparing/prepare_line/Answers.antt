@@ -3,8 +3,6 @@ use Rattle.drv_compile.proofs.Prepared.{prepared_by_driver, undriven_plan, unwor
 use Rattle.drv_compile.proofs.preparing.prepare_line.Goals as goal
 use Rattle.drv_system.proofs.AskedCalls.{asked_further, extends_before}
 
--- prepare_line (src/preparing.rt). What a call does for a line that nothing refuses.
-
 -- Names: `noted_as`: what was noted, said in other words. `prepared_by_driver`: `prepare_line` lets the driver carry the line out.
 -- `unworded_plan`: `prepare_line` refuses a line that nobody carries out.
 

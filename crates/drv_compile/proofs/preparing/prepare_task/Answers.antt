@@ -4,8 +4,6 @@ use Rattle.drv_compile.proofs.Worded.{memory_stops}
 use Rattle.drv_compile.proofs.preparing.prepare_task.Goals as goal
 use Rattle.drv_system.proofs.AskedCalls.{asked_further, extends_before}
 
--- prepare_task (src/preparing.rt). What a call does by what its line asks for.
-
 pub returns-in_err-words-clause-plans : goal.returns-in_err-words-clause-plans
 returns-in_err-words-clause-plans g c =
     none_noted _ _ (λ F e. words_stop F c.args.request.now.calling.now c.args.request.now.own.now c.args.request.now.args.now
@@ -30,9 +28,9 @@ pub returns-in_ok-prepared-in-Question-clause-plans : goal.returns-in_ok-prepare
 returns-in_ok-prepared-in-Question-clause-plans g c =
     none_noted _ _ (λ F e.
     question_comes F c.args.request.now.calling.now c.args.request.now.own.now c.args.request.now.args.now c.args.request.now.seed
-    c.in_ok-words.words c.as_slice.result.now c.in_ok-decision.decision c.in_ok-task.task _ _ _ c.in_ok-prepared-in-Question.prepared
+    c.in_ok-words.words c.as_slice.result.now c.in_ok-decision.decision c.in_ok-task.task _ _ c.in_ok-prepared-in-Question.prepared
     c.as_slice.ensures (c.in_ok-words.ensures.gives F (extends_before c.decide.ensures.asks e)) (c.in_ok-decision.ensures.decision F e)
-    c.in_ok-task.ensures c.in-Question.is c.as_bytes.ensures c.in_ok-prepared-in-Question.ensures.asks)
+    c.in_ok-task.ensures c.in-Question.is c.in_ok-prepared-in-Question.ensures.asks)
 
 -- What the words and the decision were known by stays known while the compilation asks more.
 pub returns-in-Compilation-clause-plans : goal.returns-in-Compilation-clause-plans

@@ -1,8 +1,6 @@
 use Rattle.drv_compile.proofs.Worded.{driver_told}
 use Rattle.drv_compile.proofs.preparing.work_or_stop.Goals as goal
 
--- work_or_stop (src/preparing.rt). The work of a line of the driver.
-
 -- Names: `F`: what is known of the outside. `e`: that `F` extends the facts of this call. `driver_told`: `work_or_stop` says the refusal of
 -- a line of the driver.
 

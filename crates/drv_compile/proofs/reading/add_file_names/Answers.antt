@@ -3,8 +3,6 @@ use Rattle.drv_compile.proofs.reading.add_file_names.Goals as goal
 use Rattle.drv_system.proofs.Asking.{asks_extends, asks_then, extends_then}
 use Rattle.std.proofs.Common.{refl}
 
--- add_file_names (src/reading.rt). Adds the names in the spec file of this name, where it can be read.
-
 -- Names: `file_read`: the names of one file, which was found and read. `asks_extends`: a call that only asked keeps every answer.
 
 pub returns-clause-asks : goal.returns-clause-asks

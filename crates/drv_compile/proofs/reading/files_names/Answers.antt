@@ -2,8 +2,6 @@ use Rattle.drv_compile.proofs.Names.{file_more}
 use Rattle.drv_compile.proofs.reading.files_names.Goals as goal
 use Rattle.drv_system.proofs.AskedCalls.{asked_further, extends_before}
 
--- files_names (src/reading.rt). The names in spec files.
-
 -- The names of one file more were added (`file_more`).
 pub loop-file-preserved : goal.loop-file-preserved
 loop-file-preserved g c = record {

@@ -6,8 +6,6 @@ use Rattle.drv_system.specs.Code.Asked.{Asked}
 use Rattle.drv_system.specs.Facts.{Facts}
 use Rattle.std.proofs.Common.{◌≡◌, drop}
 
--- The loops of files_names (src/reading.rt). The names in spec files.
-
 -- The names so far, with those of the files left, are those of all.
 abbrev pub invariant-loop-file : goal.invariant-loop-file
 invariant-loop-file g l = record {

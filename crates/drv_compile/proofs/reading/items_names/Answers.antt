@@ -3,8 +3,6 @@ use Rattle.drv_compile.proofs.reading.items_names.Goals as goal
 use Rattle.drv_system.proofs.AskedCalls.{asked_further, extends_before}
 use Rattle.std.proofs.Common.{◌∙◌, refl}
 
--- items_names (src/reading.rt). The names in the spec files of items of the driver's line.
-
 -- Names: `items_read`: those of items of the driver's line. `asked_further`: calls that only asked, one after another.
 
 pub returns-clause-asks : goal.returns-clause-asks

@@ -2,8 +2,6 @@ use Rattle.drv_compile.proofs.Names.{known_ended, known_refused}
 use Rattle.drv_compile.proofs.reading.known_answer.Goals as goal
 use Rattle.std.proofs.Common.{rules}
 
--- known_answer (src/reading.rt). The answer to a line whose words were read by the names of the compiler's options.
-
 -- The first answer is no refusal, so nothing was asked.
 pub returns-in_default : goal.returns-in_default
 returns-in_default g c =

@@ -2,9 +2,6 @@ use Rattle.drv_compile.proofs.Names.{read_named, read_unnamed}
 use Rattle.drv_compile.proofs.reading.read_by.Goals as goal
 use Rattle.drv_system.proofs.AskedCalls.{asked_further, extends_before}
 
--- read_by (src/reading.rt). The answer to a line of these items, which were read without names of options, by those of the compiler, if the
--- file that has them is whole.
-
 -- Names: `is`: the clause's equation. `asked_further`: calls that only asked, one after another. `extends_before`: what extends the facts
 -- after a call extends those before it. `read_named`: `read_by` answers by the items that it read with the names.
 

@@ -2,9 +2,6 @@ use Rattle.drv_compile.proofs.Names.{line_known, line_unknown}
 use Rattle.drv_compile.proofs.reading.read_line.Goals as goal
 use Rattle.std.proofs.Common.{◌∙◌, sym}
 
--- read_line (src/reading.rt). The answer to a line, over the files beside a spec file; none where that of the compiler's options is not
--- whole.
-
 -- Names: `line_known`: a line without one. `line_unknown`: a line with an unknown word.
 
 pub returns-then-has_unknown-clause-reading : goal.returns-then-has_unknown-clause-reading

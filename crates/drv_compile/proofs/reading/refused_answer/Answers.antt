@@ -2,8 +2,6 @@ use Rattle.drv_compile.proofs.Names.{refused_again}
 use Rattle.drv_compile.proofs.reading.refused_answer.Goals as goal
 use Rattle.std.proofs.Common.{◌∙◌}
 
--- refused_answer (src/reading.rt). The answer to a line that is refused where its spec files name nothing.
-
 -- Names: `is`: the clause's equation.
 
 -- With the unknown switches taken, the answer says which spec files the line names; by the names in these it is made again.

@@ -2,7 +2,5 @@ use Rattle.drv_compile.proofs.reading.specs_given.Given as goal
 use Rattle.drv_compile.specs.Reading.{specs_given}
 use Rattle.std.proofs.Common.{◌≡◌, ◌++◌, drop}
 
--- The loops of specs_given (src/reading.rt). The files of `-specs=` among items of the driver's line.
-
 abbrev pub invariant-loop-item : goal.invariant-loop-item
 invariant-loop-item l = l.files ++ specs_given (drop l.item-index l.items) ≡ specs_given l.items

@@ -2,7 +2,5 @@ use Rattle.drv_compile.proofs.reading.unknown_switches.Given as goal
 use Rattle.drv_compile.specs.Reading.{unknown_switches}
 use Rattle.std.proofs.Common.{◌≡◌, ◌++◌, drop}
 
--- The loops of unknown_switches (src/reading.rt). The words of refusals that are no options, as switches.
-
 abbrev pub invariant-loop-refusal : goal.invariant-loop-refusal
 invariant-loop-refusal l = l.switches ++ unknown_switches (drop l.refusal-index l.refusals) ≡ unknown_switches l.refusals

@@ -4,8 +4,6 @@ use Rattle.drv_compile.specs.declared.machines.LineRow.TheVariants.{Missing}
 use Rattle.std.proofs.Common.{◌∙◌, ap, sym}
 use Rattle.std.specs.Option.{option_copied}
 
--- row_asked (src/row_asking.rt). The row of a line by the text of the file beside the spec file, if that is whole.
-
 -- Names: `found_unasked`: nothing is asked where the text has the row. `missing_asked`: the host is asked once for a row that is missing,
 -- and its answer read.
 

@@ -4,8 +4,6 @@ use Rattle.drv_compile.proofs.running.line_given.Goals as goal
 use Rattle.drv_words.specs.Gives.{Gives}
 use Rattle.std.proofs.Common.{subst}
 
--- line_given (src/running.rt). The line that items give.
-
 -- Names: `line_judged`: the line of items, or its refusal.
 
 pub returns : goal.returns

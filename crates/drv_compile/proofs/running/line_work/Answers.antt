@@ -1,9 +1,6 @@
 use Rattle.drv_compile.proofs.Ran.{many_end, planning_ends}
 use Rattle.drv_compile.proofs.running.line_work.Goals as goal
 
--- line_work (src/running.rt). What a line with these specs asks for, along the prefixes of its `-B`, if it doesn't name one output for
--- several sources.
-
 -- Names: `F`: what is known of the outside. `e`: that `F` extends the facts of this call. `known`: the clause's equation. `many_end`: the
 -- ending is what `refuse_several` answers. `planning_ends`: the ending is what `work_of` answers.
 

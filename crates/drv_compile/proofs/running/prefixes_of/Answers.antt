@@ -1,7 +1,5 @@
 use Rattle.drv_compile.proofs.running.prefixes_of.Goals as goal
 use Rattle.std.proofs.Common.{refl}
 
--- prefixes_of (src/running.rt). The prefixes of a line's `-B`.
-
 pub returns-clause-asks : goal.returns-clause-asks
 returns-clause-asks g c = record { asks = c.new.ensures.asks; same_sys = refl; same_facts = refl }

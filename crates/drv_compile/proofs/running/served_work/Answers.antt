@@ -5,9 +5,6 @@ use Rattle.drv_system.specs.Known.{Is}
 use Rattle.std.proofs.Common.{◌∙◌, Err, ap, inr, refl, sym}
 use Rattle.std.specs.Option.{option_map}
 
--- served_work (src/running.rt). What a line with these specs asks for, along the prefixes of its `-B`, if no source is in a language that
--- no spec file serves.
-
 -- Names: `F`: what is known of the outside. `e`: that `F` extends the facts of this call. `known`: the clause's equation.
 
 -- the line is refused by the name of the language

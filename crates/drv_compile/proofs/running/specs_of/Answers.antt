@@ -2,8 +2,6 @@ use Rattle.drv_compile.proofs.running.specs_of.Goals as goal
 use Rattle.drv_compile.proofs.Ran.{suffixes_given}
 use Rattle.std.proofs.Common.{refl}
 
--- specs_of (src/running.rt). The specs of a line, along the prefixes of its `-B`: what the files of `-specs=` make of the suffixes.
-
 -- Names: `F`: what is known of the outside. `e`: that `F` extends the facts of this call. `known`: the clause's equation.
 
 pub returns-clause-loads : goal.returns-clause-loads

@@ -2,9 +2,6 @@ use Rattle.drv_compile.proofs.Ran.{loading_ends, memory_ends, reading_ends, work
 use Rattle.drv_compile.proofs.running.work_of_items.Goals as goal
 use Rattle.drv_system.proofs.AskedCalls.{asked_further, extends_before}
 
--- work_of_items (src/running.rt). What items of the driver's line ask for: the line judged, its spec files loaded, and its plan with what
--- is done with it.
-
 -- Names: `F`: what is known of the outside. `e`: that `F` extends the facts of this call. `extends_before`: what extends the facts after a
 -- call extends those before it. `asked_further`: calls that only asked, one after another. `loading_ends`: the ending is what `specs_of`
 -- answers.

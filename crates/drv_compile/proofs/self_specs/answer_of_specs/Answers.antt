@@ -2,8 +2,6 @@ use Rattle.drv_compile.proofs.Given.{seen_by, work_answers, work_ends}
 use Rattle.drv_compile.proofs.self_specs.answer_of_specs.Goals as goal
 use Rattle.drv_system.proofs.AskedCalls.{extends_before}
 
--- answer_of_specs (src/self_specs.rt). The answer to a line that names spec files.
-
 -- Names: `F`: what is known of the outside. `e`: that `F` extends the facts of this call. `seen_by`: the items that `answer_of_specs` sees,
 -- by the words that it lends. `work_answers`: `answer_of_specs` answers by what the work gave.
 

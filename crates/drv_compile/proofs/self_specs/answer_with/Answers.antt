@@ -2,8 +2,6 @@ use Rattle.drv_compile.proofs.Given.{options_given}
 use Rattle.drv_compile.proofs.self_specs.answer_with.Goals as goal
 use Rattle.drv_system.proofs.AskedCalls.{extends_before}
 
--- answer_with (src/self_specs.rt). The answer to a line that is given options.
-
 -- Names: `F`: what is known of the outside. `e`: that `F` extends the facts of this call. `options_given`: `answer_with` takes the names in
 -- the line's own spec files with those of the compiler's options. `extends_before`: what extends the facts after a call extends those
 -- before it.

@@ -6,9 +6,6 @@ use Rattle.drv_specs.specs.Sets.{text_of}
 use Rattle.drv_system.proofs.AskedCalls.{asked_further, extends_before}
 use Rattle.std.proofs.Common.{refl}
 
--- text_worked (src/self_specs.rt). What the text of this name gives a line whose switches these are, with the specs of a line of the
--- driver.
-
 -- the first items give no line: the text is refused as they are
 pub returns-in_err-line-clause-works : goal.returns-in_err-line-clause-works
 returns-in_err-line-clause-works g c F e =

@@ -4,8 +4,6 @@ use Rattle.drv_compile.specs.Runs.{line_given}
 use Rattle.drv_compile.specs.SelfSpecs.{worked_by, worked_for}
 use Rattle.drv_specs.specs.Sets.{text_of}
 
--- worked_by (src/self_specs.rt). What a text of specs of this name gives a line whose switches these are.
-
 -- The set has the text, so its work is that for this text (`text_there`).
 pub returns-in-Some-clause-works : goal.returns-in-Some-clause-works
 returns-in-Some-clause-works g c F e known =

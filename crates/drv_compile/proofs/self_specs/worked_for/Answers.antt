@@ -4,8 +4,6 @@ use Rattle.drv_compile.specs.Runs.{line_given}
 use Rattle.drv_compile.specs.SelfSpecs.{worked_for}
 use Rattle.std.proofs.Common.{Ok, ap, refl}
 
--- worked_for (src/self_specs.rt). What the text gives a line whose switches these are.
-
 -- Names: `F`: what is known of the outside. `e`: that `F` extends the facts of this call. `known`: the clause's equation. `line_given`: the
 -- line that items of the driver denote, or why they are refused. `alike`: what answers one definition answers another that is the same.
 

@@ -4,8 +4,6 @@ use Rattle.drv_machine.specs.Outcome.{outcome}
 use Rattle.drv_plan.specs.Denoted.{of_text}
 use Rattle.drv_syntax.specs.Parsed.{tree_of}
 
--- worked_in (src/self_specs.rt). What the text gives in a context.
-
 -- Names: `F`: what is known of the outside. `e`: that `F` extends the facts of this call. `outcome`: what running a text gives. `of_text`:
 -- the result of a text, where its refusal is that of the line.
 

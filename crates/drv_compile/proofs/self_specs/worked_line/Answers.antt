@@ -6,8 +6,6 @@ use Rattle.drv_plan.specs.Denoted.{of_text}
 use Rattle.drv_syntax.specs.Parsed.{tree_of}
 use Rattle.std.proofs.Common.{◌∙◌, Ok}
 
--- worked_line (src/self_specs.rt). What the text gives a line.
-
 -- The context is that of the line and its prefixes (`context_made`), and the text gives its job in it.
 pub returns-clause-works : goal.returns-clause-works
 returns-clause-works g c F e known =

@@ -3,8 +3,6 @@ use Rattle.drv_compile.specs.Runs.{is_source}
 use Rattle.std.proofs.Common.{◌≡◌, ◌≤◌, ◌+◌, drop}
 use Rattle.std.specs.Prelude.{count_by}
 
--- The loops of source_count (src/sources.rt). How many inputs are sources.
-
 abbrev pub invariant-loop-input : goal.invariant-loop-input
 invariant-loop-input l = (l.count + count_by (is_source l.set) (drop l.input-index l.inputs) ≡ count_by (is_source l.set) l.inputs)
     × (l.count ≤ l.input-index)

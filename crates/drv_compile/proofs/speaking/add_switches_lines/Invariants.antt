@@ -3,8 +3,6 @@ use Rattle.drv_compile.specs.Texts.{switches_line}
 use Rattle.std.proofs.Common.{◌≡◌, ◌++◌, drop}
 use Rattle.std.specs.List.{flat_map}
 
--- The loops of add_switches_lines (src/speaking.rt). Adds the lines of variables.
-
 abbrev pub invariant-loop-variable : goal.invariant-loop-variable
 invariant-loop-variable l = l.text ++ flat_map switches_line (drop l.variable-index l.children) ≡ l.fn.text
     ++ flat_map switches_line l.children

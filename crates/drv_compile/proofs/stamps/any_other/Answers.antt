@@ -2,8 +2,6 @@ use Rattle.drv_compile.proofs.Stamped.{other_here, other_later, other_nowhere}
 use Rattle.drv_compile.proofs.stamps.any_other.Goals as goal
 use Rattle.std.proofs.Common.{arith}
 
--- any_other (src/stamps.rt). Whether the file of one of these stamps has another one by now.
-
 pub returns-then-branch : goal.returns-then-branch
 returns-then-branch g c =
     other_here c.args.stamps.now c.loop-stamp.stamp-index c.stamp-item.result _ c.in_ok-is_other.field-0 _ _ _ c.loop-stamp-test.true

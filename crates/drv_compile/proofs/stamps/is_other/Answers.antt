@@ -3,8 +3,6 @@ use Rattle.drv_compile.proofs.stamps.is_other.Goals as goal
 use Rattle.std.proofs.Common.{◌∙◌, ap, sym}
 use Rattle.std.specs.Option.{option_map}
 
--- is_other (src/stamps.rt). Whether the file of a stamp has another stamp by now.
-
 pub returns-in_default : goal.returns-in_default
 returns-in_default g c = pathless_asked c.args.line.now _ (sym c.split_at_last.ensures ∙ ap (option_map _) c.in_default.is)
 

@@ -1,8 +1,6 @@
 use Rattle.drv_compile.proofs.Leading.{compiler_declined, damaged_declined}
 use Rattle.drv_compile.proofs.tasks.task_of.Goals as goal
 
--- task_of (src/tasks.rt). What a call does by what its words ask for.
-
 -- Names: `compiler_declined`: the text about a compiler that is not named declines the line. `damaged_declined`: the text about a file that
 -- isn't whole declines it.
 

@@ -2,8 +2,6 @@ use Rattle.drv_compile.proofs.Leading.{place_declined, specs_declined}
 use Rattle.drv_compile.proofs.tasks.without_specs.Goals as goal
 use Rattle.std.proofs.Common.{rules}
 
--- without_specs (src/tasks.rt). The text where there is no spec file.
-
 -- Names: `place_declined`: `without_specs` says that the place of the spec file isn't known. `specs_declined`: `without_specs` names the
 -- file that should be there.
 

@@ -2,8 +2,6 @@ use Rattle.drv_compile.proofs.Told.{told_all, told_more}
 use Rattle.drv_compile.proofs.telling.lines_told.Goals as goal
 use Rattle.std.proofs.Common.{arith}
 
--- lines_told (src/telling.rt). The text of refusals by these names of options: a line for each of them.
-
 -- Names: `told_all`: `lines_told` has the lines of all refusals at the end. `told_more`: `lines_told` adds the line of one refusal more.
 
 -- With this line the text has the lines of the refusals so far.

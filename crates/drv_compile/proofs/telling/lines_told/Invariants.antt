@@ -2,8 +2,6 @@ use Rattle.drv_compile.proofs.telling.lines_told.Given as goal
 use Rattle.drv_compile.specs.Near.{AreTold}
 use Rattle.std.proofs.Common.{List, ◌++◌, drop, ℕ}
 
--- The loops of lines_told (src/telling.rt). The text of refusals by these names of options: a line for each of them.
-
 -- The text so far, with the lines of the refusals left, has the lines of all.
 abbrev pub invariant-loop-refusal : goal.invariant-loop-refusal
 invariant-loop-refusal l =

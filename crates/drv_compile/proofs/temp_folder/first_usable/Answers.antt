@@ -3,9 +3,6 @@ use Rattle.drv_compile.proofs.Settled.{tries_none_yet}
 use Rattle.drv_compile.proofs.temp_folder.first_usable.Goals as goal
 use Rattle.std.proofs.Common.{arith, refl, rules}
 
--- first_usable (src/temp_folder.rt). The first of names that is that of a folder in which files can be made, or else the folder of the
--- call.
-
 pub loop-name-init : goal.loop-name-init
 loop-name-init g c = record { chooses = search rules; tries = tries_none_yet _ _ }
 

@@ -1,9 +1,6 @@
 use Rattle.drv_compile.proofs.Settled.{Choosing, Trying}
 use Rattle.drv_compile.proofs.temp_folder.first_usable.Given as goal
 
--- The loops of first_usable (src/temp_folder.rt). The first of names that is that of a folder in which files can be made, or else the
--- folder of the call.
-
 -- No folder so far is usable: the choice is among the names left, and those before were tried.
 abbrev pub invariant-loop-name : goal.invariant-loop-name
 invariant-loop-name g l = record {

@@ -1,8 +1,6 @@
 use Rattle.drv_compile.proofs.Settled.{folder_chosen, folder_tried, nothing_tried}
 use Rattle.drv_compile.proofs.temp_folder.folder_asked.Goals as goal
 
--- folder_asked (src/temp_folder.rt). The folder of temporaries (GCC, "libiberty/make-temp-file.c", choose_tmpdir).
-
 -- Names: `folder_chosen`: `folder_asked` chooses among the names that it asked for. `folder_tried`: `folder_asked` tried some of the
 -- folders where memory lacked.
 

@@ -2,8 +2,6 @@ use Rattle.drv_compile.proofs.Settled.{names_pushed}
 use Rattle.drv_compile.proofs.temp_folder.push_names.Goals as goal
 use Rattle.drv_system.proofs.AskedCalls.{extends_before}
 
--- push_names (src/temp_folder.rt). Adds the names that may be that of the folder.
-
 -- Names: `extends_before`: what extends the facts after a call extends those before it. `names_pushed`: `push_names` adds those of three,
 -- and then the usual folders.
 

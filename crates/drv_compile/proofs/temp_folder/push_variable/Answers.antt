@@ -1,8 +1,6 @@
 use Rattle.drv_compile.proofs.Settled.{name_pushed}
 use Rattle.drv_compile.proofs.temp_folder.push_variable.Goals as goal
 
--- push_variable (src/temp_folder.rt). Adds the value of a variable, if it is set.
-
 -- Names: `name_pushed`: `push_variable` adds the value of a variable, if it is set.
 
 pub returns-clause-names : goal.returns-clause-names

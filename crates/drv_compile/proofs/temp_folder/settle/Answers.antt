@@ -2,8 +2,6 @@ use Rattle.drv_compile.proofs.Settled.{begun, nothing_begun, table_settled}
 use Rattle.drv_compile.proofs.temp_folder.settle.Goals as goal
 use Rattle.std.proofs.Common.{rules}
 
--- settle (src/temp_folder.rt). Asks for the folder of temporaries, and puts it into a table that has no answer yet, as the value of TMPDIR.
-
 -- Names: `begun`: `settle` ends before it has a folder. `nothing_begun`: `settle` ends before its first question. `table_settled`: `settle`
 -- puts the folder into the table by its own word for TMPDIR.
 

@@ -4,8 +4,6 @@ use Rattle.drv_compile.specs.Texts.{quoted}
 use Rattle.std.proofs.Common.{◌++◌, ◌∙◌, ap, codes}
 use Rattle.std.proofs.lemmas.Result.{on_ok_weaker}
 
--- add_adding (src/wording.rt). Adds the command that asks the compiler for the words of options.
-
 -- Three texts were added one after another; `joined` adds them together, as the definition has it.
 pub returns : goal.returns
 returns c =

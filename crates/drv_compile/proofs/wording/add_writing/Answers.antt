@@ -4,8 +4,6 @@ use Rattle.drv_compile.specs.Texts.{gcc_of, quoted}
 use Rattle.std.proofs.Common.{◌++◌, ◌∙◌, ap, codes}
 use Rattle.std.proofs.lemmas.Result.{on_ok_weaker}
 
--- add_writing (src/wording.rt). Adds the command that writes the spec file of a machine.
-
 -- Three texts were added one after another; `joined` adds them together, as the definition has it.
 pub returns : goal.returns
 returns c =

@@ -2,8 +2,6 @@ use Rattle.drv_compile.proofs.wording.no_compiler_text.Goals as goal
 use Rattle.drv_compile.specs.Texts.{unwritten_text}
 use Rattle.std.proofs.Common.{◌≡◌, ◌∙◌, IfOk, codes, subst}
 
--- no_compiler_text (src/wording.rt). The text about a spec file beside which no compiler is named.
-
 -- Names: `unwritten_text`: a file that this command writes, and that is not there or is not what it writes.
 
 pub returns : goal.returns

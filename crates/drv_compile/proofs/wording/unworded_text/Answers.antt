@@ -2,8 +2,6 @@ use Rattle.drv_compile.proofs.wording.unworded_text.Goals as goal
 use Rattle.drv_compile.specs.Texts.{adding, error_line, quoted}
 use Rattle.std.proofs.Common.{◌≡◌, ◌∙◌, ◌++◌, List, ap, append_assoc, codes, ℕ}
 
--- unworded_text (src/wording.rt). The text of the refusal of a line, as no row has the words for these options.
-
 lined : (name text more : List ℕ) → (((name ++ codes ": error: ") ++ text) ++ more) ++ codes "\n" ≡ error_line name (text ++ more)
 lined name text more = ap (λ line. line ++ codes "\n") (append_assoc (name ++ codes ": error: ") text more)
 

@@ -2,8 +2,5 @@ use Rattle.drv_compile.proofs.wrapping.wrapper_of.Given as goal
 use Rattle.drv_compile.specs.Wrapper.{wrapper_of}
 use Rattle.std.proofs.Common.{◌≡◌, drop}
 
--- The loops of wrapper_of (src/wrapping.rt). The program under which each command of a line is started (GCC manual, "Overall Options",
--- `-wrapper`), by the items of the driver's line.
-
 abbrev pub invariant-loop-item : goal.invariant-loop-item
 invariant-loop-item l = wrapper_of (drop l.item-index l.items) ≡ wrapper_of l.items

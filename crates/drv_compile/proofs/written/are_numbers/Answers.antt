@@ -6,8 +6,6 @@ use Rattle.std.proofs.Common.{◌∙◌, ◌∷◌, ◌++◌, ap, nat_eq, sym}
 use Rattle.std.specs.Cmp.Lexicographic.{pointwise}
 use Rattle.std.specs.Fmt.{decimal}
 
--- are_numbers (src/written.rt). Whether a text is the size and the sum of some bytes.
-
 -- the text begins with the size: its rest decides
 pub returns-in-Some : goal.returns-in-Some
 returns-in-Some c =
