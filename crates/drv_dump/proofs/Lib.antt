@@ -1,6 +1,5 @@
 pub mod Copies
 pub mod Kept
-pub mod KeptDumps
 pub mod Naming
 pub mod Passing
 pub mod Replacing

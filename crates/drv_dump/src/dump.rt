@@ -1,26 +1,17 @@
 //! The texts of a dump.
 
 ghost use Rattle.drv_dump.specs.Dumps.{after_newline, ended, entry_at, nothing_read};
-ghost use Rattle.drv_dump.specs.Dumps.{entries_of, text_of_entry, texts_of, written_texts};
+ghost use Rattle.drv_dump.specs.Dumps.{entries_of};
 ghost use Rattle.drv_dump.specs.declared.fault.DumpFault.TheVariants.{Memory};
 ghost use Rattle.drv_words.specs.Gives.{Gives};
-ghost use Rattle.std.specs.Prelude.{◌≡◌, ◌++◌, OnOk};
+ghost use Rattle.std.specs.Prelude.{◌≡◌, OnOk};
 
-use crate::{DumpFault, Piece, TextFault, read_text, write_text};
+use crate::DumpFault;
 use drv_words::{Listing, Word};
 use std::alloc::{AllocError, Global};
 use std::mem;
 
-/// A text of a dump: its name and its pieces.
-#[derive(Debug, Drop)]
-pub struct DumpedText {
-    /// Its name, without the asterisk.
-    pub name: Word,
-    /// Its pieces.
-    pub pieces: Listing<Piece>,
-}
-
-/// A text of a dump that is not read yet.
+/// A text of a dump.
 #[derive(Drop)]
 pub(crate) struct Entry {
     pub(crate) name: Word,
@@ -108,7 +99,11 @@ impl DumpReader {
     }
 }
 
-/// The texts of a dump, unread.
+/// The texts of a dump, as `-dumpspecs` prints it: of each a line `*NAME:`, its lines, and an empty
+/// line.
+///
+/// # Errors
+/// `Misplaced` with the first byte that is in no text.
 pub(crate) fn entries(alloc: Global, dump: &[u8]) -> Result<Listing<Entry>, DumpFault>
     ensures { Gives Memory (λ entries. entries) result (entries_of dump.now) }
 {
@@ -120,51 +115,4 @@ pub(crate) fn entries(alloc: Global, dump: &[u8]) -> Result<Listing<Entry>, Dump
         Line::Between => Ok(reader.done),
         _ => Err(DumpFault::Misplaced(dump.len())),
     }
-}
-
-/// A text of a dump, read.
-fn read_entry(alloc: Global, entry: &Entry) -> Result<DumpedText, DumpFault>
-    ensures { Gives Memory (λ text. text) result (text_of_entry entry.now) }
-{
-    match read_text(alloc, entry.text.as_bytes()) {
-        Ok(pieces) => Ok(DumpedText {
-            name: entry.name.clone()?,
-            pieces,
-        }),
-        Err(TextFault::Memory) => Err(DumpFault::Memory),
-        Err(TextFault::Unreadable(misfit, at)) => {
-            Err(DumpFault::InText(entry.name.clone()?, misfit, at))
-        }
-    }
-}
-
-/// The texts of a dump, as `-dumpspecs` prints it: of each a line `*NAME:`, its lines, and an empty
-/// line.
-///
-/// # Errors
-/// `Misplaced` with the first byte that is in no text; then `InText` with the first text that can't
-/// be read.
-pub fn read_dump(alloc: Global, dump: &[u8]) -> Result<Listing<DumpedText>, DumpFault>
-    ensures { Gives Memory (λ texts. texts) result (texts_of dump.now) }
-{
-    let entries = entries(alloc, dump)?;
-    let mut texts = Listing::new(alloc);
-    for entry in entries.as_slice() {
-        texts.push(read_entry(alloc, entry)?)?;
-    }
-    Ok(texts)
-}
-
-/// Adds the dump that texts are read from to a word.
-pub fn write_dump(texts: &[DumpedText], dump: &mut Word) -> Result<(), AllocError>
-    ensures { OnOk result (dump.new ≡ dump.old ++ written_texts texts.now) }
-{
-    for text in texts {
-        dump.extend_from_slice(b"*")?;
-        dump.extend_from_slice(text.name.as_bytes())?;
-        dump.extend_from_slice(b":\n")?;
-        write_text(text.pieces.as_slice(), dump)?;
-        dump.extend_from_slice(b"\n\n")?;
-    }
-    Ok(())
 }

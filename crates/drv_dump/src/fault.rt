@@ -44,9 +44,6 @@ pub enum DumpFault {
     /// and an empty line.
     #[error("dump that is no list of texts")]
     Misplaced(usize),
-    /// In the text of this name this is wrong at this byte, counted from the start of the text.
-    #[error("spec text that can't be read")]
-    InText(Word, Misfit, usize),
 }
 
 /// Why a text of gcc can't be put into this driver's spec language.

@@ -15,15 +15,12 @@ mod reading;
 mod turn;
 mod turns_of_tests;
 mod vendors;
-mod writing;
 
-pub use dump::{DumpedText, read_dump, write_dump};
 pub use fault::{DumpFault, Misfit, OursFault, TextFault};
-pub use laws::{dump_is_kept, text_is_kept};
+pub use laws::text_is_kept;
 pub use our_dump::{OurDump, translate_dump};
 pub use ours::translate_text;
 pub use passed::pass_libraries;
 pub use piece::{Kind, Piece};
 pub use reading::read_text;
 pub use vendors::translate_vendors;
-pub use writing::write_text;

@@ -103,7 +103,8 @@ impl OurDump {
 /// text's name, each line that reaches it.
 ///
 /// # Errors
-/// `Misplaced` as for `read_dump`.
+/// `Misplaced` with the first byte that is in no text: each is a line `*NAME:`, lines, and an empty
+/// line.
 pub fn translate_dump(alloc: Global, dump: &[u8]) -> Result<OurDump, DumpFault>
     ensures { Gives Memory (λ ours. ours) result (our_dump_of dump.now) }
 {

@@ -190,7 +190,7 @@ fn push_entry(alloc: Global, entry: &Entry, texts: &mut Word) -> Result<(), Dump
 /// such text of a dump.
 ///
 /// # Errors
-/// `Misplaced` as for `read_dump`.
+/// `Misplaced` as for `translate_dump`.
 pub fn pass_libraries(alloc: Global, dump: &[u8]) -> Result<Word, DumpFault>
     ensures { Gives dump_fault.Memory (λ texts. texts) result (passed_dump_of dump.now) }
 {

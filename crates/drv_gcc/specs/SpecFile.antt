@@ -1,13 +1,12 @@
-use Rattle.drv_dump.specs.Dumps.{written_entry}
 use Rattle.drv_gcc.specs.Fixed.{first_texts, last_texts}
+use Rattle.drv_gcc.specs.declared.toolchain.Alone.TheVariants.{Refused, Served}
+use Rattle.drv_gcc.specs.declared.toolchain.Alone.{Alone}
 use Rattle.drv_gcc.specs.declared.toolchain.Choice.{Choice}
 use Rattle.drv_gcc.specs.declared.toolchain.Finding.TheVariants.{Along, Fixed, Own}
 use Rattle.drv_gcc.specs.declared.toolchain.Finding.{Finding}
 use Rattle.drv_gcc.specs.declared.toolchain.ForMachine.{ForMachine}
 use Rattle.drv_gcc.specs.declared.toolchain.Included.{Included}
 use Rattle.drv_gcc.specs.declared.toolchain.Linker.{Linker}
-use Rattle.drv_gcc.specs.declared.toolchain.MachineOptions.{MachineOptions}
-use Rattle.drv_gcc.specs.declared.toolchain.MachineWord.{MachineWord}
 use Rattle.drv_gcc.specs.declared.toolchain.NamedText.{NamedText}
 use Rattle.drv_gcc.specs.declared.toolchain.Program.{Program}
 use Rattle.drv_gcc.specs.declared.toolchain.Programs.{Programs}
@@ -53,28 +52,28 @@ then_blank word = spec_word word ++ byte.space ∷ []
 
 -- a text of this name, as a directive of a spec file
 unfoldable pub entry : List ℕ → List ℕ → List ℕ
-entry name body = written_entry name body
+entry name body = codes "*" ++ name ++ codes ":\n" ++ body ++ codes "\n\n"
 
 -- a text without words is there and says nothing
 abbrev pub or_nothing : List ℕ → List ℕ
 or_nothing [] = codes "%{-gdrv-none:}"
 or_nothing (b ∷ word) = spec_word (b ∷ word)
 
--- A text for each machine that an option of the line chooses, and one for the gcc's own (GCC manual, "Spec Files", %{S:X;T:Y;:D}).
+-- A text for the libraries of each folder, and one for the gcc's own (GCC manual, "Spec Files", %{S:X;T:Y;:D}). The front names the folder.
 
--- an alternative for the machine that a test of the line chooses
+-- an alternative for the libraries of one folder
 unfoldable pub for_machine : ForMachine → List ℕ
 for_machine it = it.test ++ codes ":" ++ it.text ++ codes ";"
 
--- a text of alternatives: for each machine its own, and else that of the gcc
+-- a text of alternatives: for the libraries of each folder its own, and else that of the gcc
 unfoldable pub alternatives : List ℕ → List ForMachine → List ℕ
 alternatives own others = codes "%{" ++ flat_map for_machine others ++ codes ":" ++ own ++ codes "}"
 
--- a text by the machine of the line; without others it is the gcc's alone
+-- a text by the libraries of the line; without others it is the gcc's alone
 unfoldable pub chosen : Choice → List ℕ
 chosen it = if nat_lt 0 (length it.others) then alternatives it.own it.others else it.own
 
--- the named text of a file or folder, by the machine of the line
+-- the named text of a file or folder, by the libraries of the line
 unfoldable pub named_text : NamedText → List ℕ
 named_text it = entry it.name (chosen it.choice)
 
@@ -121,7 +120,7 @@ unfoldable pub library_words : List (List ℕ) → List (List ℕ) → List ℕ 
 library_words before words last =
     flat_map then_blank before ++ codes "%{B*:-L%*} " ++ flat_map then_blank words ++ codes "%{-gdrv-lib=*:-L%*} " ++ spec_word last
 
--- the text of the folders of libraries, by the machine of the line
+-- the text of the folders of libraries, by those of the line
 unfoldable pub libraries_text : Choice → List ℕ
 libraries_text folders = entry (codes "link_folders") (codes "%(own_folders) " ++ chosen folders)
 
@@ -239,67 +238,43 @@ hiding_body texts =
 unfoldable pub hiding_text : List NamedText → List ℕ
 hiding_text texts = entry (codes "hiding_folders") (hiding_body texts)
 
--- A word that gcc adds to a compilation for its machine (DRIVER_SELF_SPECS, OPTION_DEFAULT_SPECS), unless one of these tests of the line
--- holds.
+-- Options for the machine. The front puts what gcc makes of them in their place; a line without it gets what gcc adds for its own machine
+-- (DRIVER_SELF_SPECS, OPTION_DEFAULT_SPECS), or is refused.
 
--- tests of which one must hold; without any none holds
-abbrev pub one_of : List (List ℕ) → List ℕ
-one_of [] = codes "-gdrv-none"
-one_of (test ∷ tests) = test ++ byte.bar ∷ one_of tests
+-- the words for gcc's own machine in a line without the front
+unfoldable pub served_words : List (List ℕ) → List ℕ
+served_words words = codes "%{!-gdrv-front:" ++ flat_map then_blank words ++ codes "}"
 
--- a word for the machine, unless the line has an option in its place
-unfoldable pub machine_text : MachineWord → List ℕ
-machine_text it = codes " %{" ++ one_of it.unless ++ codes ":;:" ++ spec_word it.word ++ codes "}"
+-- what a line without the front gets among the options for its machine
+abbrev pub words_alone : Alone → List ℕ
+words_alone (Served words) = served_words words
+words_alone Refused = []
+
+-- the options for the machine as a named text
+unfoldable pub options_text : Alone → List ℕ
+options_text alone = entry (codes "machine_options") (codes "%{m*} " ++ words_alone alone)
 
 -- an option that would have other words by this file than by gcc
 unfoldable pub refused_option : List ℕ → List ℕ
-refused_option option = codes "%{" ++ test_word (drop 1 option) ++ codes ":%e" ++ option ++ codes " is not in this spec file}"
+refused_option option = codes "%{" ++ drop 1 option ++ codes ":%e" ++ option ++ codes " is not in this spec file}"
 
--- words that are found out about the machine of the call come from texts of the compiler
-unfoldable pub native_words : Choice → Choice → List ℕ
-native_words native tuned =
-    codes "%{march=native:%<march=native %<mtune=native %{m*}" ++ chosen native ++ codes ";:%<mtune=native %{m*}" ++ chosen tuned
-    ++ codes "}"
+-- what refuses each line without the front, if none is served
+abbrev pub guard_alone : Alone → List ℕ
+guard_alone (Served words) = []
+guard_alone Refused = codes "%{!-gdrv-front:%ethis spec file needs gdrv-cc}"
 
--- the words for the machine of a line that doesn't ask for that of the call
-unfoldable pub usual_words : Choice → List ℕ
-usual_words usual = codes "%{m*}" ++ chosen usual
+-- the text that refuses lines for which this file would have other words than gcc
+unfoldable pub refusals_text : List (List ℕ) → Alone → List ℕ
+refusals_text options alone =
+    entry (codes "refused_options") (codes "%{-gdrv-none:}" ++ guard_alone alone ++ flat_map refused_option options)
 
--- the words of both kinds of lines
-unfoldable pub either_words : Choice → Choice → Choice → List ℕ
-either_words usual native tuned =
-    codes "%{march=native|mtune=native:" ++ native_words native tuned ++ codes ";:" ++ usual_words usual ++ codes "}"
-
--- the words for the machine; a gcc that can't find out the machine of the call has the usual ones alone
-unfoldable pub options_body : MachineOptions → List ℕ
-options_body it = if it.has_native then either_words it.usual it.native it.tuned else usual_words it.usual
-
--- the words for the machine as a named text
-unfoldable pub options_text : MachineOptions → List ℕ
-options_text it = entry (codes "machine_options") (options_body it)
-
--- a text for each machine is for one of them at a time
-unfoldable pub clash : List ℕ → List (List ℕ) → List ℕ
-clash test tests = codes "%{" ++ test ++ codes ":%{" ++ one_of tests
-    ++ codes ":%etwo options that choose a machine are not in this spec file together}}"
-
--- the refusals of lines with two options that choose a machine
-abbrev pub clashes : List (List ℕ) → List ℕ
-clashes [] = []
-clashes (test ∷ tests) = clash test tests ++ clashes tests
-
--- the text that refuses lines with options for which this file would have other words than gcc
-unfoldable pub refusals_text : List (List ℕ) → List (List ℕ) → List ℕ
-refusals_text options tests = entry (codes "refused_options") (codes "%{-gdrv-none:}" ++ flat_map refused_option options ++ clashes tests)
-
--- the texts for the machine: its words, and the refusals
-unfoldable pub machine_texts : MachineOptions → List (List ℕ) → List (List ℕ) → List ℕ
-machine_texts machine options tests = options_text machine ++ refusals_text options tests
+-- the texts for the machine: its words, the refusals, and the folder of the line's library
+unfoldable pub machine_texts : Toolchain → List ℕ
+machine_texts gcc = options_text gcc.alone ++ refusals_text gcc.refused gcc.alone ++ entry (codes "multilib_folder") gcc.library
 
 -- the spec file that gdrv-write-specs writes for a gcc
 unfoldable pub spec_file : Toolchain → List ℕ
 spec_file gcc =
     first_texts ++ gcc.texts ++ root_text gcc.is_rooted gcc.sysroot ++ gcc.passed ++ flat_map named_text gcc.named ++ hiding_text gcc.named
-    ++ flat_map included_text gcc.included
-    ++ folder_texts gcc ++ program_texts gcc.programs ++ machine_texts gcc.machine gcc.refused gcc.tests ++ root_guard gcc.is_rooted
-    ++ last_texts
+    ++ flat_map included_text gcc.included ++ folder_texts gcc ++ program_texts gcc.programs ++ machine_texts gcc
+    ++ root_guard gcc.is_rooted ++ last_texts gcc.side_files

@@ -2,20 +2,22 @@
 
 ghost use Rattle.drv_gcc.specs.Replacing.{replaced};
 ghost use Rattle.drv_gcc.specs.SpecFile.{entry, file_body, folder_body, folder_texts, found_body};
-ghost use Rattle.drv_gcc.specs.SpecFile.{headers_text, hidden_folder, included_text, libraries_text};
+ghost use Rattle.drv_gcc.specs.SpecFile.{guard_alone, headers_text, hidden_folder, included_text};
+ghost use Rattle.drv_gcc.specs.SpecFile.{libraries_text};
 ghost use Rattle.drv_gcc.specs.SpecFile.{library_words, line_root, machine_texts, named_text};
 ghost use Rattle.drv_gcc.specs.SpecFile.{options_text, own_text, placed_body};
 ghost use Rattle.drv_gcc.specs.SpecFile.{refusals_text, refused_option, root_guard, root_text};
-ghost use Rattle.drv_gcc.specs.SpecFile.{root_words, rooted_words, spec_file, then_blank};
+ghost use Rattle.drv_gcc.specs.SpecFile.{root_words, rooted_words, served_words, spec_file};
+ghost use Rattle.drv_gcc.specs.SpecFile.{then_blank};
 ghost use Rattle.std.specs.List.{flat_map};
 ghost use Rattle.std.specs.Prelude.{◌≡◌, ◌++◌, IfOk, OnOk, codes};
 
-use crate::choices::{push_choice, push_clashes, push_options_body};
+use crate::choices::push_choice;
 use crate::fixed::{push_first, push_last};
 use crate::hiding::push_hiding;
 use crate::programs::push_programs;
 use crate::replacing::replace;
-use crate::toolchain::{Choice, Included, MachineOptions, NamedText, Toolchain};
+use crate::toolchain::{Alone, Choice, Included, NamedText, Toolchain};
 use crate::words::{push_test, push_then_blank, push_word};
 use drv_words::Word;
 use std::alloc::{AllocError, Global};
@@ -315,7 +317,7 @@ fn push_refused(body: &mut Word, option: &[u8]) -> Result<(), AllocError>
     ensures { OnOk result (body.new ≡ body.old ++ refused_option option.now) }
 {
     body.extend_from_slice(b"%{")?;
-    push_test(body, option.get(1..).unwrap_or(&[]))?;
+    body.extend_from_slice(option.get(1..).unwrap_or(&[]))?;
     body.extend_from_slice(b":%e")?;
     body.extend_from_slice(option)?;
     body.extend_from_slice(b" is not in this spec file}")
@@ -331,14 +333,38 @@ fn push_all_refused(body: &mut Word, options: &[Word]) -> Result<(), AllocError>
     Ok(())
 }
 
+/// Adds words for lines without the front.
+#[tactic(auto, unfolding(crate::specs::SpecFile::served_words))]
+fn push_served(body: &mut Word, words: &[Word]) -> Result<(), AllocError>
+    ensures { OnOk result (body.new ≡ body.old ++ served_words words.now) }
+{
+    body.extend_from_slice(b"%{!-gdrv-front:")?;
+    push_words(body, words)?;
+    body.extend_from_slice(b"}")
+}
+
 /// Adds the text of the options for the machine.
 #[tactic(auto, unfolding(crate::specs::SpecFile::options_text))]
-fn push_options(alloc: Global, text: &mut Word, it: &MachineOptions) -> Result<(), AllocError>
-    ensures { OnOk result (text.new ≡ text.old ++ options_text it.now) }
+fn push_options(alloc: Global, text: &mut Word, alone: &Alone) -> Result<(), AllocError>
+    ensures { OnOk result (text.new ≡ text.old ++ options_text alone.now) }
 {
-    let mut body = Word::empty(alloc);
-    push_options_body(&mut body, it)?;
+    let mut body = Word::from_bytes(alloc, b"%{m*} ")?;
+    if let Alone::Served(words) = alone {
+        push_served(&mut body, words.as_slice())?;
+    }
     push_entry(text, b"machine_options", body.as_bytes())
+}
+
+/// Adds what refuses lines without the front, if none is served.
+fn push_guard_alone(body: &mut Word, alone: &Alone) -> Result<(), AllocError>
+    ensures { OnOk result (body.new ≡ body.old ++ guard_alone alone.now) }
+{
+    match alone {
+        Alone::Served(_words) => Ok(()),
+        Alone::Refused => {
+            body.extend_from_slice(b"%{!-gdrv-front:%ethis spec file needs gdrv-cc}")
+        }
+    }
 }
 
 /// Adds the text of the refused options.
@@ -347,30 +373,24 @@ fn push_refusals(
     alloc: Global,
     text: &mut Word,
     options: &[Word],
-    tests: &[Word],
+    alone: &Alone,
 ) -> Result<(), AllocError>
-    ensures { OnOk result (text.new ≡ text.old ++ refusals_text options.now tests.now) }
+    ensures { OnOk result (text.new ≡ text.old ++ refusals_text options.now alone.now) }
 {
     let mut body = Word::from_bytes(alloc, b"%{-gdrv-none:}")?;
+    push_guard_alone(&mut body, alone)?;
     push_all_refused(&mut body, options)?;
-    push_clashes(&mut body, tests)?;
     push_entry(text, b"refused_options", body.as_bytes())
 }
 
 /// Adds the texts for the machine.
 #[tactic(auto, unfolding(crate::specs::SpecFile::machine_texts))]
-fn push_machine(
-    alloc: Global,
-    text: &mut Word,
-    machine: &MachineOptions,
-    options: &[Word],
-    tests: &[Word],
-) -> Result<(), AllocError>
-    ensures { OnOk result (text.new
-        ≡ text.old ++ machine_texts machine.now options.now tests.now) }
+fn push_machine(alloc: Global, text: &mut Word, gcc: &Toolchain) -> Result<(), AllocError>
+    ensures { OnOk result (text.new ≡ text.old ++ machine_texts gcc.now) }
 {
-    push_options(alloc, text, machine)?;
-    push_refusals(alloc, text, options, tests)
+    push_options(alloc, text, &gcc.alone)?;
+    push_refusals(alloc, text, gcc.refused.as_slice(), &gcc.alone)?;
+    push_entry(text, b"multilib_folder", gcc.library.as_bytes())
 }
 
 /// Adds named texts.
@@ -409,14 +429,8 @@ pub fn spec_file(alloc: Global, gcc: &Toolchain) -> Result<Word, AllocError>
     push_all_included(alloc, &mut text, gcc.included.as_slice())?;
     push_folders(alloc, &mut text, gcc)?;
     push_programs(alloc, &mut text, &gcc.programs)?;
-    push_machine(
-        alloc,
-        &mut text,
-        &gcc.machine,
-        gcc.refused.as_slice(),
-        gcc.tests.as_slice(),
-    )?;
+    push_machine(alloc, &mut text, gcc)?;
     push_root_guard(&mut text, gcc.is_rooted)?;
-    push_last(&mut text)?;
+    push_last(&mut text, gcc.side_files)?;
     Ok(text)
 }

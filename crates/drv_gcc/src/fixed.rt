@@ -9,6 +9,7 @@ ghost use Rattle.drv_gcc.specs.Fixed.{alone, commands, first_texts, guards, lang
 ghost use Rattle.drv_gcc.specs.Fixed.{link_guard, side_files, wrappers};
 ghost use Rattle.std.specs.Prelude.{◌≡◌, ◌++◌, OnOk};
 
+use crate::toolchain::SideFiles;
 use drv_words::Word;
 use std::alloc::AllocError;
 
@@ -18,6 +19,12 @@ const FIRST: &[u8] = b"\
     %{-gdrv-none:}\n\
     \n\
     *asm_debug_option:\n\
+    %{-gdrv-none:}\n\
+    \n\
+    *device_alone:\n\
+    %{-gdrv-none:}\n\
+    \n\
+    *refused_folders:\n\
     %{-gdrv-none:}\n\
     \n";
 
@@ -34,7 +41,8 @@ const GUARDS: &[u8] = b"\
     are not in this spec file}\n\
     \n\
     *refused_here:\n\
-    %(refused_root)%{mmusl*|muclibc*|mbionic*|mandroid*:%eanother C library is not in this \
+    %(refused_root)%(refused_names)%(refused_folders)%(device_alone)%{specs=*:%(other_library)}\
+    %{mmusl*|muclibc*|mbionic*|mandroid*:%eanother C library is not in this \
     spec file}%{-gdrv-wrapper=:%e-wrapper with an empty word is not in this spec file}\
     %{-gdrv-suffixes:%(several_suffixes)} %(refused_options)%{!-gdrv-front:%(without_front)}\n\
     \n\
@@ -51,8 +59,13 @@ const GUARDS: &[u8] = b"\
     *sysroot_folder:\n\
     %{-gdrv-none:}\n\
     \n\
-    *multilib_folder:\n\
-    .\n\
+    *other_library:\n\
+    %{-gdrv-multi=*:%(own_folders)%{B*:%e-B with options for other libraries is not in this \
+    spec file}}\n\
+    \n\
+    *without_plugin:\n\
+    %{flto*:%{fno-lto:;fno-use-linker-plugin:%e-flto without the plugin of the linker is not in \
+    this spec file}}\n\
     \n\
     *gdrv_pass:\n\
     / %{!fsyntax-only:%{!c:%{!M:%{!MM:%{!E:%{!S:%{!nostdlib:%{!nodefaultlibs:\
@@ -75,8 +88,8 @@ const ALONE: &[u8] = b"\
     %{save-temps*|gsplit-dwarf|fprofile-*|ftest-coverage|coverage|-coverage|fstack-usage|\
     fcallgraph-info*|fdump-*|fopt-info*|fcompare-debug*:%enames of side files need gdrv-cc}\
     %{MD|MMD:%{!MF*:%{o*:%e-MD with -o needs gdrv-cc}}}\
-    %{gtoggle|g0:%{g|g1|g2|g3|ggdb*|gdwarf*:%(last_one)}}%{m64:%{m32|mx32|m16:%(last_one)}}\
-    %{m32:%{mx32|m16:%(last_one)}}%{mx32:%{m16:%(last_one)}}%{no-pie:%{pie|static-pie:%(last_one)}} \
+    %{gtoggle|g0:%{g|g1|g2|g3|ggdb*|gdwarf*:%(last_one)}}\
+    %{m*|EB|EL:%eoptions for a machine need gdrv-cc}%{no-pie:%{pie|static-pie:%(last_one)}} \
     %<A* %<C %<CC %<D %<E %<F* %<H %<I %<L* %<M* %<N %<O* %<P %<Q %<Qn %<Qy %<S %<T* %<U %<W* %<Z \
     %<ansi %<aux-info %<c %<d* %<e* %<f* %<g* %<h* %<i* %<m* %<n %<no-integrated-cpp %<no-pie \
     %<nodefaultlibs %<nolibc %<nostartfiles %<nostdinc* %<nostdlib %<o %<p %<pedantic* %<pg %<pie \
@@ -86,10 +99,8 @@ const ALONE: &[u8] = b"\
     \n";
 
 /// The names of side files. `dump_words`: -dumpbase-ext is the front's suffix; none, if it gave a
-/// name alone; else the input's own, or that of --gdrv-suffix=. `dependencies` is the file of -MD.
-/// `object`, `split_object`, `preprocessed`, `checked`, `assembly` and `dwo_name` are files of a
-/// compilation: by -o, by what -save-temps keeps (--gdrv-aux=, or --gdrv-dir= before the input's
-/// name), or temporaries.
+/// name alone; else the input's own, or that of --gdrv-suffix=. `dependencies` is the file of -MD,
+/// and `dwo_name` that of debug information.
 const SIDE_FILES: &[u8] = b"\
     *dump_words:\n\
     %{-gdrv-dir=*:-dumpdir %*} %{-gdrv-base=*:-dumpbase %*;:-dumpbase %B} \
@@ -99,6 +110,16 @@ const SIDE_FILES: &[u8] = b"\
     \n\
     *dependencies:\n\
     %{-gdrv-dep=*:%*;-gdrv-dir=*:%*%b.d;:%b.d}\n\
+    \n\
+    *dwo_name:\n\
+    %{-gdrv-aux=*:%*.dwo;-gdrv-dir=*:%*%b.dwo;:%b.dwo}\n\
+    \n";
+
+/// The names of files of a compilation: by -o, by what -save-temps keeps (--gdrv-aux=, or
+/// --gdrv-dir= before the input's name), or temporaries.
+const FRONT_NAMES: &[u8] = b"\
+    *refused_names:\n\
+    %{-gdrv-none:}\n\
     \n\
     *object:\n\
     %{c:%W{o*}%{!o*:-o %w%b%O};save-temps*:-o %w%{-gdrv-aux=*:%*%O;-gdrv-dir=*:%*%b%O;:%b%O}\
@@ -115,9 +136,30 @@ const SIDE_FILES: &[u8] = b"\
     \n\
     *assembly:\n\
     %{-gdrv-aux=*:%*.s;-gdrv-dir=*:%*%b.s;:%b.s}\n\
+    \n";
+
+/// The same by the name of the source. Refused is what has no such name: files of a link, and those
+/// beside an object of another name.
+const SOURCE_NAMES: &[u8] = b"\
+    *refused_names:\n\
+    %{c|S|E|M|MM|fsyntax-only:;save-temps*|MD|MMD|gsplit-dwarf:%enames of side files of a link are \
+    not in this spec file}%{save-temps=obj:%{o*:%e-save-temps=obj with -o is not in this spec \
+    file}}\n\
     \n\
-    *dwo_name:\n\
-    %{-gdrv-aux=*:%*.dwo;-gdrv-dir=*:%*%b.dwo;:%b.dwo}\n\
+    *object:\n\
+    %{c:%W{o*}%{!o*:-o %w%b%O};save-temps*:-o %w%b%O;:-o %w%u%O}\n\
+    \n\
+    *split_object:\n\
+    %{c:%{o*:%*}%{!o*:%b%O};save-temps*:%b%O;:%U%O}\n\
+    \n\
+    *preprocessed:\n\
+    %{save-temps*:%b.i;:%g.i}\n\
+    \n\
+    *checked:\n\
+    %{save-temps*:%b;:/dev/null}\n\
+    \n\
+    *assembly:\n\
+    %b.s\n\
     \n";
 
 /// The words of `-wrapper`: `wrapper` before a first command, and `later_wrapper` before a second one,
@@ -142,7 +184,7 @@ const COMMANDS: &[u8] = b"\
     %(later_wrapper)%(as_cmd) %(asm_options) %m.s %A}}\n\
     \n\
     *compile:\n\
-    %{traditional:%eGNU C no longer supports -traditional without -E}%{save-temps*|\
+    %(without_plugin)%{traditional:%eGNU C no longer supports -traditional without -E}%{save-temps*|\
     traditional-cpp|no-integrated-cpp:%{march=native|mtune=native:%e-march=native and a \
     preprocessor of its own are not in this spec file together}%(trad_capable_cpp) %(cpp_options) \
     -o %(preprocessed)\n %(cc1_cmd) -fpreprocessed %(preprocessed) %(cc1_options) \
@@ -156,7 +198,7 @@ const LANGUAGES: &[u8] = b"\
     :%(compile) %{!fsyntax-only:%(invoke_as)}} %(refused_here)\n\
     \n\
     @cpp-output:\n\
-    %(driver_alone) %{E|M|MM:;:%(cc1_cmd) -fpreprocessed %i %(cc1_options) %(distro_defaults\
+    %(driver_alone) %{E|M|MM:;:%(without_plugin)%(cc1_cmd) -fpreprocessed %i %(cc1_options) %(distro_defaults\
     ) %{!fsyntax-only:%(invoke_as)}} %(refused_here)\n\
     \n\
     @assembler-with-cpp:\n\
@@ -178,12 +220,32 @@ const LANGUAGES: &[u8] = b"\
     %(refused_here)\n\
     \n";
 
+/// What each link is refused for.
+const LINK_GUARD: &[u8] = b"\
+    *link_command:\n\
+    + %{fsyntax-only|c|M|MM|E|S:;:%(hiding_folders)%{-gdrv-dirs:%(other_library)}\
+    %(without_plugin)%{fvtable-verify=*:%e-fvtable-verify= is not in this spec file}} \
+    %(refused_here)\n\
+    \n";
+
 /// Adds the texts that precede those of a dump.
 #[tactic(auto, unfolding(crate::specs::Fixed::first_texts))]
 pub(crate) fn push_first(text: &mut Word) -> Result<(), AllocError>
     ensures { OnOk result (text.new ≡ text.old ++ first_texts) }
 {
     text.extend_from_slice(FIRST)
+}
+
+/// Adds the names of side files.
+#[tactic(auto, unfolding(crate::specs::Fixed::side_files))]
+fn push_side_files(text: &mut Word, files: SideFiles) -> Result<(), AllocError>
+    ensures { OnOk result (text.new ≡ text.old ++ side_files files) }
+{
+    text.extend_from_slice(SIDE_FILES)?;
+    match files {
+        SideFiles::Front => text.extend_from_slice(FRONT_NAMES),
+        SideFiles::Source => text.extend_from_slice(SOURCE_NAMES),
+    }
 }
 
 /// Adds what a line is refused for.
@@ -200,14 +262,6 @@ fn push_alone(text: &mut Word) -> Result<(), AllocError>
     ensures { OnOk result (text.new ≡ text.old ++ alone) }
 {
     text.extend_from_slice(ALONE)
-}
-
-/// Adds the names of side files.
-#[tactic(auto, unfolding(crate::specs::Fixed::side_files))]
-fn push_side_files(text: &mut Word) -> Result<(), AllocError>
-    ensures { OnOk result (text.new ≡ text.old ++ side_files) }
-{
-    text.extend_from_slice(SIDE_FILES)
 }
 
 /// Adds the words of `-wrapper`.
@@ -231,11 +285,7 @@ fn push_commands(text: &mut Word) -> Result<(), AllocError>
 fn push_link_guard(text: &mut Word) -> Result<(), AllocError>
     ensures { OnOk result (text.new ≡ text.old ++ link_guard) }
 {
-    text.extend_from_slice(
-        b"*link_command:\n\
-        + %{fsyntax-only|c|M|MM|E|S:;:%(hiding_folders)%{fvtable-verify=*:%e-fvtable-verify= is \
-        not in this spec file}} %(refused_here)\n\n",
-    )
+    text.extend_from_slice(LINK_GUARD)
 }
 
 /// Adds the languages.
@@ -248,12 +298,12 @@ fn push_languages(text: &mut Word) -> Result<(), AllocError>
 
 /// Adds the texts that follow those of a dump.
 #[tactic(auto, unfolding(crate::specs::Fixed::last_texts))]
-pub(crate) fn push_last(text: &mut Word) -> Result<(), AllocError>
-    ensures { OnOk result (text.new ≡ text.old ++ last_texts) }
+pub(crate) fn push_last(text: &mut Word, files: SideFiles) -> Result<(), AllocError>
+    ensures { OnOk result (text.new ≡ text.old ++ last_texts files) }
 {
     push_guards(text)?;
     push_alone(text)?;
-    push_side_files(text)?;
+    push_side_files(text, files)?;
     push_wrappers(text)?;
     push_commands(text)?;
     push_link_guard(text)?;

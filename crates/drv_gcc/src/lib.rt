@@ -16,7 +16,6 @@ mod toolchain;
 mod words;
 
 pub use answers::{gcc_file, named_texts, values, with_mark};
-pub use choices::machine_words;
 pub use composing::{
     file_text, folder_text, libraries, placed_text, rooted_text, spec_file, words_text,
 };
@@ -25,6 +24,6 @@ pub use listed::{option_lines, options};
 pub use plans::same_commands;
 pub use replacing::replace;
 pub use toolchain::{
-    Choice, Finding, ForMachine, Included, Linker, MachineOptions, MachineWord, NamedText, Program,
-    Programs, Toolchain,
+    Alone, Choice, Finding, ForMachine, Included, Linker, NamedText, Program, Programs, SideFiles,
+    Toolchain,
 };

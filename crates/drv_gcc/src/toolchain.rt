@@ -2,19 +2,19 @@
 
 use drv_words::{Listing, Word};
 
-/// A text for a machine that an option chooses.
+/// A text for libraries in a folder of their own.
 #[derive(Debug, Drop)]
 pub struct ForMachine {
-    /// The option as a test of switches.
+    /// The test of the switch that names the folder.
     pub test: Word,
     /// The text.
     pub text: Word,
 }
 
-/// A text for the machine that a gcc compiles for, and one for each that an option chooses.
+/// A text for the gcc's own libraries, and those for others.
 #[derive(Debug, Drop)]
 pub struct Choice {
-    /// The text for the gcc's own machine.
+    /// The text for its own.
     pub own: Word,
     /// The others.
     pub others: Listing<ForMachine>,
@@ -90,26 +90,22 @@ pub struct Programs {
     pub plugin_folder: Word,
 }
 
-/// A word that a gcc adds to a compilation for its machine.
-#[derive(Debug, Drop)]
-pub struct MachineWord {
-    /// The word.
-    pub word: Word,
-    /// The tests of a line of which any leaves it out.
-    pub unless: Listing<Word>,
+/// How texts name side files.
+#[derive(Clone, Copy, Debug)]
+pub enum SideFiles {
+    /// By what the front hands on.
+    Front,
+    /// By the name of the source, as a gcc before release 11 does.
+    Source,
 }
 
-/// The words for the machine of a compilation.
+/// What a line without the front gets.
 #[derive(Debug, Drop)]
-pub struct MachineOptions {
-    /// Whether the gcc finds out about the machine that it runs on.
-    pub has_native: bool,
-    /// The words that it adds.
-    pub usual: Choice,
-    /// Those that it adds with `-march=native`.
-    pub native: Choice,
-    /// Those that it adds with `-mtune=native` alone.
-    pub tuned: Choice,
+pub enum Alone {
+    /// These words for the gcc's own machine.
+    Served(Listing<Word>),
+    /// A refusal.
+    Refused,
 }
 
 /// What a spec file for a gcc is made of.
@@ -135,10 +131,12 @@ pub struct Toolchain {
     pub link_folders: Choice,
     /// Its programs.
     pub programs: Programs,
-    /// The words that it adds for its machine.
-    pub machine: MachineOptions,
-    /// The options that its spec file refuses by name.
+    /// The options that its spec file refuses, each as a pattern names it, with the hyphen.
     pub refused: Listing<Word>,
-    /// The tests of those that choose another machine.
-    pub tests: Listing<Word>,
+    /// What a line without the front gets.
+    pub alone: Alone,
+    /// The text of the folder of a line's library; `.` where all are in the gcc's own.
+    pub library: Word,
+    /// How its texts name side files.
+    pub side_files: SideFiles,
 }

@@ -1,6 +1,5 @@
 //! Words in spec texts.
 
-ghost use Rattle.drv_dump.specs.Dumps.{written_entry};
 ghost use Rattle.drv_gcc.specs.SpecFile.{is_of, marked, or_nothing, spec_word, test_byte, test_word};
 ghost use Rattle.drv_gcc.specs.SpecFile.{then_blank, word_byte};
 ghost use Rattle.std.specs.Prelude.{◌≡◌, ◌++◌, OnOk};

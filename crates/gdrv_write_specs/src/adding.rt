@@ -1,15 +1,14 @@
 //! The words for options of a machine are added beside a spec file, or printed.
 
-use crate::alike::FolderName;
-use crate::asking::{question_about, text};
+use crate::asking::{joined, text};
+use crate::cache::{keep_row, kept_row};
 use crate::checking::Pair;
 use crate::choosing::{key_by, misfit_in};
 use crate::fault::Fault;
 use crate::names::sort_lines;
 use crate::natives::with_natives;
 use crate::placing::{driver_at, stem_of};
-use crate::row_texts::Ways;
-use crate::rows::{Row, naming_in, push_names, push_row, row_of};
+use crate::rows::{Row, push_names, push_row, row_of};
 use crate::work_folder::{WorkFolder, join, try_place, write};
 use drv_gcc::values;
 use drv_words::{Listing, Word};
@@ -51,10 +50,14 @@ fn joined_lines(alloc: Global, lines: &[Word]) -> Result<Word, Fault> {
     Ok(whole)
 }
 
+/// How the row of these options begins.
+pub fn row_head(alloc: Global, key: &Word) -> Result<Word, Fault> {
+    joined(alloc, &[b"machine ".as_slice(), key.as_bytes(), b"\t"])
+}
+
 /// The lines of which none is a row of these options.
 fn other_lines(alloc: Global, lines: &[Word], key: &Word) -> Result<Listing<Word>, Fault> {
-    let mut beginning = question_about(alloc, b"machine ", key.as_bytes())?;
-    beginning.push(b'\t')?;
+    let beginning = row_head(alloc, key)?;
     let mut others = Listing::new(alloc);
     for line in lines {
         if !line.as_bytes().starts_with(beginning.as_bytes()) {
@@ -80,10 +83,10 @@ fn copy_files(rt: &HostRuntime, work: &WorkFolder, stem: &Word) -> Result<(), Fa
 }
 
 /// The row of these options, for a gcc with these folders.
-fn row_for(pair: Pair<'_>, folders: &[Word], naming: FolderName, key: &Word) -> Result<Row, Fault> {
+fn row_for(pair: Pair<'_>, folders: &[Word], key: &Word) -> Result<Row, Fault> {
     let asked = pair.gcc_with(key);
-    let (_, probes) = with_natives(asked, asked.own_texts()?, Ways::Rows)?;
-    match row_of(asked, probes.as_slice(), folders, naming)? {
+    let (_, probes) = with_natives(asked, asked.own_texts()?)?;
+    match row_of(asked, probes.as_slice(), folders)? {
         Some(row) => Ok(row),
         None => Err(Fault::NoRow(key.clone()?)),
     }
@@ -114,8 +117,7 @@ fn tried_row(pair: Pair<'_>, stem: &Word, lines: &[Word], key: &Word) -> Result<
     copy_files(rt, work, stem)?;
     let whole = joined_lines(rt.alloc(), lines)?;
     let folders = values(rt.alloc(), b"folder ", whole.as_bytes())?;
-    let naming = naming_in(rt.alloc(), whole.as_bytes())?;
-    let row = row_for(pair, folders.as_slice(), naming, key)?;
+    let row = row_for(pair, folders.as_slice(), key)?;
     put_row(rt, work, stem, lines, &row)?;
     if pair.is_other(key)? {
         return Err(Fault::NoRow(key.clone()?));
@@ -195,24 +197,32 @@ pub fn add_words(rt: &HostRuntime, specs: &Word, options: &[Word]) -> Result<(),
     done
 }
 
-/// Asks the gcc of a spec file for the words that it makes of these options, and gives them as a
-/// row. No row has plans that differ from gcc's, and nothing is written beside the spec file.
-pub fn row_text(rt: &HostRuntime, specs: &Word, options: &[Word]) -> Result<Word, Fault> {
-    let Question {
-        stem,
-        lines,
-        gcc,
-        key,
-    } = question_of(rt, specs, options)?;
+/// Asks the gcc of a spec file for the words of a question, and gives them as a row.
+fn asked_row(rt: &HostRuntime, question: &Question) -> Result<Word, Fault> {
     let work = WorkFolder::new(rt, &driver_at(rt)?)?;
     let pair = Pair {
         rt,
         work: &work,
-        gcc: &gcc,
+        gcc: &question.gcc,
     };
-    let tried = tried_row(pair, &stem, lines.as_slice(), &key);
+    let lines = question.lines.as_slice();
+    let tried = tried_row(pair, &question.stem, lines, &question.key);
     work.remove(rt);
     let mut text = Word::empty(rt.alloc());
     push_row(&mut text, &tried?)?;
     Ok(text)
+}
+
+/// The words that the gcc of a spec file makes of these options, as a row: one that is kept, or else
+/// that for which it is asked and which is kept then. No row has plans that differ from gcc's, and
+/// nothing is written beside the spec file.
+pub fn row_text(rt: &HostRuntime, specs: &Word, options: &[Word]) -> Result<Word, Fault> {
+    let question = question_of(rt, specs, options)?;
+    let Question { stem, gcc, key, .. } = &question;
+    if let Some(row) = kept_row(rt, stem, gcc, key)? {
+        return Ok(row);
+    }
+    let row = asked_row(rt, &question)?;
+    keep_row(rt, stem, gcc, &row)?;
+    Ok(row)
 }

@@ -1,6 +1,6 @@
 //! A gcc that is asked.
 
-use crate::asking::{Said, answer, ask, commands, question_about};
+use crate::asking::{Said, answer, ask, commands, joined};
 use crate::checking::Pair;
 use crate::fault::Fault;
 use crate::work_folder::WorkFolder;
@@ -47,9 +47,7 @@ impl<'a> Asked<'a> {
 
     /// A line with the option.
     fn with_option(self, line: &[u8]) -> Result<Word, Fault> {
-        let mut whole = question_about(self.alloc(), line, b" ")?;
-        whole.extend_from_slice(self.option.as_bytes())?;
-        Ok(whole)
+        joined(self.alloc(), &[line, b" ", self.option.as_bytes()])
     }
 
     /// Asks with the words of a line.
@@ -60,7 +58,7 @@ impl<'a> Asked<'a> {
 
     /// The answer to a question about a name.
     pub fn answer(self, question: &[u8], name: &[u8]) -> Result<Word, Fault> {
-        let line = question_about(self.alloc(), question, name)?;
+        let line = joined(self.alloc(), &[question, name])?;
         let whole = self.with_option(line.as_bytes())?;
         answer(self.rt, &self.work.lines, self.gcc, whole.as_bytes())
     }

@@ -77,8 +77,8 @@ fn run(rt: &HostRuntime, at: &Word, program: &Word, words: &[Word]) -> io::Resul
 const SHOWN: usize = 8;
 
 /// A question as a message shows it: the program and its first words.
-fn shown_question(alloc: Global, program: &Word, words: &[Word]) -> Result<Word, Fault> {
-    let mut question = Word::from_bytes(alloc, program.as_bytes())?;
+fn shown_question(program: &Word, words: &[Word]) -> Result<Word, Fault> {
+    let mut question = program.clone()?;
     for word in words.iter().take(SHOWN) {
         question.push(b' ')?;
         question.extend_from_slice(word.as_bytes())?;
@@ -105,8 +105,8 @@ pub fn ask_words(
     };
     Err(match error {
         ErrorKind::OutOfMemory => Fault::Memory,
-        ErrorKind::FileTooLarge => Fault::TooMuch(shown_question(rt.alloc(), program, words)?),
-        ErrorKind::TimedOut => Fault::TooSlow(shown_question(rt.alloc(), program, words)?),
+        ErrorKind::FileTooLarge => Fault::TooMuch(shown_question(program, words)?),
+        ErrorKind::TimedOut => Fault::TooSlow(shown_question(program, words)?),
         _ => Fault::NoGcc(program.clone()?),
     })
 }
@@ -144,9 +144,11 @@ pub fn answer(rt: &HostRuntime, at: &Word, program: &Word, line: &[u8]) -> Resul
     first_line(rt.alloc(), ask(rt, at, program, line)?.out.as_bytes())
 }
 
-/// A question of a name: these bytes and the name.
-pub fn question_about(alloc: Global, question: &[u8], name: &[u8]) -> Result<Word, Fault> {
-    let mut line = Word::from_bytes(alloc, question)?;
-    line.extend_from_slice(name)?;
-    Ok(line)
+/// These bytes one after another.
+pub fn joined(alloc: Global, parts: &[&[u8]]) -> Result<Word, Fault> {
+    let mut whole = Word::empty(alloc);
+    for part in parts {
+        whole.extend_from_slice(part)?;
+    }
+    Ok(whole)
 }

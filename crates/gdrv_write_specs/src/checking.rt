@@ -1,12 +1,10 @@
 //! The plans by a spec file are compared with those of the gcc.
 
-use crate::asking::{Said, ask, commands, question_about};
+use crate::asking::{Said, ask, commands, joined};
 use crate::fault::Fault;
-use crate::finding::has_bytes;
-use crate::listing::option_list;
 use crate::refusing::{Answer, answer_to};
 use crate::work_folder::WorkFolder;
-use drv_gcc::{options, same_commands};
+use drv_gcc::same_commands;
 use drv_words::{Listing, Word};
 use std::alloc::Global;
 
@@ -81,70 +79,39 @@ const NAMED: [&[u8]; 15] = [
     b"-shared-libgcc",
 ];
 
-/// Options for some machines alone, or for one C library, that gdrv-cc knows by itself, as they are or
-/// by another name (`-msse5` is `-mavx`). A gcc whose words for its machine are in rows has none.
-const FOREIGN: [&[u8]; 34] = [
-    b"-m32",
-    b"-m64",
-    b"-mx32",
-    b"-m16",
-    b"-mlong-double-64",
-    b"-mlong-double-80",
-    b"-mlong-double-128",
-    b"-mglibc",
-    b"-mred-zone",
-    b"-mno-red-zone",
-    b"-mhard-float",
-    b"-msse4",
-    b"-mno-sse4",
-    b"-mavx",
-    b"-mno-avx",
-    b"-mfancy-math-387",
-    b"-mno-fancy-math-387",
-    b"-mpc32",
-    b"-mpc64",
-    b"-mpc80",
-    b"-mgeneral-regs-only",
-    b"-mno-push-args",
-    b"-m96bit-long-double",
-    b"-m128bit-long-double",
-    b"-malign-stringops",
-    b"-mno-align-stringops",
-    b"-mno-default",
-    b"-mdispatch-scheduler",
-    b"-mdump-tune-features",
-    b"-msseregparm",
-    b"-march=",
-    b"-mtune=",
-    b"-masm=",
-    b"-mprefer-vector-width=",
-];
+/// A line that links, and one that compiles.
+const LINKED: &[u8] = b"x.c -o made";
 
-/// Options other than `-m..` by which a gcc may choose other words for its machine: a line with one
-/// has its plan, or is refused.
-const OTHERS: [&[u8]; 18] = [
-    b"-fopenmp",
-    b"-fopenacc",
-    b"-fpic",
-    b"-fPIC",
-    b"-fpie",
-    b"-fPIE",
-    b"-fno-pic",
-    b"-fno-PIC",
-    b"-fno-pie",
-    b"-fno-PIE",
-    b"-pie",
-    b"-no-pie",
-    b"-static",
-    b"-shared",
-    b"-Ofast",
-    b"-Os",
-    b"-ffast-math",
-    b"-fno-fast-math",
-];
+const COMPILED: &[u8] = b"-c x.c -o made";
 
-/// Such options that are compared where there is no link.
-const COMPILED: [&[u8]; 2] = [b"-fgnu-tm", b"-ftree-parallelize-loops=2"];
+/// Options other than `-m..` by which a gcc may choose other words for its machine, each with the line
+/// in which it is compared, and its pattern: a line with one has gcc's plan, or is refused.
+const OTHERS: [(&[u8], &[u8], &[u8]); 20] = [
+    (LINKED, b"-fopenmp", b"-fopenmp"),
+    (LINKED, b"-fopenacc", b"-fopenacc"),
+    (LINKED, b"-fpic", b"-fpic"),
+    (LINKED, b"-fPIC", b"-fPIC"),
+    (LINKED, b"-fpie", b"-fpie"),
+    (LINKED, b"-fPIE", b"-fPIE"),
+    (LINKED, b"-fno-pic", b"-fno-pic"),
+    (LINKED, b"-fno-PIC", b"-fno-PIC"),
+    (LINKED, b"-fno-pie", b"-fno-pie"),
+    (LINKED, b"-fno-PIE", b"-fno-PIE"),
+    (LINKED, b"-pie", b"-pie"),
+    (LINKED, b"-no-pie", b"-no-pie"),
+    (LINKED, b"-static", b"-static"),
+    (LINKED, b"-shared", b"-shared"),
+    (LINKED, b"-Ofast", b"-Ofast"),
+    (LINKED, b"-Os", b"-Os"),
+    (LINKED, b"-ffast-math", b"-ffast-math"),
+    (LINKED, b"-fno-fast-math", b"-fno-fast-math"),
+    (COMPILED, b"-fgnu-tm", b"-fgnu-tm"),
+    (
+        COMPILED,
+        b"-ftree-parallelize-loops=2",
+        b"-ftree-parallelize-loops=*",
+    ),
+];
 
 /// Two drivers that are compared in a folder of work.
 #[derive(Clone, Copy)]
@@ -167,11 +134,7 @@ enum Verdict {
 
 /// A line with an option, if one is given, by which a driver shows its plan.
 fn shown_line(alloc: Global, line: &[u8], option: &[u8]) -> Result<Word, Fault> {
-    let mut whole = Word::from_bytes(alloc, b"-### ")?;
-    whole.extend_from_slice(line)?;
-    whole.push(b' ')?;
-    whole.extend_from_slice(option)?;
-    Ok(whole)
+    joined(alloc, &[b"-### ".as_slice(), line, b" ", option])
 }
 
 impl<'a> Pair<'a> {
@@ -239,8 +202,7 @@ impl<'a> Pair<'a> {
     pub fn differences_with(self, options: &Word) -> Result<Listing<Word>, Fault> {
         let mut lines = Listing::new(self.rt.alloc());
         for line in MACHINE_LINES {
-            let mut whole = question_about(self.rt.alloc(), line, b" ")?;
-            whole.extend_from_slice(options.as_bytes())?;
+            let whole = joined(self.rt.alloc(), &[line, b" ", options.as_bytes()])?;
             self.add_unlike(whole.as_bytes(), &mut lines)?;
         }
         Ok(lines)
@@ -248,7 +210,7 @@ impl<'a> Pair<'a> {
 
     /// Whether the gcc compiles with options.
     pub fn takes(self, options: &Word) -> Result<bool, Fault> {
-        let line = shown_line(self.rt.alloc(), b"-c x.c -o made", options.as_bytes())?;
+        let line = shown_line(self.rt.alloc(), COMPILED, options.as_bytes())?;
         Ok(self.show(self.gcc, &line)?.is_done)
     }
 
@@ -278,80 +240,27 @@ impl<'a> Pair<'a> {
         Ok(false)
     }
 
-    /// Adds those of these options that this driver would carry out otherwise in a line.
-    fn add_otherwise(
-        self,
-        line: &[u8],
-        options: &[&[u8]],
-        others: &mut Listing<Word>,
-    ) -> Result<(), Fault> {
-        for option in options {
-            if let Verdict::Other = self.verdict(line, option)? {
-                others.push(Word::from_bytes(self.rt.alloc(), option)?)?;
-            }
-        }
-        Ok(())
-    }
-
-    /// The options for no machine that this driver would carry out otherwise.
+    /// The options for no machine that this driver would carry out otherwise, each as a pattern
+    /// names it.
     pub fn chosen_otherwise(self) -> Result<Listing<Word>, Fault> {
         let mut others = Listing::new(self.rt.alloc());
-        self.add_otherwise(b"x.c -o made", &OTHERS, &mut others)?;
-        self.add_otherwise(b"-c x.c -o made", &COMPILED, &mut others)?;
+        for (line, option, pattern) in OTHERS {
+            if let Verdict::Other = self.verdict(line, option)? {
+                others.push(Word::from_bytes(self.rt.alloc(), pattern)?)?;
+            }
+        }
         Ok(others)
     }
 
-    /// Whether the gcc leaves an option out of the line, as one that it supports no longer.
-    pub fn is_dropped(self, option: &Word) -> Result<bool, Fault> {
-        let line = shown_line(self.rt.alloc(), b"-c x.c -o made", option.as_bytes())?;
-        let said = self.show(self.gcc, &line)?;
-        Ok(said.is_done && has_bytes(said.err.as_bytes(), b"is no longer supported"))
-    }
-
-    /// Those of these options that the gcc lacks.
-    fn lacking_of(self, options: &[&[u8]]) -> Result<Listing<Word>, Fault> {
+    /// The options that the gcc lacks because its texts don't name them.
+    pub fn unnamed_options(self) -> Result<Listing<Word>, Fault> {
         let mut lacking = Listing::new(self.rt.alloc());
-        for option in options {
+        for option in NAMED {
             let word = Word::from_bytes(self.rt.alloc(), option)?;
             if let Answer::Lacks = answer_to(self, &word)? {
                 lacking.push(word)?;
             }
         }
         Ok(lacking)
-    }
-
-    /// The options that the gcc lacks because its texts don't name them.
-    pub fn unnamed_options(self) -> Result<Listing<Word>, Fault> {
-        self.lacking_of(&NAMED)
-    }
-
-    /// The options for other machines that the gcc lacks, and gdrv-cc would take.
-    pub fn foreign_options(self) -> Result<Listing<Word>, Fault> {
-        self.lacking_of(&FOREIGN)
-    }
-
-    /// The options for a machine that a gcc lists, each with a value if it takes one.
-    pub fn machines(self) -> Result<Listing<Word>, Fault> {
-        let alloc = self.rt.alloc();
-        let said = option_list(self.rt, self.work, self.gcc, b"-m")?;
-        let mut machines = Listing::new(alloc);
-        for option in options(alloc, said.as_bytes())?.as_slice() {
-            let name = option.as_bytes();
-            if name.starts_with(b"-m") && !name.ends_with(b"=") {
-                machines.push(option.clone()?)?;
-            }
-        }
-        Ok(machines)
-    }
-
-    /// Those of these options that this driver would carry out otherwise.
-    pub fn others(self, machines: &[Word]) -> Result<Listing<Word>, Fault> {
-        let mut others = Listing::new(self.rt.alloc());
-        for option in machines {
-            if self.is_other(option)? {
-                others.push(option.clone()?)?;
-            }
-        }
-        Ok(others)
     }
 }

@@ -2,16 +2,15 @@
 //! of the line names, or of a usual one.
 
 use crate::asked::Asked;
-use crate::asking::{ask, question_about, text};
-use crate::checking::Pair;
+use crate::asking::{ask, joined, text};
 use crate::fault::Fault;
 use crate::finding::has_bytes;
 use crate::names::sort_lines;
 use crate::natives::add_probe;
-use drv_gcc::{replace, values};
+use crate::programs::names_in;
+use drv_gcc::values;
 use drv_words::{Listing, Word, split_at_last};
 use itoa::Buffer;
-use std::alloc::Global;
 use std::fs;
 
 /// Whether a spec file, or an option with one, is that of a device.
@@ -19,19 +18,8 @@ pub fn is_of_device(path: &[u8]) -> bool {
     has_bytes(path, b"device-specs/specs-")
 }
 
-/// How texts begin of which each line uses one, and how they begin where devices have spec files.
-const GUARDED: [(&[u8], &[u8]); 4] = [
-    (
-        b"*cpp_unique_options:\n",
-        b"*cpp_unique_options:\n%(device_alone) ",
-    ),
-    (b"*cc1_options:\n", b"*cc1_options:\n%(device_alone) "),
-    (b"*asm_options:\n", b"*asm_options:\n%(device_alone) "),
-    (b"*link:\n", b"*link:\n%(device_alone) "),
-];
-
-/// What these beginnings refuse: a folder of the line may have another spec file for its device, and
-/// a spec file of the line comes before that.
+/// What lines are refused for: a folder of the line may have another spec file for its device, and a
+/// spec file of the line comes before that.
 const ALONE: &[u8] = b"*device_alone:\n\
     %{-gdrv-dirs:%e-B and -specs= beside the spec file of a device are not in this spec file}\n\n";
 
@@ -47,15 +35,23 @@ const PASSED: &[u8] = b"*pass_avrlibc_devicelib:\n%{!nodevicelib:%{-gdrv-fn";
 const PASSED_REST: &[u8] = b"=-l*:-plugin-opt=-pass-through=-l%*}}\n\n";
 
 /// Adds the text of this name, for which rows have words under another.
-fn push_text(texts: &mut Word, name: &[u8], own: &Word) -> Result<(), Fault> {
-    let is_library = name == LIBRARY;
-    texts.push(b'*')?;
-    texts.extend_from_slice(name)?;
-    texts.extend_from_slice(b":\n")?;
-    texts.extend_from_slice(if is_library { IN_LIBRARY } else { b"" })?;
-    texts.extend_from_slice(b"%(")?;
-    texts.extend_from_slice(own.as_bytes())?;
-    texts.extend_from_slice(if is_library { b")}\n\n" } else { b")\n\n" })?;
+fn push_text<'x>(texts: &mut Word, name: &'x [u8], own: &'x Word) -> Result<(), Fault> {
+    let (before, after) = if name == LIBRARY {
+        (IN_LIBRARY, b")}\n\n".as_slice())
+    } else {
+        (b"".as_slice(), b")\n\n".as_slice())
+    };
+    for part in [
+        b"*".as_slice(),
+        name,
+        b":\n",
+        before,
+        b"%(",
+        own.as_bytes(),
+        after,
+    ] {
+        texts.extend_from_slice(part)?;
+    }
     Ok(())
 }
 
@@ -67,16 +63,6 @@ fn push_passed(texts: &mut Word, name: &[u8], number: usize) -> Result<(), Fault
         texts.extend_from_slice(PASSED_REST)?;
     }
     Ok(())
-}
-
-/// A dump that refuses lines of which the device may have another spec file.
-fn guard(alloc: Global, dump: Word) -> Result<Word, Fault> {
-    let mut texts = dump;
-    for (head, other) in GUARDED {
-        texts = replace(alloc, texts.as_bytes(), head, other)?;
-    }
-    texts.extend_from_slice(ALONE)?;
-    Ok(texts)
 }
 
 impl<'a> Asked<'a> {
@@ -99,21 +85,24 @@ impl<'a> Asked<'a> {
 
     /// The devices that have a spec file in a folder, sorted by their names.
     pub fn devices_in(self, folder: &Word) -> Result<Listing<Word>, Fault> {
-        let mut names = Word::empty(self.alloc());
-        if !folder.is_empty() {
-            for entry in fs::read_dir(self.rt, text(folder.as_bytes())?)? {
-                names.extend_from_slice(entry?.file_name().as_bytes())?;
-                names.push(b'\n')?;
+        let mut devices = Listing::new(self.alloc());
+        if folder.is_empty() {
+            return Ok(devices);
+        }
+        for name in names_in(self.rt, folder)?.as_slice() {
+            if let Some(device) = name.as_bytes().strip_prefix(b"specs-".as_slice()) {
+                devices.push(Word::from_bytes(self.alloc(), device)?)?;
             }
         }
-        let lines = sort_lines(self.alloc(), &names)?;
-        Ok(values(self.alloc(), b"specs-", lines.as_bytes())?)
+        Ok(devices)
     }
 
     /// Adds the names of the texts that a device's spec file puts, a line each.
     fn add_names(self, folder: &Word, device: &Word, names: &mut Word) -> Result<(), Fault> {
-        let start = question_about(self.alloc(), folder.as_bytes(), b"/specs-")?;
-        let path = question_about(self.alloc(), start.as_bytes(), device.as_bytes())?;
+        let path = joined(
+            self.alloc(),
+            &[folder.as_bytes(), b"/specs-", device.as_bytes()],
+        )?;
         let content = fs::read(self.rt, text(path.as_bytes())?)?;
         for line in values(self.alloc(), b"*", content.as_slice())?.as_slice() {
             if let Some(name) = line.as_bytes().strip_suffix(b":".as_slice()) {
@@ -148,8 +137,7 @@ impl<'a> Asked<'a> {
         texts: &mut Word,
         probes: &mut Listing<Word>,
     ) -> Result<(), Fault> {
-        let mut call = question_about(self.alloc(), b"%(", name.as_bytes())?;
-        call.push(b')')?;
+        let call = joined(self.alloc(), &[b"%(".as_slice(), name.as_bytes(), b")"])?;
         push_passed(texts, name.as_bytes(), probes.len())?;
         let own = add_probe(self, &call, probes)?;
         push_text(texts, name.as_bytes(), &own)
@@ -162,16 +150,11 @@ impl<'a> Asked<'a> {
         if folder.is_empty() {
             return Ok(dump);
         }
-        let mut texts = guard(self.alloc(), dump)?;
+        let mut texts = dump;
+        texts.extend_from_slice(ALONE)?;
         for name in self.texts_in(&folder)?.as_slice() {
             self.add_device_text(name, &mut texts, probes)?;
         }
         Ok(texts)
     }
-}
-
-/// Whether a gcc has spec files of devices.
-pub fn has_devices(pair: Pair<'_>) -> Result<bool, Fault> {
-    let option = Word::empty(pair.rt.alloc());
-    Ok(!pair.gcc_with(&option).device_folder()?.is_empty())
 }

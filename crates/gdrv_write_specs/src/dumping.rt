@@ -1,7 +1,7 @@
 //! The texts of a gcc: its dump, and the spec files that it reads for each line.
 
 use crate::asked::{Asked, Places};
-use crate::asking::{ask, question_about, text};
+use crate::asking::{ask, joined, text};
 use crate::devices::is_of_device;
 use crate::fault::Fault;
 use crate::parts::dump_of;
@@ -9,29 +9,9 @@ use drv_gcc::{named_texts, replace, values};
 use drv_words::{Listing, Word};
 use std::fs;
 
-/// The texts that refuse `-B`: those of each command, which don't look for files along folders of
-/// the line.
-const WITHOUT_FOLDERS: &[u8] = b"*cpp_unique_options:\n+ %(refused_folders)\n\n\
-    *asm_options:\n+ %(refused_folders)\n\n\
-    *link:\n+ %(refused_folders) %{flto*:%{fno-lto:;fno-use-linker-plugin:%e-flto without the \
-    plugin of the linker is not in this spec file}}\n\n\
-    *refused_folders:\n\
+/// The text that refuses `-B`, where files are not looked for along folders of the line.
+const WITHOUT_FOLDERS: &[u8] = b"*refused_folders:\n\
     %{-gdrv-dirs:%(own_folders)%{B*:%e-B is not in this spec file}}\n\n";
-
-/// The texts that refuse `-flto` without the plugin of the linker: there `collect2` does the link's
-/// work, and the spec file starts the linker itself.
-const GUARDED: [(&[u8], &[u8]); 2] = [
-    (
-        b"*cc1_options:\n",
-        b"*cc1_options:\n%{flto*:%{fno-lto:;fno-use-linker-plugin:%e-flto without the plugin of the \
-linker is not in this spec file}} ",
-    ),
-    (
-        b"*link:\n",
-        b"*link:\n%{flto*:%{fno-lto:;fno-use-linker-plugin:%e-flto without the plugin of the linker \
-is not in this spec file}} ",
-    ),
-];
 
 /// How a function begins that says a file's name if the file is there.
 const IF_EXISTS: &[u8] = b"%:if-exists(";
@@ -94,8 +74,7 @@ impl<'a> Asked<'a> {
             let Some(name) = file.as_bytes().strip_suffix(b"%s".as_slice()) else {
                 continue;
             };
-            let mut call = question_about(alloc, IF_EXISTS, file.as_bytes())?;
-            call.push(b')')?;
+            let call = joined(alloc, &[IF_EXISTS, file.as_bytes(), b")"])?;
             let found = if self.path_of(name)?.is_empty() {
                 b"".as_slice()
             } else {
@@ -106,18 +85,9 @@ impl<'a> Asked<'a> {
         Ok(whole)
     }
 
-    /// The dump with the texts that refuse lines.
-    fn with_refusals(self) -> Result<Word, Fault> {
-        let mut dump = self.dump()?;
-        for (head, guarded) in GUARDED {
-            dump = replace(self.alloc(), dump.as_bytes(), head, guarded)?;
-        }
-        Ok(dump)
-    }
-
     /// The texts of the gcc.
     pub fn own_texts(self) -> Result<Word, Fault> {
-        let dump = self.with_refusals()?;
+        let dump = self.dump()?;
         let files = self.own_files()?;
         if files.is_empty() {
             return Ok(dump);

@@ -11,8 +11,8 @@ and options, and compares plans with it: if one differs, it writes nothing and
 shows the lines. --force writes the file all the same. Without -o the file is
 TARGET.specs for TARGET-gcc, or host.specs for gcc, in the current folder.
 
-Beside X.specs it writes X.gcc and X.options, which gdrv-cc reads too. Where
-GCC makes other words of the options for its machine, X.gcc has them. The file
-must serve lines with the OPTIONs, which are for its machine. --add asks for the
-words of these OPTIONs of one line later, and --row prints them.
+Beside X.specs it writes X.gcc and X.options, which gdrv-cc reads too. X.gcc has
+the words that GCC makes of options for its machine. The file must serve lines
+with the OPTIONs, which are such options. --add asks for the words of these
+OPTIONs of one line later, and --row prints them.
 ";

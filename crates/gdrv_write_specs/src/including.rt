@@ -1,7 +1,7 @@
 //! The spec files that the texts of a gcc include.
 
 use crate::asked::Asked;
-use crate::asking::{question_about, text};
+use crate::asking::{joined, text};
 use crate::fault::Fault;
 use crate::finding::has_bytes;
 use drv_dump::{OurDump, translate_dump};
@@ -36,13 +36,6 @@ fn texts_of_file(alloc: Global, content: &[u8]) -> Result<Word, Fault> {
     }
 }
 
-/// How a text of a dump begins that has the name of an included file.
-fn head_of(alloc: Global, name: &Word) -> Result<Word, Fault> {
-    let mut head = question_about(alloc, b"*include_", name.as_bytes())?;
-    head.extend_from_slice(b":\n")?;
-    Ok(head)
-}
-
 impl<'a> Asked<'a> {
     /// A spec file that the texts include.
     fn inclusion(self, name: &Word) -> Result<Included, Fault> {
@@ -70,8 +63,12 @@ impl<'a> Asked<'a> {
     fn all_included(self, names: &[Word], texts: &Word) -> Result<Listing<Included>, Fault> {
         let mut included = Listing::new(self.alloc());
         for name in names {
+            let head = joined(
+                self.alloc(),
+                &[b"*include_".as_slice(), name.as_bytes(), b":\n"],
+            )?;
             let is_file = name.as_bytes() != b"words".as_slice()
-                && !has_bytes(texts.as_bytes(), head_of(self.alloc(), name)?.as_bytes());
+                && !has_bytes(texts.as_bytes(), head.as_bytes());
             if is_file {
                 self.add_included(name, &mut included)?;
             }

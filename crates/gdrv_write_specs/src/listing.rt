@@ -1,6 +1,6 @@
 //! The options that a gcc lists.
 
-use crate::asking::{ask, question_about};
+use crate::asking::{ask, joined};
 use crate::fault::Fault;
 use crate::names::sort_lines;
 use crate::work_folder::WorkFolder;
@@ -81,14 +81,14 @@ pub fn option_list(
     gcc: &Word,
     beginning: &[u8],
 ) -> Result<Word, Fault> {
-    let question = question_about(rt.alloc(), b"--completion=", beginning)?;
+    let question = joined(rt.alloc(), &[b"--completion=".as_slice(), beginning])?;
     let said = ask(rt, &work.lines, gcc, question.as_bytes())?;
     if said.is_done {
         return Ok(said.out);
     }
     let mut list = Word::empty(rt.alloc());
     for class in CLASSES {
-        let question = question_about(rt.alloc(), b"--help=", class)?;
+        let question = joined(rt.alloc(), &[b"--help=".as_slice(), class])?;
         let help = ask(rt, &work.lines, gcc, question.as_bytes())?;
         push_helped(&mut list, help.out.as_bytes(), beginning)?;
     }

@@ -1,15 +1,18 @@
 //! The options of a gcc by their names, as gdrv-cc reads them.
 
-use crate::asking::{ask, ask_words, commands, question_about};
+use crate::asking::{ask, ask_words, commands, joined};
 use crate::checking::Pair;
 use crate::fault::Fault;
-use crate::finding::has_word;
+use crate::finding::{has_bytes, has_word};
 use crate::listing::option_list;
 use crate::newer::own_line;
-use crate::refusing::{Answer, answer_to, refused_of};
+use crate::refusing::{AT_ONCE, Answer, UNKNOWN, answer_to, refused_of, try_words};
 use drv_gcc::{option_lines, options, values};
-use drv_words::{Listing, Word, split};
+use drv_words::{Listing, Word, copy_words, split};
 use std::alloc::Global;
+
+/// How often a gcc is asked of words at once: it doesn't quote all that it refuses.
+const ROUNDS: usize = 3;
 
 /// Whether a gcc calls `-mcpu=` by another name.
 fn calls_cpu_tune(pair: Pair<'_>) -> Result<bool, Fault> {
@@ -58,7 +61,7 @@ fn with_no_value(alloc: Global, known: &[Word]) -> Result<Listing<Word>, Fault> 
     let mut words = Listing::new(alloc);
     for option in known {
         if let Some(name) = open_name(option.as_bytes()) {
-            let word = question_about(alloc, name, b"?")?;
+            let word = joined(alloc, &[name, b"?"])?;
             if !has_word(words.as_slice(), word.as_bytes()) {
                 words.push(word)?;
             }
@@ -231,33 +234,103 @@ struct OptionNames {
     lacking: Listing<Word>,
 }
 
-/// Notes what a gcc makes of a word with the option of this name.
-fn note(pair: Pair<'_>, name: &[u8], word: &Word, options: &mut OptionNames) -> Result<(), Fault> {
-    let alloc = pair.rt.alloc();
-    match answer_to(pair, word)? {
-        Answer::Takes => Ok(()),
-        Answer::Refuses => Ok(options.names.push(question_about(alloc, name, b"?")?)?),
-        Answer::Lacks => Ok(options.lacking.push(Word::from_bytes(alloc, name)?)?),
-    }
+/// The words that a gcc quotes first in a line where it refuses one.
+#[derive(Drop)]
+struct Quoted {
+    /// Those that it does not know.
+    lacking: Listing<Word>,
+    /// Others, which it knows.
+    known: Listing<Word>,
 }
 
-/// Notes the options that a gcc lists and refuses: each as it is, and each with a value that no
-/// option has.
-fn note_refused(
-    pair: Pair<'_>,
-    whole: Listing<Word>,
-    tried: &[Word],
-    options: &mut OptionNames,
-) -> Result<(), Fault> {
-    for word in refused_of(pair, whole)?.as_slice() {
-        note(pair, word.as_bytes(), word, options)?;
+/// The words that a gcc quotes.
+fn quoted_in(alloc: Global, said: &[u8]) -> Result<Quoted, Fault> {
+    let mut quoted = Quoted {
+        lacking: Listing::new(alloc),
+        known: Listing::new(alloc),
+    };
+    for line in said.split(|byte| *byte == b'\n') {
+        let (before, rest) = before_quote(line);
+        let word = Word::from_bytes(alloc, before_quote(rest).0)?;
+        if has_bytes(before, UNKNOWN) {
+            quoted.lacking.push(word)?;
+        } else if !has_bytes(before, b"warning: ") {
+            quoted.known.push(word)?;
+        }
     }
-    for word in tried {
-        let bytes = word.as_bytes();
-        let name = bytes.strip_suffix(b"?".as_slice()).unwrap_or(bytes);
-        note(pair, name, word, options)?;
+    Ok(quoted)
+}
+
+/// The name of the option in a word that is tried: what precedes a value that no option has.
+fn name_of(word: &[u8]) -> &[u8] {
+    word.strip_suffix(b"?".as_slice()).unwrap_or(word)
+}
+
+impl OptionNames {
+    /// Notes what a gcc makes of a word.
+    fn note(&mut self, alloc: Global, word: &[u8], answer: Answer) -> Result<(), Fault> {
+        let name = name_of(word);
+        match answer {
+            Answer::Takes => Ok(()),
+            Answer::Refuses => Ok(self.names.push(joined(alloc, &[name, b"?"])?)?),
+            Answer::Lacks => Ok(self.lacking.push(Word::from_bytes(alloc, name)?)?),
+        }
     }
-    Ok(())
+
+    /// Notes the words that a gcc quotes. Gives the others.
+    fn note_quoted(
+        &mut self,
+        alloc: Global,
+        quoted: &Quoted,
+        words: &[Word],
+    ) -> Result<Listing<Word>, Fault> {
+        let mut others = Listing::new(alloc);
+        for word in words {
+            let bytes = word.as_bytes();
+            let known = quoted.known.as_slice();
+            if has_word(quoted.lacking.as_slice(), bytes) {
+                self.note(alloc, bytes, Answer::Lacks)?;
+            } else if has_word(known, bytes) || has_word(known, name_of(bytes)) {
+                self.note(alloc, bytes, Answer::Refuses)?;
+            } else {
+                others.push(word.clone()?)?;
+            }
+        }
+        Ok(others)
+    }
+
+    /// Notes what a gcc makes of some words: it is asked of all at once, then of those that it doesn't
+    /// quote, and at last of the refused ones among these by halves.
+    fn note_some(&mut self, pair: Pair<'_>, words: &[Word]) -> Result<(), Fault> {
+        let alloc = pair.rt.alloc();
+        let mut left = copy_words(alloc, words)?;
+        for _ in 0..ROUNDS {
+            let said = try_words(pair, left.as_slice())?;
+            if said.is_done {
+                return Ok(());
+            }
+            let quoted = quoted_in(alloc, said.err.as_bytes())?;
+            left = self.note_quoted(alloc, &quoted, left.as_slice())?;
+        }
+        for word in refused_of(pair, left)?.as_slice() {
+            self.note(alloc, word.as_bytes(), answer_to(pair, word)?)?;
+        }
+        Ok(())
+    }
+
+    /// Notes what a gcc makes of words.
+    fn note_all(&mut self, pair: Pair<'_>, words: &[Word]) -> Result<(), Fault> {
+        let mut left = words;
+        for _ in 0..usize::MAX {
+            let (some, others) = left.split_at(AT_ONCE.min(left.len()));
+            if some.is_empty() {
+                break;
+            }
+            self.note_some(pair, some)?;
+            left = others;
+        }
+        Ok(())
+    }
 }
 
 /// The options that take numbers, each with one that is too large for a list.
@@ -265,7 +338,7 @@ fn with_large(alloc: Global, found: &[Judged]) -> Result<Listing<Word>, Fault> {
     let mut words = Listing::new(alloc);
     for it in found {
         if let Takes::Number = it.takes {
-            words.push(question_about(alloc, it.name.as_bytes(), b"99999999999999999999")?)?;
+            words.push(joined(alloc, &[it.name.as_bytes(), b"99999999999999999999"])?)?;
         }
     }
     Ok(words)
@@ -275,7 +348,7 @@ fn with_large(alloc: Global, found: &[Judged]) -> Result<Listing<Word>, Fault> {
 fn add_values(alloc: Global, it: &Judged, names: &mut Listing<Word>) -> Result<(), Fault> {
     if let Takes::Listed(values) = &it.takes {
         for value in values.as_slice() {
-            names.push(question_about(alloc, it.name.as_bytes(), value.as_bytes())?)?;
+            names.push(joined(alloc, &[it.name.as_bytes(), value.as_bytes()])?)?;
         }
     }
     Ok(())
@@ -296,7 +369,7 @@ fn add_judged(pair: Pair<'_>, tried: &[Word], names: &mut Listing<Word>) -> Resu
     for it in found.as_slice() {
         add_values(alloc, it, names)?;
         if !speaks_of(few.as_slice(), &it.name) && matches!(it.takes, Takes::Number) {
-            names.push(question_about(alloc, it.name.as_bytes(), b"#")?)?;
+            names.push(joined(alloc, &[it.name.as_bytes(), b"#"])?)?;
         }
     }
     for it in few.as_slice() {
@@ -314,8 +387,8 @@ fn sorted_out(pair: Pair<'_>, known: &[Word]) -> Result<OptionNames, Fault> {
         lacking: Listing::new(alloc),
     };
     let tried = with_no_value(alloc, known)?;
-    let whole = whole_of(alloc, known)?;
-    note_refused(pair, whole, tried.as_slice(), &mut options)?;
+    options.note_all(pair, whole_of(alloc, known)?.as_slice())?;
+    options.note_all(pair, tried.as_slice())?;
     add_judged(pair, tried.as_slice(), &mut options.names)?;
     Ok(options)
 }
@@ -371,7 +444,7 @@ pub fn sort_lines(alloc: Global, text: &Word) -> Result<Word, Fault> {
 fn add_negatives(alloc: Global, said: &[u8], known: &mut Listing<Word>) -> Result<(), Fault> {
     for rest in values(alloc, b"-Wno-", said)?.as_slice() {
         if let [option, ..] = split(alloc, rest.as_bytes())?.as_slice() {
-            known.push(question_about(alloc, b"-Wno-", option.as_bytes())?)?;
+            known.push(joined(alloc, &[b"-Wno-".as_slice(), option.as_bytes()])?)?;
         }
     }
     Ok(())
@@ -385,10 +458,23 @@ fn add_tune(pair: Pair<'_>, lines: &mut Word) -> Result<(), Fault> {
     Ok(())
 }
 
+/// Adds the options for the devices of a gcc.
+fn add_devices(pair: Pair<'_>, lines: &mut Word) -> Result<(), Fault> {
+    let none = Word::empty(pair.rt.alloc());
+    let asked = pair.gcc_with(&none);
+    for device in asked.devices_in(&asked.device_folder()?)?.as_slice() {
+        for part in [b"-mmcu=".as_slice(), device.as_bytes(), b"\n"] {
+            lines.extend_from_slice(part)?;
+        }
+    }
+    Ok(())
+}
+
 /// The sorted lines of these names.
 fn sorted_lines(pair: Pair<'_>, names: &[Word]) -> Result<Word, Fault> {
     let mut lines = option_lines(pair.rt.alloc(), names)?;
     add_tune(pair, &mut lines)?;
+    add_devices(pair, &mut lines)?;
     lines.extend_from_slice(own_line(pair)?.as_bytes())?;
     sort_lines(pair.rt.alloc(), &lines)
 }

@@ -3,24 +3,12 @@
 //! Words -gdrv-.. are the front's switches, as patterns name them: gdrv-cc(1), SWITCHES FOR SPEC
 //! TEXTS. docs/SPECS.md explains `%{..}`.
 
-use crate::asking::question_about;
+use crate::asking::joined;
 use crate::fault::Fault;
-use crate::finding::has_bytes;
 use crate::shortening::{Known, name_in, shorten, squeeze};
 use drv_dump::{Kind, read_text};
-use drv_words::{Listing, Word, split};
+use drv_words::{Listing, Word, copy_words, split};
 use std::alloc::Global;
-
-/// Which name a text has in a shorter file.
-#[derive(Clone, Copy)]
-enum Naming {
-    /// Its own, since users may name it.
-    Kept,
-    /// Its own, if it is long and used often.
-    Own,
-    /// A new one, if it is long and used often.
-    New,
-}
 
 /// A text of a spec file.
 #[derive(Drop)]
@@ -35,7 +23,6 @@ struct Entry {
     is_counted: bool,
     /// Whether it is final: the texts that it names are put in it, or it is left as it is.
     is_grown: bool,
-    naming: Naming,
     /// Its name in the shorter file, if it is long and used often.
     letter: Option<Word>,
 }
@@ -113,8 +100,8 @@ pub const PARTS: [Part; 5] = [
 ];
 
 /// What is known of each line of a part.
-fn known_of(alloc: Global, part: &Part) -> Result<Known, Fault> {
-    let mut lacks = Listing::new(alloc);
+fn known_of(alloc: Global, part: &Part, rare: &[Word]) -> Result<Known, Fault> {
+    let mut lacks = copy_words(alloc, rare)?;
     for words in part.lacks {
         for word in split(alloc, words)?.into_vec() {
             lacks.push(word)?;
@@ -135,7 +122,6 @@ fn new_entry(name: Word, body: Word) -> Entry {
         is_reached: false,
         is_counted: false,
         is_grown: false,
-        naming: Naming::New,
         letter: None,
     }
 }
@@ -181,7 +167,7 @@ fn name_of(line: &[u8]) -> Option<&[u8]> {
 }
 
 /// Adds a line to a body.
-fn add_body_line(body: &mut Word, line: &[u8]) -> Result<(), Fault> {
+pub fn add_body_line(body: &mut Word, line: &[u8]) -> Result<(), Fault> {
     if !body.is_empty() {
         body.push(b'\n')?;
     }
@@ -323,9 +309,7 @@ fn letter(alloc: Global, number: usize) -> Result<Word, Fault> {
 
 /// The use of a text by its name.
 fn use_of(alloc: Global, name: &Word) -> Result<Word, Fault> {
-    let mut text = question_about(alloc, b"%(", name.as_bytes())?;
-    text.push(b')')?;
-    Ok(text)
+    joined(alloc, &[b"%(".as_slice(), name.as_bytes(), b")"])
 }
 
 /// What replaces a text's name: the text, or another name if it is long and used
@@ -338,9 +322,6 @@ fn place_entry(alloc: Global, entries: &mut [Entry], name: &[u8]) -> Result<Opti
     let Some(it) = entries.get_mut(at) else {
         return Ok(None);
     };
-    if let Naming::Kept = it.naming {
-        return Ok(Some(use_of(alloc, &it.name)?));
-    }
     if !it.is_grown {
         return Ok(None);
     }
@@ -348,10 +329,9 @@ fn place_entry(alloc: Global, entries: &mut [Entry], name: &[u8]) -> Result<Opti
     if spared <= it.uses.saturating_mul(4).saturating_add(110) {
         return Ok(Some(it.body.clone()?));
     }
-    let own = match (&it.letter, it.naming) {
-        (Some(own), _) => own.clone()?,
-        (None, Naming::New) => letter(alloc, letters)?,
-        (None, _) => it.name.clone()?,
+    let own = match &it.letter {
+        Some(own) => own.clone()?,
+        None => letter(alloc, letters)?,
     };
     let text = use_of(alloc, &own)?;
     it.letter = Some(own);
@@ -435,93 +415,6 @@ fn print_part(alloc: Global, entries: &[Entry], roots: &[Word]) -> Result<Option
     Ok(Some(file))
 }
 
-/// Switches that no line has, or for which each line is refused whose texts test them.
-const NEVER: &[u8] = b"-gdrv-none mandroid mmusl muclibc mbionic \
-    fvtable-verify=none fvtable-verify=preinit fvtable-verify=std";
-
-/// Whether users may name a text: all but those that find files.
-fn is_own(name: &[u8]) -> bool {
-    !name.starts_with(b"file_") && !name.starts_with(b"in_")
-}
-
-/// Keeps the texts that users may name.
-fn keep_own(entries: &mut [Entry]) {
-    for it in entries.iter_mut() {
-        it.is_reached = is_own(it.name.as_bytes());
-        it.naming = if it.is_reached {
-            Naming::Kept
-        } else {
-            Naming::Own
-        };
-    }
-}
-
-/// Whether a text finds a file.
-fn finds_file(body: &[u8]) -> bool {
-    has_bytes(body, b"%(file_") || has_bytes(body, b"%(in_")
-}
-
-/// Leaves a text as it is that has forms of this driver's own, which no dump has. False if it finds
-/// a file.
-fn leave(alloc: Global, it: &mut Entry) -> bool {
-    if read_text(alloc, it.body.as_bytes()).is_ok() {
-        return true;
-    }
-    it.is_counted = true;
-    it.is_grown = true;
-    !finds_file(it.body.as_bytes())
-}
-
-/// Leaves the texts as they are that can't be read. False if one of them finds a file.
-fn leave_unread(alloc: Global, entries: &mut [Entry]) -> bool {
-    let mut is_done = true;
-    for it in entries.iter_mut() {
-        is_done = leave(alloc, it) && is_done;
-    }
-    is_done
-}
-
-/// The name of a text of a whole file, if it has one.
-fn name_kept(it: &Entry) -> Option<&Word> {
-    match it.naming {
-        Naming::Kept => Some(&it.name),
-        _ => it.letter.as_ref(),
-    }
-}
-
-/// The texts of a whole file: those that users may name, and others that they use. None if some of
-/// them isn't grown.
-fn printed_whole(alloc: Global, entries: &[Entry]) -> Result<Option<Word>, Fault> {
-    let mut file = Word::empty(alloc);
-    for it in entries {
-        if let Some(name) = name_kept(it) {
-            if !it.is_grown {
-                return Ok(None);
-            }
-            push_entry(&mut file, name.as_bytes(), it.body.as_bytes())?;
-        }
-    }
-    Ok(Some(file))
-}
-
-/// A spec file without what no line uses; none if a text that can't be read finds a file.
-pub fn whole_of(alloc: Global, file: &Word) -> Result<Option<Word>, Fault> {
-    let mut entries = entries_of(alloc, file.as_bytes())?;
-    keep_own(entries.as_mut_slice());
-    if !leave_unread(alloc, entries.as_mut_slice()) {
-        return Ok(None);
-    }
-    let known = Known {
-        holds: Listing::new(alloc),
-        lacks: split(alloc, NEVER)?,
-    };
-    if !reach(alloc, &known, entries.as_mut_slice())? {
-        return Ok(None);
-    }
-    grow(alloc, entries.as_mut_slice())?;
-    printed_whole(alloc, entries.as_slice())
-}
-
 /// Puts an empty link command.
 fn put_no_link(alloc: Global, entries: &mut Vec<Entry>) -> Result<(), Fault> {
     let name = Word::from_bytes(alloc, b"link_command")?;
@@ -541,35 +434,42 @@ fn mark_reached(entries: &mut [Entry], name: &[u8]) {
 fn reach_from(
     alloc: Global,
     entries: &mut [Entry],
-    part: &Part,
+    known: &Known,
     roots: &[Word],
 ) -> Result<bool, Fault> {
     for root in roots {
         mark_reached(entries, root.as_bytes());
     }
-    reach(alloc, &known_of(alloc, part)?, entries)
+    reach(alloc, known, entries)
 }
 
 /// A part of these texts.
 fn part_among(
     alloc: Global,
     entries: &mut [Entry],
-    part: &Part,
+    known: &Known,
     roots: &[Word],
 ) -> Result<Option<Word>, Fault> {
-    if !reach_from(alloc, entries, part, roots)? {
+    if !reach_from(alloc, entries, known, roots)? {
         return Ok(None);
     }
     grow(alloc, entries)?;
     print_part(alloc, entries, roots)
 }
 
-/// A part of a spec file; none if it has a text that can't be read, or that names itself.
-pub fn part_of(alloc: Global, file: &Word, part: &Part) -> Result<Option<Word>, Fault> {
+/// A part of a spec file, whose lines lack these tests too; none if it has a text that can't be
+/// read, or that names itself.
+pub fn part_of(
+    alloc: Global,
+    file: &Word,
+    part: &Part,
+    rare: &[Word],
+) -> Result<Option<Word>, Fault> {
     let mut entries = entries_of(alloc, file.as_bytes())?;
     if !part.has_link {
         put_no_link(alloc, &mut entries)?;
     }
     let roots = split(alloc, part.roots)?;
-    part_among(alloc, entries.as_mut_slice(), part, roots.as_slice())
+    let known = known_of(alloc, part, rare)?;
+    part_among(alloc, entries.as_mut_slice(), &known, roots.as_slice())
 }

@@ -1,23 +1,18 @@
 //! A spec file is written, tried and put in place.
 
-use crate::asking::{ask, question_about, text};
+use crate::asking::{ask, joined, text};
 use crate::calling::{Manner, Order};
 use crate::checking::Pair;
 use crate::children::push_children;
 use crate::choosing::{options_text, push_choosers};
-use crate::devices::has_devices;
 use crate::fault::{Fault, push_shown};
 use crate::finding::has_bytes;
 use crate::gathering::{Gathered, gather};
-use crate::machines::{add_test, test_of};
 use crate::names::{names_of, sort_lines};
-use crate::older::with_own_names;
-use crate::parts::{PARTS, part_of, whole_of};
+use crate::parts::{PARTS, part_of};
 use crate::programs::{is_file, program_at};
-use crate::row_texts::Ways;
-use crate::rows::{multilibs, push_names, push_rows, suffix_of};
+use crate::rows::{multilibs, push_names, push_rows, rare_libraries, suffix_of};
 use crate::vendors::COPIES;
-use crate::wording::{with_refused, without_dropped};
 use crate::work_folder::{WorkFolder, absolute, join, try_place};
 use drv_gcc::{gcc_file, spec_file, values};
 use drv_system::complain;
@@ -36,7 +31,7 @@ fn gcc_at(rt: &HostRuntime, name: &Word) -> Result<Option<Word>, Fault> {
     }
     match program_at(rt, name)? {
         Some(path) => Ok(Some(path)),
-        None => program_at(rt, &question_about(rt.alloc(), name.as_bytes(), b"-gcc")?),
+        None => program_at(rt, &joined(rt.alloc(), &[name.as_bytes(), b"-gcc"])?),
     }
 }
 
@@ -44,7 +39,7 @@ fn gcc_at(rt: &HostRuntime, name: &Word) -> Result<Option<Word>, Fault> {
 pub fn driver_at(rt: &HostRuntime) -> Result<Word, Fault> {
     if let Ok(own) = current_exe(rt) {
         if let Some((folder, _)) = split_at_last(b'/', own.as_str().as_bytes()) {
-            let path = question_about(rt.alloc(), folder, b"/gdrv-cc")?;
+            let path = joined(rt.alloc(), &[folder, b"/gdrv-cc"])?;
             if is_file(rt, &path)? {
                 return Ok(path);
             }
@@ -73,44 +68,21 @@ fn add_values(
 ) -> Result<(), Fault> {
     let values = values(alloc, key, text)?;
     for value in values.as_slice() {
-        lines.push(question_about(alloc, key, value.as_bytes())?)?;
+        lines.push(joined(alloc, &[key, value.as_bytes()])?)?;
     }
     Ok(())
 }
 
-/// Adds what a gcc says of its version.
-fn add_version(pair: Pair<'_>, lines: &mut Listing<Word>) -> Result<(), Fault> {
-    let version = ask(pair.rt, &pair.work.lines, pair.gcc, b"-v")?;
-    add_lines(pair.rt.alloc(), version.err.as_bytes(), lines)
-}
-
-/// Adds the folders that a gcc searches.
-fn add_folders(pair: Pair<'_>, lines: &mut Listing<Word>) -> Result<(), Fault> {
-    let shown = ask(
-        pair.rt,
-        &pair.work.lines,
-        pair.gcc,
-        b"-### -c -x c /dev/null",
-    )?;
-    add_values(
-        pair.rt.alloc(),
-        b"COMPILER_PATH=",
-        shown.err.as_bytes(),
-        lines,
-    )?;
-    add_values(
-        pair.rt.alloc(),
-        b"LIBRARY_PATH=",
-        shown.err.as_bytes(),
-        lines,
-    )
-}
-
-/// What a gcc says of itself where commands are shown.
+/// What a gcc says of itself where commands are shown: its version, and the folders that it searches.
 fn say_of_itself(pair: Pair<'_>) -> Result<Listing<Word>, Fault> {
-    let mut lines = Listing::new(pair.rt.alloc());
-    add_version(pair, &mut lines)?;
-    add_folders(pair, &mut lines)?;
+    let Pair { rt, work, gcc } = pair;
+    let mut lines = Listing::new(rt.alloc());
+    let version = ask(rt, &work.lines, gcc, b"-v")?;
+    add_lines(rt.alloc(), version.err.as_bytes(), &mut lines)?;
+    let shown = ask(rt, &work.lines, gcc, b"-### -c -x c /dev/null")?;
+    for key in [b"COMPILER_PATH=".as_slice(), b"LIBRARY_PATH="] {
+        add_values(rt.alloc(), key, shown.err.as_bytes(), &mut lines)?;
+    }
     Ok(lines)
 }
 
@@ -129,7 +101,7 @@ fn put_beside(pair: Pair<'_>, gathered: &Gathered) -> Result<(), Fault> {
 
 /// What tells a file from one that takes its place: its size in bytes and the second of its last
 /// change; a minus where it is missing. The size of a folder depends on its disk, so it is 0 here.
-fn stamp_of(rt: &HostRuntime, path: &[u8]) -> Result<Word, Fault> {
+pub fn stamp_of(rt: &HostRuntime, path: &[u8]) -> Result<Word, Fault> {
     let Ok(found) = fs::metadata(rt, text(path)?) else {
         return Ok(Word::from_bytes(rt.alloc(), b"-")?);
     };
@@ -140,14 +112,20 @@ fn stamp_of(rt: &HostRuntime, path: &[u8]) -> Result<Word, Fault> {
     Ok(stamp)
 }
 
+/// Adds a line of this key and value.
+fn push_line(lines: &mut Word, key: &[u8], value: &[u8]) -> Result<(), Fault> {
+    for part in [key, b" ", value, b"\n"] {
+        lines.extend_from_slice(part)?;
+    }
+    Ok(())
+}
+
 /// Adds a line `stamp PATH STAMP`, by which gdrv-cc sees that a file was changed.
 fn push_stamp(rt: &HostRuntime, lines: &mut Word, path: &[u8]) -> Result<(), Fault> {
     if path.starts_with(b"/") {
-        lines.extend_from_slice(b"stamp ")?;
-        lines.extend_from_slice(path)?;
-        lines.push(b' ')?;
-        lines.extend_from_slice(stamp_of(rt, path)?.as_bytes())?;
-        lines.push(b'\n')?;
+        let stamp = stamp_of(rt, path)?;
+        let stamped = joined(rt.alloc(), &[path, b" ", stamp.as_bytes()])?;
+        push_line(lines, b"stamp", stamped.as_bytes())?;
     }
     Ok(())
 }
@@ -162,7 +140,7 @@ fn push_stamps(pair: Pair<'_>, cc1: &Word, lines: &mut Word) -> Result<(), Fault
         .path_of(b"include")?;
     if let Some(folder) = headers.as_bytes().strip_suffix(b"/include".as_slice()) {
         push_stamp(pair.rt, lines, folder)?;
-        let specs = question_about(pair.rt.alloc(), folder, b"/specs")?;
+        let specs = joined(pair.rt.alloc(), &[folder, b"/specs"])?;
         push_stamp(pair.rt, lines, specs.as_bytes())?;
     }
     Ok(())
@@ -182,32 +160,22 @@ fn own_path(rt: &HostRuntime, gcc: &Word) -> Result<Word, Fault> {
 
 /// Writes the file beside the spec file that names the gcc, and has its rows.
 fn put_gcc(pair: Pair<'_>, gathered: &Gathered) -> Result<(), Fault> {
+    let alloc = pair.rt.alloc();
     let lines = say_of_itself(pair)?;
+    let gcc = own_path(pair.rt, pair.gcc)?;
     let folders = gathered.toolchain.folders.as_slice();
-    let mut text = gcc_file(
-        pair.rt.alloc(),
-        own_path(pair.rt, pair.gcc)?.as_bytes(),
-        folders,
-        lines.as_slice(),
-    )?;
+    let mut text = gcc_file(alloc, gcc.as_bytes(), folders, lines.as_slice())?;
     push_stamps(pair, &gathered.toolchain.programs.compiler.path, &mut text)?;
     let suffix = suffix_of(pair)?;
     if !suffix.is_empty() {
-        text.extend_from_slice(b"suffix ")?;
-        text.extend_from_slice(suffix.as_bytes())?;
-        text.push(b'\n')?;
+        push_line(&mut text, b"suffix", suffix.as_bytes())?;
     }
     if !gathered.copies.is_empty() {
-        text.extend_from_slice(b"copies ")?;
-        text.extend_from_slice(COPIES)?;
-        text.push(b'\n')?;
+        push_line(&mut text, b"copies", COPIES)?;
     }
-    push_children(
-        pair.rt.alloc(),
-        &mut text,
-        lines.as_slice(),
-        gathered.children.as_slice(),
-    )?;
+    let none = Word::empty(alloc);
+    let libraries = multilibs(pair.gcc_with(&none))?;
+    push_children(pair, &mut text, lines.as_slice(), libraries.as_slice())?;
     push_choosers(&mut text, gathered.choosers.as_slice())?;
     push_rows(&mut text, gathered.rows.as_slice())?;
     pair.work.put(pair.rt, b".gcc", &text)
@@ -234,23 +202,17 @@ fn show_notes(rt: &HostRuntime, gathered: &Gathered) {
     }
 }
 
-/// Writes the spec file in the folder of work.
+/// Writes the spec file in the folder of work, and its parts.
 fn put_specs(pair: Pair<'_>, gathered: &Gathered) -> Result<(), Fault> {
     let alloc = pair.rt.alloc();
-    let plain = spec_file(alloc, &gathered.toolchain)?;
-    let named = gathered.with_library_text(alloc, with_own_names(alloc, plain)?)?;
-    let judged = with_refused(alloc, named, gathered.valued.as_slice())?;
-    let specs = without_dropped(alloc, judged, gathered.dropped.as_slice())?;
+    let specs = spec_file(alloc, &gathered.toolchain)?;
+    let rare = rare_libraries(pair)?;
     for part in PARTS {
-        pair.work
-            .put_part(pair.rt, part.ending, part_of(alloc, &specs, &part)?)?;
+        let text = part_of(alloc, &specs, &part, rare.as_slice())?;
+        pair.work.put_part(pair.rt, part.ending, text)?;
     }
-    let whole = whole_of(alloc, &specs)?.unwrap_or(specs);
-    pair.work.put(pair.rt, b".specs", &whole)
+    pair.work.put(pair.rt, b".specs", &specs)
 }
-
-/// How many options that choose another machine have texts of their own.
-const MACHINES: usize = 16;
 
 /// The lines whose plans differ, whatever the user said of them.
 fn judge(pair: Pair<'_>, manner: Manner, lines: &[Word], notes: &mut Word) -> Result<(), Fault> {
@@ -264,71 +226,26 @@ fn judge(pair: Pair<'_>, manner: Manner, lines: &[Word], notes: &mut Word) -> Re
 }
 
 /// Has some options refused by name.
-fn refuse(gathered: &mut Gathered, options: &[Word]) -> Result<(), Fault> {
-    for option in options {
-        gathered.toolchain.refused.push(option.clone()?)?;
+fn refuse(gathered: &mut Gathered, options: Listing<Word>) -> Result<(), Fault> {
+    for option in options.into_vec() {
+        gathered.toolchain.refused.push(option)?;
     }
     Ok(())
 }
 
-/// Has some options refused by name, those with a value for all of their values.
-fn refuse_all(alloc: Global, gathered: &mut Gathered, options: &[Word]) -> Result<(), Fault> {
-    for option in options {
-        if option.as_bytes().contains(&b'=') {
-            add_test(&mut gathered.valued, test_of(alloc, option.as_bytes())?)?;
-        } else {
-            gathered.toolchain.refused.push(option.clone()?)?;
-        }
-    }
-    Ok(())
-}
-
-/// Has those of these options left out of a line that the gcc leaves out. Gives the others.
-fn drop_options(
-    pair: Pair<'_>,
-    gathered: &mut Gathered,
-    options: &[Word],
-) -> Result<Listing<Word>, Fault> {
-    let mut others = Listing::new(pair.rt.alloc());
-    for option in options {
-        if pair.is_dropped(option)? {
-            let test = test_of(pair.rt.alloc(), option.as_bytes())?;
-            add_test(&mut gathered.dropped, test)?;
-        } else {
-            others.push(option.clone()?)?;
-        }
-    }
-    Ok(others)
-}
-
-/// Compares the options for machines. Those that have another plan get texts of their own, and are
-/// refused by name if that doesn't help. Gives those that are refused.
-fn check_machines(pair: Pair<'_>, gathered: &mut Gathered) -> Result<Listing<Word>, Fault> {
-    let others = pair.others(pair.machines()?.as_slice())?;
-    let chosen = drop_options(pair, gathered, others.as_slice())?;
-    for option in chosen.as_slice().iter().take(MACHINES) {
-        gathered.add_machine(pair, option)?;
-    }
-    gathered.choose(pair.rt.alloc())?;
-    put_specs(pair, gathered)?;
-    put_gcc(pair, gathered)?;
-    let refused = pair.others(others.as_slice())?;
-    refuse(gathered, refused.as_slice())?;
-    if pair.is_rooted_otherwise()? {
-        gathered.toolchain.is_rooted = false;
-    }
-    put_specs(pair, gathered)?;
-    Ok(refused)
-}
-
-/// Has the options refused that are for no machine and would give other plans. Gives those.
-fn refuse_others(pair: Pair<'_>, gathered: &mut Gathered) -> Result<Listing<Word>, Fault> {
+/// Has the options refused that are for no machine and would give other plans.
+fn refuse_others(pair: Pair<'_>, gathered: &mut Gathered) -> Result<(), Fault> {
     let others = pair.chosen_otherwise()?;
-    if !others.is_empty() {
-        refuse_all(pair.rt.alloc(), gathered, others.as_slice())?;
-        put_specs(pair, gathered)?;
+    if others.is_empty() {
+        return Ok(());
     }
-    Ok(others)
+    note(
+        &mut gathered.notes,
+        b"refused by name, since they would make something else:",
+        others.as_slice(),
+    )?;
+    refuse(gathered, others)?;
+    put_specs(pair, gathered)
 }
 
 /// Compares the plans by the rows, and leaves out those that would give others.
@@ -358,18 +275,10 @@ fn check_rows(pair: Pair<'_>, gathered: &mut Gathered) -> Result<(), Fault> {
     put_gcc(pair, gathered)
 }
 
-/// The options of the libraries of a gcc, if rows have its words for them.
-fn library_keys(pair: Pair<'_>, ways: Ways) -> Result<Listing<Word>, Fault> {
-    let none = Word::empty(pair.rt.alloc());
-    match ways {
-        Ways::Rows => multilibs(pair.gcc_with(&none)),
-        Ways::Texts => Ok(Listing::new(pair.rt.alloc())),
-    }
-}
-
 /// Compares the plans by the copies of vendors' files, and leaves out those that would give others.
 fn check_copies(pair: Pair<'_>, gathered: &mut Gathered) -> Result<(), Fault> {
-    let keys = library_keys(pair, gathered.ways)?;
+    let none = Word::empty(pair.rt.alloc());
+    let keys = multilibs(pair.gcc_with(&none))?;
     let mut same = Listing::new(pair.rt.alloc());
     let mut others = Listing::new(pair.rt.alloc());
     for _ in 0..gathered.copies.as_slice().len() {
@@ -392,124 +301,65 @@ fn check_copies(pair: Pair<'_>, gathered: &mut Gathered) -> Result<(), Fault> {
     put_gcc(pair, gathered)
 }
 
-/// Compares the plans by texts alone, and has the options refused that would give others.
-fn check_texts(pair: Pair<'_>, manner: Manner, gathered: &mut Gathered) -> Result<(), Fault> {
-    let refused = check_machines(pair, gathered)?;
-    let others = pair.others(refused.as_slice())?;
-    judge(pair, manner, others.as_slice(), &mut gathered.notes)?;
-    note_refused(&mut gathered.notes, refused.as_slice())
-}
-
-/// Notes the options that are refused by name.
-fn note_refused(notes: &mut Word, options: &[Word]) -> Result<(), Fault> {
-    note(
-        notes,
-        b"refused by name, since they would make something else:",
-        options,
-    )
-}
-
-/// Compares the plans, and has the options refused that would give others.
-fn check(pair: Pair<'_>, manner: Manner, gathered: &mut Gathered) -> Result<(), Fault> {
-    let others = refuse_others(pair, gathered)?;
-    judge(
-        pair,
-        manner,
-        pair.differences()?.as_slice(),
-        &mut gathered.notes,
-    )?;
-    note_refused(&mut gathered.notes, others.as_slice())?;
-    if !gathered.copies.is_empty() {
-        check_copies(pair, gathered)?;
-    }
-    match gathered.ways {
-        Ways::Texts => check_texts(pair, manner, gathered),
-        Ways::Rows => check_rows(pair, gathered),
-    }
-}
-
-/// Compares the plans of lines with the options that the user names, if there are some.
-fn check_options(
+/// Compares the plans, also with these options, and leaves out what would give others.
+fn check(
     pair: Pair<'_>,
     manner: Manner,
     options: &Word,
     gathered: &mut Gathered,
 ) -> Result<(), Fault> {
-    if options.is_empty() {
-        return Ok(());
+    refuse_others(pair, gathered)?;
+    let mut others = pair.differences()?;
+    if !options.is_empty() {
+        for line in pair.differences_with(options)?.into_vec() {
+            others.push(line)?;
+        }
     }
-    let others = pair.differences_with(options)?;
-    judge(pair, manner, others.as_slice(), &mut gathered.notes)
+    judge(pair, manner, others.as_slice(), &mut gathered.notes)?;
+    if !gathered.copies.is_empty() {
+        check_copies(pair, gathered)?;
+    }
+    check_rows(pair, gathered)
 }
 
-/// Makes the files of a gcc, of which this is known, and tries them, also with these options.
+/// Makes the files of a gcc, of which this is known, and tries them, also with these options. The
+/// names of options come before the spec file: a line is refused for an option that is no name.
 fn put_gathered(
     pair: Pair<'_>,
     manner: Manner,
     options: &Word,
     gathered: &mut Gathered,
 ) -> Result<(), Fault> {
-    if !pair.takes(options)? {
-        return Err(Fault::Refuses(pair.gcc.clone()?, options.clone()?));
-    }
-    gathered.choose(pair.rt.alloc())?;
     note(
         &mut gathered.notes,
         b"texts that cannot be translated, so lines that use them are refused:",
         gathered.lacking.as_slice(),
     )?;
     put_beside(pair, gathered)?;
-    refuse(gathered, pair.unnamed_options()?.as_slice())?;
-    if let Ways::Texts = gathered.ways {
-        refuse_all(
-            pair.rt.alloc(),
-            gathered,
-            pair.foreign_options()?.as_slice(),
-        )?;
-    }
+    refuse(gathered, pair.unnamed_options()?)?;
     put_specs(pair, gathered)?;
-    check(pair, manner, gathered)?;
-    check_options(pair, manner, options, gathered)
+    check(pair, manner, options, gathered)
 }
 
-/// Whether there is a row of a key. That of no options is there by itself.
-fn has_row(gathered: &Gathered, key: &Word) -> bool {
-    key.is_empty()
-        || gathered
-            .rows
-            .as_slice()
-            .iter()
-            .any(|row| row.key.as_bytes() == key.as_bytes())
+/// Whether there is a row of a key.
+fn has_row(gathered: &Gathered) -> bool {
+    let mut rows = gathered.rows.as_slice().iter();
+    rows.any(|row| row.key.as_bytes() == gathered.key.as_bytes())
 }
 
-/// Makes the files of a gcc whose words for its machines are in rows, and tries them.
-fn put_with_rows(pair: Pair<'_>, order: &Order) -> Result<(), Fault> {
+/// Makes the files of a gcc, and tries them.
+fn put_whole(pair: Pair<'_>, order: &Order) -> Result<(), Fault> {
     let options = options_text(pair.rt.alloc(), order.options.as_slice())?;
-    let mut gathered = gather(pair, Ways::Rows)?;
-    let key = gathered.add_rows(pair, order.options.as_slice())?;
+    if !options.is_empty() && !pair.takes(&options)? {
+        return Err(Fault::Refuses(pair.gcc.clone()?, options));
+    }
+    let mut gathered = gather(pair, order.options.as_slice())?;
     let done = put_gathered(pair, order.manner, &options, &mut gathered);
     show_notes(pair.rt, &gathered);
     done?;
     match order.manner {
-        Manner::Compared if !has_row(&gathered, &key) => Err(Fault::NoRow(key)),
+        Manner::Compared if !has_row(&gathered) => Err(Fault::NoRow(gathered.key)),
         _ => Ok(()),
-    }
-}
-
-/// Makes the files of a gcc, and tries them. If the texts alone give other plans, or devices have
-/// spec files, rows do the work, and what was noted of the texts isn't so.
-fn put_whole(pair: Pair<'_>, order: &Order) -> Result<(), Fault> {
-    if has_devices(pair)? {
-        return put_with_rows(pair, order);
-    }
-    let options = options_text(pair.rt.alloc(), order.options.as_slice())?;
-    let mut gathered = gather(pair, Ways::Texts)?;
-    match put_gathered(pair, Manner::Compared, &options, &mut gathered) {
-        Err(Fault::Differs(..)) => put_with_rows(pair, order),
-        done => {
-            show_notes(pair.rt, &gathered);
-            done
-        }
     }
 }
 

@@ -1,11 +1,12 @@
 //! The programs of a gcc, and where programs are.
 
 use crate::asked::Asked;
-use crate::asking::{question_about, text};
+use crate::asking::{joined, text};
 use crate::fault::Fault;
 use crate::finding::{word_after, word_after_start};
+use crate::names::sort_lines;
 use crate::work_folder::absolute;
-use drv_gcc::{Finding, Linker, Program, Programs};
+use drv_gcc::{Finding, Linker, Program, Programs, values};
 use drv_words::{Listing, Word, base};
 use std::env::var;
 use std::fs;
@@ -29,6 +30,17 @@ pub fn is_folder(rt: &HostRuntime, path: &[u8]) -> Result<bool, Fault> {
     }
 }
 
+/// The names in a folder, sorted.
+pub fn names_in(rt: &HostRuntime, folder: &Word) -> Result<Listing<Word>, Fault> {
+    let mut names = Word::empty(rt.alloc());
+    for entry in fs::read_dir(rt, text(folder.as_bytes())?)? {
+        names.extend_from_slice(entry?.file_name().as_bytes())?;
+        names.push(b'\n')?;
+    }
+    let lines = sort_lines(rt.alloc(), &names)?;
+    Ok(values(rt.alloc(), b"", lines.as_bytes())?)
+}
+
 /// The path of a program that is looked for along PATH, or that has a path; none where it isn't
 /// there.
 pub fn program_at(rt: &HostRuntime, name: &Word) -> Result<Option<Word>, Fault> {
@@ -44,8 +56,7 @@ pub fn program_at(rt: &HostRuntime, name: &Word) -> Result<Option<Word>, Fault> 
         return Ok(None);
     };
     for folder in folders.as_bytes().split(|byte| *byte == b':') {
-        let mut path = question_about(rt.alloc(), folder, b"/")?;
-        path.extend_from_slice(name.as_bytes())?;
+        let path = joined(rt.alloc(), &[folder, b"/", name.as_bytes()])?;
         if is_file(rt, &path)? {
             return Ok(Some(absolute(rt, &path)?));
         }

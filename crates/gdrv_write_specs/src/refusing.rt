@@ -21,7 +21,7 @@ pub enum Answer {
 
 /// What a gcc says of these words. The input after each of them is the argument of an option that
 /// takes the next word.
-fn try_words(pair: Pair<'_>, words: &[Word]) -> Result<Said, Fault> {
+pub fn try_words(pair: Pair<'_>, words: &[Word]) -> Result<Said, Fault> {
     let alloc = pair.rt.alloc();
     let mut line = split(alloc, b"-###")?;
     for word in words {
@@ -31,12 +31,15 @@ fn try_words(pair: Pair<'_>, words: &[Word]) -> Result<Said, Fault> {
     ask_words(pair.rt, &pair.work.lines, pair.gcc, line.as_slice())
 }
 
+/// What a gcc says of an option that it does not know.
+pub const UNKNOWN: &[u8] = b"unrecognized command";
+
 /// What a gcc makes of a word.
 pub fn answer_to(pair: Pair<'_>, word: &Word) -> Result<Answer, Fault> {
     let said = try_words(pair, slice::from_ref(word))?;
     Ok(if said.is_done {
         Answer::Takes
-    } else if has_bytes(said.err.as_bytes(), b"unrecognized command") {
+    } else if has_bytes(said.err.as_bytes(), UNKNOWN) {
         Answer::Lacks
     } else {
         Answer::Refuses
@@ -44,7 +47,7 @@ pub fn answer_to(pair: Pair<'_>, word: &Word) -> Result<Answer, Fault> {
 }
 
 /// How many words a gcc is asked of at once. Its time grows by their square.
-const AT_ONCE: usize = 256;
+pub const AT_ONCE: usize = 256;
 
 /// How often as many words as a gcc has are halved, until each is alone.
 const HALVINGS: usize = 20;

@@ -1,17 +1,15 @@
-//! Rows for the machines of a gcc: the options that choose one, and the words that gcc makes of
-//! them. gdrv-cc hands on the words of a row in the place of its options.
+//! Rows: the options of a line that choose a machine, and the words that gcc makes of them. gdrv-cc
+//! hands on the words of a row in the place of its options.
 
-use crate::alike::FolderName;
 use crate::asked::Asked;
-use crate::asking::question_about;
+use crate::asking::joined;
 use crate::checking::Pair;
 use crate::choosing::{Chooser, is_chooser, keys_with};
 use crate::devices::is_of_device;
 use crate::fault::Fault;
 use crate::finding::{command_named, has_word, word_after, words_between};
-use crate::listing::option_list;
 use crate::programs::is_folder;
-use drv_gcc::{options, replace, values};
+use drv_gcc::{replace, values};
 use drv_words::{Listing, Word, split};
 use itoa::Buffer;
 use std::alloc::Global;
@@ -35,7 +33,10 @@ pub fn switches_of(asked: Asked<'_>) -> Result<Option<Listing<Word>>, Fault> {
     let mut words = Listing::new(asked.alloc());
     for word in split(asked.alloc(), line.as_bytes())?.into_vec() {
         if is_of_device(word.as_bytes()) {
-            words.push(question_about(asked.alloc(), b"--gdrv-child=", word.as_bytes())?)?;
+            words.push(joined(
+                asked.alloc(),
+                &[b"--gdrv-child=".as_slice(), word.as_bytes()],
+            )?)?;
         } else if word.as_bytes() != b"-c".as_slice() && !is_chooser(word.as_bytes()) {
             words.push(word)?;
         }
@@ -51,57 +52,43 @@ fn add_places(
     words: &mut Listing<Word>,
 ) -> Result<(), Fault> {
     for folder in folders {
-        let mut place = question_about(asked.alloc(), folder.as_bytes(), name.as_bytes())?;
-        place.push(b'/')?;
+        let place = joined(asked.alloc(), &[folder.as_bytes(), name.as_bytes(), b"/"])?;
         if is_folder(asked.rt, place.as_bytes())? {
-            words.push(question_about(asked.alloc(), b"--gdrv-in=", place.as_bytes())?)?;
+            words.push(joined(asked.alloc(), &[b"--gdrv-in=".as_slice(), place.as_bytes()])?)?;
         }
     }
     Ok(())
 }
 
 /// Adds the words for the folder of the libraries, if they are in one of their own.
-fn add_folder(
-    asked: Asked<'_>,
-    folders: &[Word],
-    naming: FolderName,
-    words: &mut Listing<Word>,
-) -> Result<(), Fault> {
+fn add_folder(asked: Asked<'_>, folders: &[Word], words: &mut Listing<Word>) -> Result<(), Fault> {
     let name = asked.answer(b"-print-multi-directory", b"")?;
     if name.as_bytes() == b".".as_slice() {
         return Ok(());
     }
-    let switch = folder_switch(asked.alloc(), &name, naming)?;
-    words.push(question_about(asked.alloc(), b"--", switch.as_bytes())?)?;
+    let switch = folder_switch(asked.alloc(), &name)?;
+    words.push(joined(asked.alloc(), &[b"-".as_slice(), switch.as_bytes()])?)?;
     add_places(asked, &name, folders, words)
 }
 
-/// The switch for libraries in a folder of this name.
-pub fn folder_switch(alloc: Global, name: &Word, naming: FolderName) -> Result<Word, Fault> {
-    let switch = question_about(alloc, b"gdrv-multi=", name.as_bytes())?;
-    match naming {
-        FolderName::Plain => Ok(switch),
-        FolderName::Tested => Ok(replace(alloc, switch.as_bytes(), b"/", b",")?),
-    }
-}
-
-/// How the rows in a text name the folders of libraries.
-pub fn naming_in(alloc: Global, text: &[u8]) -> Result<FolderName, Fault> {
-    for line in values(alloc, b"machine", text)?.as_slice() {
-        for word in line.as_bytes().split(|byte| *byte == b'\t') {
-            if word.starts_with(b"--gdrv-multi=") && word.contains(&b',') {
-                return Ok(FolderName::Tested);
-            }
-        }
-    }
-    Ok(FolderName::Plain)
+/// The switch for libraries in a folder of this name, with commas for its slashes: no test has a
+/// slash.
+pub fn folder_switch(alloc: Global, name: &Word) -> Result<Word, Fault> {
+    let name = replace(alloc, name.as_bytes(), b"/", b",")?;
+    joined(alloc, &[b"-gdrv-multi=".as_slice(), name.as_bytes()])
 }
 
 /// The beginning of the words for the function of this number.
 fn value_name(alloc: Global, number: usize) -> Result<Word, Fault> {
-    let mut name = question_about(alloc, b"--gdrv-fn", Buffer::new().format(number).as_bytes())?;
-    name.push(b'=')?;
-    Ok(name)
+    let mut buffer = Buffer::new();
+    joined(
+        alloc,
+        &[
+            b"--gdrv-fn".as_slice(),
+            buffer.format(number).as_bytes(),
+            b"=",
+        ],
+    )
 }
 
 /// Adds a word for each that a command shows of what the function of this number gives: those behind
@@ -115,7 +102,7 @@ fn push_values(
 ) -> Result<(), Fault> {
     let name = value_name(alloc, number)?;
     for value in words_between(alloc, shown, from, b"PROBE-END")?.as_slice() {
-        words.push(question_about(alloc, name.as_bytes(), value.as_bytes())?)?;
+        words.push(joined(alloc, &[name.as_bytes(), value.as_bytes()])?)?;
     }
     Ok(())
 }
@@ -127,7 +114,10 @@ fn add_values(
     probe: &Word,
     words: &mut Listing<Word>,
 ) -> Result<(), Fault> {
-    let line = question_about(asked.alloc(), b"-### x.o -o x -specs=", probe.as_bytes())?;
+    let line = joined(
+        asked.alloc(),
+        &[b"-### x.o -o x -specs=".as_slice(), probe.as_bytes()],
+    )?;
     let planned = asked.plan(line.as_bytes())?;
     let shown = command_named(planned.as_slice(), b"PROBE-V").unwrap_or(&[]);
     push_values(asked.alloc(), number, shown, b"PROBE-V", words)
@@ -143,7 +133,7 @@ fn add_all_values(
     let alloc = asked.alloc();
     let planned = asked.all_shown(probes)?;
     for (number, probe) in probes.iter().enumerate() {
-        let from = question_about(alloc, b"PROBE-", probe.as_bytes())?;
+        let from = joined(alloc, &[b"PROBE-".as_slice(), probe.as_bytes()])?;
         match command_named(planned.as_slice(), from.as_bytes()) {
             Some(shown) => push_values(alloc, number, shown, from.as_bytes(), words)?,
             None => add_values(asked, number, probe, words)?,
@@ -153,16 +143,11 @@ fn add_all_values(
 }
 
 /// The row of these options, for a gcc with these folders; none where it refuses them.
-pub fn row_of(
-    asked: Asked<'_>,
-    probes: &[Word],
-    folders: &[Word],
-    naming: FolderName,
-) -> Result<Option<Row>, Fault> {
+pub fn row_of(asked: Asked<'_>, probes: &[Word], folders: &[Word]) -> Result<Option<Row>, Fault> {
     let Some(mut words) = switches_of(asked)? else {
         return Ok(None);
     };
-    add_folder(asked, folders, naming, &mut words)?;
+    add_folder(asked, folders, &mut words)?;
     add_all_values(asked, probes, &mut words)?;
     Ok(Some(Row {
         key: asked.option.clone()?,
@@ -199,113 +184,43 @@ pub fn multilibs(asked: Asked<'_>) -> Result<Listing<Word>, Fault> {
     Ok(keys)
 }
 
-/// Options whose values name a machine.
-const MACHINES: [&[u8]; 5] = [b"-march=", b"-mcpu=", b"-mtune=", b"-mabi=", b"-mmcu="];
+/// Options of one library for which gdrv-cc reads the whole spec file.
+const WHOLE: [&[u8]; 2] = [b"-m32", b"-mx32"];
 
-/// Adds a key that a list lacks.
-fn add_key(keys: &mut Listing<Word>, key: Word) -> Result<(), Fault> {
-    if !key.as_bytes().ends_with(b"=") && !has_word(keys.as_slice(), key.as_bytes()) {
-        keys.push(key)?;
-    }
-    Ok(())
-}
-
-/// Adds the options that gcc lists for this beginning.
-fn add_listed(asked: Asked<'_>, beginning: &[u8], keys: &mut Listing<Word>) -> Result<(), Fault> {
-    let said = option_list(asked.rt, asked.work, asked.gcc, beginning)?;
-    for option in options(asked.alloc(), said.as_bytes())?.into_vec() {
-        add_key(keys, option)?;
-    }
-    Ok(())
-}
-
-/// The values that gcc names where it refuses one of an option.
-fn values_named(asked: Asked<'_>, name: &[u8]) -> Result<Listing<Word>, Fault> {
-    let alloc = asked.alloc();
-    let question = question_about(alloc, b"-### -c -x c /dev/null ", name)?;
-    let said = asked.ask(question_about(alloc, question.as_bytes(), b"?")?.as_bytes())?;
-    let mut found = Listing::new(alloc);
-    for line in values(alloc, b"", said.err.as_bytes())?.as_slice() {
-        if let Some(list) = values_in(line.as_bytes()) {
-            found = split(alloc, list)?;
-        }
-    }
-    Ok(found)
-}
-
-/// The list of values in a line of gcc's, if it has one: up to a semicolon.
-fn values_in(line: &[u8]) -> Option<&[u8]> {
-    let mut parts = line.splitn(2, |byte| *byte == b';');
-    let first = parts.next()?;
-    let at = place_after(first, b" note: valid arguments are: ")?;
-    first.get(at..)
-}
-
-/// The place in a text after these bytes.
-fn place_after(text: &[u8], bytes: &[u8]) -> Option<usize> {
-    for at in 0..text.len() {
-        if text.get(at..).unwrap_or(b"").starts_with(bytes) {
-            return Some(at.saturating_add(bytes.len()));
-        }
-    }
-    None
-}
-
-/// Adds an option with each value that gcc names, and the same for `-mtune=` where it names
-/// processors.
-fn add_with_values(asked: Asked<'_>, name: &[u8], keys: &mut Listing<Word>) -> Result<(), Fault> {
-    let alloc = asked.alloc();
-    for value in values_named(asked, name)?.as_slice() {
-        add_key(keys, question_about(alloc, name, value.as_bytes())?)?;
-        if name == b"-mcpu=".as_slice() {
-            add_key(keys, question_about(alloc, b"-mtune=", value.as_bytes())?)?;
-        }
-    }
-    Ok(())
-}
-
-/// Adds the option of each device that has a spec file.
-fn add_devices(asked: Asked<'_>, keys: &mut Listing<Word>) -> Result<(), Fault> {
-    let folder = asked.device_folder()?;
-    for device in asked.devices_in(&folder)?.as_slice() {
-        add_key(
-            keys,
-            question_about(asked.alloc(), b"-mmcu=", device.as_bytes())?,
-        )?;
-    }
-    Ok(())
-}
-
-/// The options of which rows are written.
-fn keys_of(asked: Asked<'_>) -> Result<Listing<Word>, Fault> {
-    let alloc = asked.alloc();
-    let mut keys = Listing::new(alloc);
-    keys.push(Word::empty(alloc))?;
-    for key in multilibs(asked)?.into_vec() {
-        add_key(&mut keys, key)?;
-    }
-    for order in [b"-EB".as_slice(), b"-EL"] {
-        add_key(&mut keys, Word::from_bytes(alloc, order)?)?;
-    }
-    add_listed(asked, b"-m", &mut keys)?;
-    add_devices(asked, &mut keys)?;
-    for name in MACHINES {
-        add_listed(asked, name, &mut keys)?;
-        add_with_values(asked, name, &mut keys)?;
-    }
-    Ok(keys)
-}
-
-/// The options of which rows are written, each also with these others, and this key.
-pub fn all_keys(pair: Pair<'_>, choosers: &[Chooser], key: &Word) -> Result<Listing<Word>, Fault> {
+/// The tests of libraries for whose options gdrv-cc reads the whole spec file, so that no part needs
+/// them.
+pub fn rare_libraries(pair: Pair<'_>) -> Result<Listing<Word>, Fault> {
     let none = Word::empty(pair.rt.alloc());
-    let mut all = Listing::new(pair.rt.alloc());
-    for key in keys_of(pair.gcc_with(&none))?.as_slice() {
-        for whole in keys_with(key, choosers, pair.rt.alloc())?.into_vec() {
+    let mut tests = Listing::new(pair.rt.alloc());
+    for option in multilibs(pair.gcc_with(&none))?.as_slice() {
+        if WHOLE.iter().any(|it| *it == option.as_bytes()) {
+            let name = pair
+                .gcc_with(option)
+                .answer(b"-print-multi-directory", b"")?;
+            tests.push(folder_switch(pair.rt.alloc(), &name)?)?;
+        }
+    }
+    Ok(tests)
+}
+
+/// The options of which rows are written: none, those of libraries in folders of their own, each of
+/// these also with the options that choose words, and this key.
+pub fn keys_of(asked: Asked<'_>, choosers: &[Chooser], key: &Word) -> Result<Listing<Word>, Fault> {
+    let alloc = asked.alloc();
+    let mut plain = Listing::new(alloc);
+    plain.push(Word::empty(alloc))?;
+    for library in multilibs(asked)?.into_vec() {
+        plain.push(library)?;
+    }
+    let mut all = Listing::new(alloc);
+    for one in plain.as_slice() {
+        for whole in keys_with(one, choosers, alloc)?.into_vec() {
             all.push(whole)?;
         }
     }
-    add_key(&mut all, key.clone()?)?;
+    if !has_word(all.as_slice(), key.as_bytes()) {
+        all.push(key.clone()?)?;
+    }
     Ok(all)
 }
 
@@ -314,12 +229,11 @@ pub fn rows_of(
     pair: Pair<'_>,
     probes: &[Word],
     folders: &[Word],
-    naming: FolderName,
     keys: &[Word],
 ) -> Result<Listing<Row>, Fault> {
     let mut rows = Listing::new(pair.rt.alloc());
     for key in keys {
-        if let Some(row) = row_of(pair.gcc_with(key), probes, folders, naming)? {
+        if let Some(row) = row_of(pair.gcc_with(key), probes, folders)? {
             rows.push(row)?;
         }
     }

@@ -1,14 +1,14 @@
 //! Copies of vendors' spec files in gcc's folders that have forms which this driver has in other
 //! words. The copy is found before the file by its name.
 
-use crate::asking::{question_about, text};
+use crate::asking::{joined, text};
 use crate::checking::Pair;
 use crate::fault::Fault;
 use crate::finding::{has_bytes, has_word};
 use crate::gluing::unglue;
-use crate::names::sort_lines;
+use crate::parts::add_body_line;
+use crate::programs::names_in;
 use drv_dump::{Kind, read_text, translate_vendors};
-use drv_gcc::values;
 use drv_words::{Listing, Word};
 use std::alloc::Global;
 use std::fs;
@@ -87,14 +87,6 @@ fn translate(alloc: Global, body: &[u8]) -> Result<Option<Word>, Fault> {
     }
 }
 
-/// Adds a line to a body.
-fn add_body_line(body: &mut Word, line: &[u8]) -> Result<(), Fault> {
-    if !body.is_empty() {
-        body.push(b'\n')?;
-    }
-    Ok(body.extend_from_slice(line)?)
-}
-
 impl Translating {
     /// A file of which nothing is read.
     fn new(alloc: Global) -> Translating {
@@ -171,23 +163,6 @@ fn copy_of(alloc: Global, name: &Word, content: &[u8]) -> Result<Option<VendorsF
     }))
 }
 
-/// The names of the spec files in a folder, sorted.
-fn spec_files_in(rt: &HostRuntime, folder: &Word) -> Result<Listing<Word>, Fault> {
-    let mut names = Word::empty(rt.alloc());
-    for entry in fs::read_dir(rt, text(folder.as_bytes())?)? {
-        names.extend_from_slice(entry?.file_name().as_bytes())?;
-        names.push(b'\n')?;
-    }
-    let lines = sort_lines(rt.alloc(), &names)?;
-    let mut files = Listing::new(rt.alloc());
-    for name in values(rt.alloc(), b"", lines.as_bytes())?.into_vec() {
-        if name.as_bytes().ends_with(b".specs") {
-            files.push(name)?;
-        }
-    }
-    Ok(files)
-}
-
 /// Adds the copies of a folder's files, but of those whose names an earlier folder has.
 fn add_copies(
     rt: &HostRuntime,
@@ -195,9 +170,10 @@ fn add_copies(
     seen: &mut Listing<Word>,
     copies: &mut Listing<VendorsFile>,
 ) -> Result<(), Fault> {
-    for name in spec_files_in(rt, folder)?.into_vec() {
-        let path = question_about(rt.alloc(), folder.as_bytes(), name.as_bytes())?;
-        if !has_word(seen.as_slice(), name.as_bytes()) {
+    for name in names_in(rt, folder)?.into_vec() {
+        let path = joined(rt.alloc(), &[folder.as_bytes(), name.as_bytes()])?;
+        let is_specs = name.as_bytes().ends_with(b".specs");
+        if is_specs && !has_word(seen.as_slice(), name.as_bytes()) {
             if let Ok(content) = fs::read(rt, text(path.as_bytes())?) {
                 if let Some(copy) = copy_of(rt.alloc(), &name, content.as_slice())? {
                     copies.push(copy)?;
@@ -232,9 +208,10 @@ const LINKED: &[u8] = b"x.c -o made -specs=";
 impl<'a> Pair<'a> {
     /// Whether a line with a spec file of this name and an option has another plan than gcc's.
     fn is_other_with(self, line: &[u8], name: &Word, option: &Word) -> Result<bool, Fault> {
-        let mut whole = question_about(self.rt.alloc(), line, name.as_bytes())?;
-        whole.push(b' ')?;
-        whole.extend_from_slice(option.as_bytes())?;
+        let whole = joined(
+            self.rt.alloc(),
+            &[line, name.as_bytes(), b" ", option.as_bytes()],
+        )?;
         self.is_line_other(whole.as_bytes())
     }
 

@@ -1,6 +1,6 @@
 //! The folder in which a spec file is written and tried before it is put in place.
 
-use crate::asking::{question_about, text};
+use crate::asking::{joined, text};
 use crate::fault::Fault;
 use crate::gathering::PROBE;
 use crate::programs::is_folder;
@@ -50,7 +50,7 @@ const ENDINGS: [&[u8]; 3] = [b".gcc", b".options", b".specs"];
 
 /// A path with this after it.
 pub fn join(alloc: Global, path: &Word, more: &[u8]) -> Result<Word, Fault> {
-    question_about(alloc, path.as_bytes(), more)
+    joined(alloc, &[path.as_bytes(), more])
 }
 
 /// A path that is the same from any folder.
@@ -87,7 +87,7 @@ pub fn make_all(rt: &HostRuntime, path: &[u8]) -> Result<(), Fault> {
 }
 
 /// Writes a new file beside its place, and renames it. `stem` is the spec file without its ending.
-fn put_in_place(rt: &HostRuntime, stem: &Word, to: &Word, content: &[u8]) -> Result<(), Fault> {
+pub fn put_in_place(rt: &HostRuntime, stem: &Word, to: &Word, content: &[u8]) -> Result<(), Fault> {
     let new = new_path(rt, stem)?;
     let (from, path) = (text(new.as_bytes())?, text(to.as_bytes())?);
     let Ok(mut file) = File::create_new(rt, from) else {

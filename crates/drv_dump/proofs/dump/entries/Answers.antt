@@ -2,8 +2,6 @@ use Rattle.drv_dump.proofs.Steps.{dump_refused, dump_taken, handed_on}
 use Rattle.drv_dump.proofs.dump.entries.Goals as goal
 use Rattle.std.proofs.Common.{refl}
 
--- entries (src/dump.rt). The texts of a dump, unread.
-
 -- Names: `dump_refused`: a byte of a dump is refused, and so is the dump. `dump_taken`: a byte of a dump is taken.
 
 pub loop-at-preserved : goal.loop-at-preserved

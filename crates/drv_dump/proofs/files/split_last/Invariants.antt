@@ -2,8 +2,6 @@ use Rattle.drv_dump.proofs.files.split_last.Given as goal
 use Rattle.drv_dump.specs.Files.{split_from}
 use Rattle.std.proofs.Common.{◌≡◌, [], length}
 
--- The loops of split_last (src/files.rt). A text split before its last word.
-
 abbrev pub invariant-loop-left : goal.invariant-loop-left
 invariant-loop-left l = split_from l.front l.word l.left ≡ split_from [] [] l.text
 

@@ -3,8 +3,6 @@ use Rattle.drv_dump.specs.Files.{files_from}
 use Rattle.drv_dump.specs.declared.files.Joint.TheVariants.{Open}
 use Rattle.std.proofs.Common.{◌≡◌, ◌++◌, length}
 
--- The loops of with_named_texts (src/files.rt). The pieces with a named text in place of each name of a file and the `%s` after it.
-
 abbrev pub invariant-loop-left : goal.invariant-loop-left
 invariant-loop-left l = l.named ++ files_from l.skip l.joint l.left ≡ files_from 0 Open l.pieces
 

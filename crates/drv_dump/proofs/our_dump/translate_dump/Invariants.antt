@@ -2,8 +2,5 @@ use Rattle.drv_dump.proofs.our_dump.translate_dump.Given as goal
 use Rattle.drv_dump.specs.OurDump.{our_dump_of, with_entries}
 use Rattle.std.proofs.Common.{◌≡◌, Ok, drop}
 
--- The loops of translate_dump (src/our_dump.rt). The texts of a dump, as `-dumpspecs` prints it, in this driver's language: the same names
--- with the words that `translate_text` gives.
-
 abbrev pub invariant-loop-entry : goal.invariant-loop-entry
 invariant-loop-entry l = Ok (with_entries l.ours (drop l.entry-index l.entry-items)) ≡ our_dump_of l.fn.dump

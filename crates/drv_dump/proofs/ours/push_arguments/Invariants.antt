@@ -2,8 +2,6 @@ use Rattle.drv_dump.proofs.ours.push_arguments.Given as goal
 use Rattle.drv_dump.specs.Ours.{arguments_from}
 use Rattle.std.proofs.Common.{◌≡◌, ◌++◌, length}
 
--- The loops of push_arguments (src/ours.rt). Adds to a word what follows the parenthesis that opens.
-
 abbrev pub invariant-loop-left : goal.invariant-loop-left
 invariant-loop-left l = l.word ++ arguments_from l.left ≡ l.fn.word ++ arguments_from l.call
 

@@ -2,8 +2,6 @@ use Rattle.drv_dump.proofs.ours.push_name.Given as goal
 use Rattle.drv_dump.specs.Ours.{name_from}
 use Rattle.std.proofs.Common.{◌≡◌, ◌++◌, length}
 
--- The loops of push_name (src/ours.rt). Adds the name of a function that is called, from its first byte, to a word.
-
 abbrev pub invariant-loop-left : goal.invariant-loop-left
 invariant-loop-left l = l.word ++ name_from l.left ≡ l.fn.word ++ name_from l.call
 

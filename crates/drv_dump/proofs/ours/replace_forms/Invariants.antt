@@ -2,8 +2,6 @@ use Rattle.drv_dump.proofs.ours.replace_forms.Given as goal
 use Rattle.drv_dump.specs.Ours.{replaced}
 use Rattle.std.proofs.Common.{◌≡◌, ◌++◌, length}
 
--- The loops of replace_forms (src/ours.rt). Adds a text to a word, with its forms of several pieces replaced.
-
 abbrev pub invariant-loop-left : goal.invariant-loop-left
 invariant-loop-left l = l.word ++ replaced l.skip l.left ≡ l.fn.word ++ replaced 0 l.text
 

@@ -3,7 +3,5 @@ use Rattle.drv_dump.specs.Ours.{words_before}
 use Rattle.drv_dump.specs.Passed.{all_passed, passed_of}
 use Rattle.std.proofs.Common.{◌≡◌, drop}
 
--- The loops of pass_text (src/passed.rt). The copy of a text: its libraries alone, each with the option.
-
 abbrev pub invariant-loop-piece : goal.invariant-loop-piece
 invariant-loop-piece l = words_before l.copy (all_passed (drop l.piece-index l.piece-items)) ≡ passed_of l.fn.text

@@ -4,8 +4,6 @@ use Rattle.drv_dump.specs.Dumps.{written_entry}
 use Rattle.drv_dump.specs.Passed.{or_refusal, passed_of}
 use Rattle.std.proofs.Common.{◌∙◌, ◌++◌, Ok, ap, codes, sym}
 
--- push_copy (src/passed.rt). Adds the copy of an entry.
-
 -- Names: `written_entry`: how texts are written. `ok_same`: two values that a call gives are one.
 
 pub returns : goal.returns

@@ -1,8 +1,6 @@
 use Rattle.drv_dump.proofs.passed.push_with_option.Goals as goal
 use Rattle.drv_dump.proofs.Passing.{option_put}
 
--- push_with_option (src/passed.rt). Adds the option, and a word.
-
 -- Names: `option_put`: a word after the option.
 
 pub returns : goal.returns

@@ -2,8 +2,6 @@ use Rattle.drv_dump.proofs.Steps.{byte_refused, byte_taken, handed_on}
 use Rattle.drv_dump.proofs.reading.read_text.Goals as goal
 use Rattle.std.proofs.Common.{refl}
 
--- read_text (src/reading.rt). The pieces of a spec text: their bytes, one after another, are the text.
-
 -- Names: `byte_refused`: a byte of a text is refused, and so is the text. `byte_taken`: a byte of a text is taken.
 
 pub loop-at-preserved : goal.loop-at-preserved

@@ -2,7 +2,5 @@ use Rattle.drv_dump.proofs.reading.read_text.Given as goal
 use Rattle.drv_dump.specs.Texts.{pieces_of, read_from}
 use Rattle.std.proofs.Common.{◌≡◌, drop}
 
--- The loops of read_text (src/reading.rt). The pieces of a spec text: their bytes, one after another, are the text.
-
 abbrev pub invariant-loop-at : goal.invariant-loop-at
 invariant-loop-at l = read_from l.reader l.at (drop l.at l.text) ≡ pieces_of l.fn.text

@@ -2,8 +2,6 @@ use Rattle.drv_dump.proofs.VendorTexts.{macro_put}
 use Rattle.drv_dump.proofs.vendors.push_macro.Goals as goal
 use Rattle.std.proofs.lemmas.Result.{on_ok_weaker}
 
--- push_macro (src/vendors.rt). Adds the switch of the front that is in place of a macro.
-
 -- Names: `macro_put`: a switch for a macro after a word.
 
 pub returns : goal.returns

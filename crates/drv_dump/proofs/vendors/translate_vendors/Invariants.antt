@@ -3,9 +3,6 @@ use Rattle.drv_dump.specs.Ours.{words_before}
 use Rattle.drv_dump.specs.Vendors.{all_vendor_words, vendor_text}
 use Rattle.std.proofs.Common.{◌≡◌, length}
 
--- The loops of translate_vendors (src/vendors.rt). A text of a vendor's spec file in this driver's spec language: its words are those of a
--- text of gcc, but for the test of a macro, which becomes one of a switch of the front.
-
 abbrev pub invariant-loop-left : goal.invariant-loop-left
 invariant-loop-left l = words_before l.word (all_vendor_words l.left) ≡ vendor_text l.fn.text
 

@@ -2,9 +2,6 @@ use Rattle.drv_gcc.proofs.answers.named_texts.Given as goal
 use Rattle.drv_gcc.specs.Answers.{names_from}
 use Rattle.std.proofs.Common.{◌≡◌, [], length}
 
--- The loops of named_texts (src/answers.rt). The names that texts have after a beginning and before a parenthesis: each once, in their
--- order.
-
 abbrev pub invariant-loop-left : goal.invariant-loop-left
 invariant-loop-left l = names_from l.beginning l.names l.left ≡ names_from l.beginning [] l.texts
 

@@ -2,8 +2,6 @@ use Rattle.drv_gcc.proofs.answers.push_name.Given as goal
 use Rattle.drv_gcc.specs.Answers.{name_before}
 use Rattle.std.proofs.Common.{◌≡◌, ◌++◌, length}
 
--- The loops of push_name (src/answers.rt). Adds the bytes before a parenthesis.
-
 abbrev pub invariant-loop-left : goal.invariant-loop-left
 invariant-loop-left l = l.name ++ name_before l.left ≡ l.fn.name ++ name_before l.text
 

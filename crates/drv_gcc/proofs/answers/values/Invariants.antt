@@ -3,7 +3,5 @@ use Rattle.drv_gcc.specs.Answers.{value_in}
 use Rattle.std.specs.List.{flat_map}
 use Rattle.std.proofs.Common.{◌≡◌, map}
 
--- The loops of values (src/answers.rt). The values of a key in a text, in its order: what follows the key in each line that begins with it.
-
 abbrev pub invariant-loop-line : goal.invariant-loop-line
 invariant-loop-line l = l.found ≡ flat_map (value_in l.key) (map (λ line. line.now) l.yielded)

@@ -3,7 +3,5 @@ use Rattle.drv_gcc.specs.SpecFile.{for_machine}
 use Rattle.std.specs.List.{flat_map}
 use Rattle.std.proofs.Common.{◌≡◌, ◌++◌, drop}
 
--- The loops of push_for_machines (src/choices.rt). Adds the texts for machines.
-
 abbrev pub invariant-loop-it : goal.invariant-loop-it
 invariant-loop-it l = l.body ++ flat_map for_machine (drop l.it-index l.others) ≡ l.fn.body ++ flat_map for_machine l.others

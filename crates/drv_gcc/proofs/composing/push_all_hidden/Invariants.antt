@@ -3,7 +3,5 @@ use Rattle.drv_gcc.specs.SpecFile.{hidden_folder}
 use Rattle.std.specs.List.{flat_map}
 use Rattle.std.proofs.Common.{◌≡◌, ◌++◌, drop}
 
--- The loops of push_all_hidden (src/composing.rt). Adds what takes folders out of the -B of a line.
-
 abbrev pub invariant-loop-folder : goal.invariant-loop-folder
 invariant-loop-folder l = l.body ++ flat_map hidden_folder (drop l.folder-index l.folders) ≡ l.fn.body ++ flat_map hidden_folder l.folders

@@ -3,7 +3,5 @@ use Rattle.drv_gcc.specs.SpecFile.{included_text}
 use Rattle.std.specs.List.{flat_map}
 use Rattle.std.proofs.Common.{◌≡◌, ◌++◌, drop}
 
--- The loops of push_all_included (src/composing.rt). Adds the texts of files that texts include.
-
 abbrev pub invariant-loop-file : goal.invariant-loop-file
 invariant-loop-file l = l.text ++ flat_map included_text (drop l.file-index l.files) ≡ l.fn.text ++ flat_map included_text l.files

@@ -3,8 +3,6 @@ use Rattle.drv_gcc.proofs.composing.push_found.Goals as goal
 use Rattle.drv_gcc.specs.SpecFile.{found_body, spec_word}
 use Rattle.std.proofs.Common.{◌++◌, codes}
 
--- push_found (src/composing.rt). Adds what finds a file that gcc has at a path.
-
 -- `joined` adds the five parts of the body, from the last one to the first.
 pub returns : goal.returns
 unfolding found_body

@@ -4,8 +4,6 @@ use Rattle.drv_gcc.specs.SpecFile.{library_words, spec_word, then_blank}
 use Rattle.std.proofs.Common.{◌++◌, codes}
 use Rattle.std.specs.List.{flat_map}
 
--- push_library_words (src/composing.rt). Adds words for folders of libraries.
-
 -- `joined` adds the five parts of the words, from the last one to the first.
 pub returns : goal.returns
 unfolding library_words

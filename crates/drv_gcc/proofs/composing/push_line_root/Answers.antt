@@ -3,8 +3,6 @@ use Rattle.drv_gcc.proofs.composing.push_line_root.Goals as goal
 use Rattle.drv_gcc.specs.SpecFile.{line_root, spec_word}
 use Rattle.std.proofs.Common.{◌++◌, codes}
 
--- push_line_root (src/composing.rt). Adds the root of the line, or else that of the gcc.
-
 -- Names: `joined`: what is added in two steps. `spec_word`: a word as a spec text gives it on, byte by byte.
 
 -- the text says: --sysroot= of the line if it has one, or else the gcc's own root, byte by byte

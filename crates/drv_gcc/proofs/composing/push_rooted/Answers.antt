@@ -3,8 +3,6 @@ use Rattle.drv_gcc.proofs.composing.push_rooted.Goals as goal
 use Rattle.drv_gcc.specs.SpecFile.{rooted_words}
 use Rattle.std.proofs.Common.{◌++◌, codes}
 
--- push_rooted (src/composing.rt). Adds texts for lines with another root and without one.
-
 -- `joined` adds the five parts of the words, from the last one to the first.
 pub returns : goal.returns
 unfolding rooted_words

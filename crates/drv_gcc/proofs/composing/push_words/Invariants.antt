@@ -3,7 +3,5 @@ use Rattle.drv_gcc.specs.SpecFile.{then_blank}
 use Rattle.std.specs.List.{flat_map}
 use Rattle.std.proofs.Common.{◌≡◌, ◌++◌, drop}
 
--- The loops of push_words (src/composing.rt). Adds words, each with a blank after it.
-
 abbrev pub invariant-loop-word : goal.invariant-loop-word
 invariant-loop-word l = l.body ++ flat_map then_blank (drop l.word-index l.words) ≡ l.fn.body ++ flat_map then_blank l.words

@@ -4,8 +4,6 @@ use Rattle.drv_gcc.specs.SpecFile.{hiding_body, there_tests}
 use Rattle.std.specs.List.{flat_map}
 use Rattle.std.proofs.Common.{◌++◌, codes}
 
--- push_hiding_body (src/hiding.rt). Adds what such a line is refused for.
-
 -- `joined` adds the four parts of the body, from the last one to the first.
 pub returns : goal.returns
 unfolding hiding_body

@@ -4,8 +4,6 @@ use Rattle.drv_words.specs.Bytes as byte
 use Rattle.std.specs.List.{flat_map}
 use Rattle.std.proofs.Common.{◌≡◌, [], ◌∷◌, ◌++◌, drop}
 
--- The loops of option_lines (src/listed.rt). The names by which options are known, a line each.
-
 abbrev pub invariant-loop-word : goal.invariant-loop-word
 invariant-loop-word l = l.lines ++ flat_map (λ word. known_by l.all word ++ byte.newline ∷ []) (drop l.word-index l.all)
     ≡ flat_map (λ word. known_by l.all word ++ byte.newline ∷ []) l.all

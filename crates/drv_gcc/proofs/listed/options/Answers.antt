@@ -7,8 +7,6 @@ use Rattle.std.proofs.lemmas.Iterator.Splits.{YieldsList-from_slice_split}
 use Rattle.std.specs.List.{flat_map}
 use Rattle.std.specs.Slice.Iter.{split_callee, split_done, split_rest}
 
--- options (src/listed.rt). The options that `--completion=` lists.
-
 -- The pieces that the loop took are all lines of the text.
 pub returns : goal.returns
 returns c =

@@ -3,7 +3,5 @@ use Rattle.drv_gcc.specs.Answers.{option_in}
 use Rattle.std.specs.List.{flat_map}
 use Rattle.std.proofs.Common.{◌≡◌, map}
 
--- The loops of options (src/listed.rt). The options that `--completion=` lists.
-
 abbrev pub invariant-loop-line : goal.invariant-loop-line
 invariant-loop-line l = l.found ≡ flat_map option_in (map (λ line. line.now) l.yielded)

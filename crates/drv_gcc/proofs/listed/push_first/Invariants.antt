@@ -2,8 +2,6 @@ use Rattle.drv_gcc.proofs.listed.push_first.Given as goal
 use Rattle.drv_gcc.specs.Answers.{first_word}
 use Rattle.std.proofs.Common.{◌≡◌, ◌++◌, length}
 
--- The loops of push_first (src/listed.rt). Adds the first word of a line.
-
 abbrev pub invariant-loop-left : goal.invariant-loop-left
 invariant-loop-left l = l.word ++ first_word l.left ≡ l.fn.word ++ first_word l.line
 

@@ -2,8 +2,6 @@ use Rattle.drv_gcc.proofs.listed.push_head.Given as goal
 use Rattle.drv_gcc.specs.Answers.{head}
 use Rattle.std.proofs.Common.{◌≡◌, ◌++◌, length}
 
--- The loops of push_head (src/listed.rt). Adds a name up to its equals sign.
-
 abbrev pub invariant-loop-left : goal.invariant-loop-left
 invariant-loop-left l = l.name ++ head l.left ≡ l.fn.name ++ head l.word
 

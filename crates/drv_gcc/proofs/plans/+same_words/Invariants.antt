@@ -1,7 +1,5 @@
 use Rattle.drv_gcc.proofs.plans.+same_words.Given as goal
 use Rattle.std.proofs.Common.{length}
 
--- The loops of same_words (src/plans.rt). Whether words are the same.
-
 abbrev pub decreases-same_words : goal.decreases-same_words
 decreases-same_words l = length l.one.now

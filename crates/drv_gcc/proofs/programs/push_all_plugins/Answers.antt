@@ -3,8 +3,6 @@ use Rattle.drv_gcc.proofs.programs.push_all_plugins.Goals as goal
 use Rattle.drv_gcc.specs.SpecFile.{entry, folder_of_plugins, or_nothing, plugin_texts}
 use Rattle.std.proofs.Common.{◌++◌, codes}
 
--- push_all_plugins (src/programs.rt). Adds the texts of plugins.
-
 -- `joined` adds the three parts of the text, from the last one to the first.
 pub returns : goal.returns
 unfolding plugin_texts

@@ -3,8 +3,6 @@ use Rattle.drv_gcc.proofs.programs.push_choice_of.Goals as goal
 use Rattle.drv_gcc.specs.SpecFile.{looked_for, program_choice, spec_word}
 use Rattle.std.proofs.Common.{◌∙◌, ◌++◌, ap, codes}
 
--- push_choice_of (src/programs.rt). Adds the name of a program for these lines, and its path for others.
-
 -- `joined` adds the five parts of the choice, from the last one to the first.
 pub returns : goal.returns
 unfolding program_choice

@@ -4,8 +4,6 @@ use Rattle.drv_gcc.specs.SpecFile.{linker_body, own_linker, program_choice}
 use Rattle.std.specs.List.{flat_map}
 use Rattle.std.proofs.Common.{◌++◌, codes}
 
--- push_linker_body (src/programs.rt). Adds what chooses a linker.
-
 -- `joined` adds the five parts of the body, from the last one to the first.
 pub returns : goal.returns
 unfolding linker_body

@@ -3,8 +3,6 @@ use Rattle.drv_gcc.proofs.programs.push_own_linker.Goals as goal
 use Rattle.drv_gcc.specs.SpecFile.{own_linker, spec_word}
 use Rattle.std.proofs.Common.{◌∙◌, ◌++◌, ap, codes}
 
--- push_own_linker (src/programs.rt). Adds a linker of `-fuse-ld=`.
-
 -- `joined` adds the seven parts of the text, from the last one to the first; the name and the path are the linker's.
 pub returns : goal.returns
 unfolding own_linker

@@ -3,8 +3,6 @@ use Rattle.drv_gcc.proofs.programs.push_program_body.Goals as goal
 use Rattle.drv_gcc.specs.SpecFile.{program_body, program_choice}
 use Rattle.std.proofs.Common.{◌++◌, codes}
 
--- push_program_body (src/programs.rt). Adds what finds a program.
-
 -- `joined` adds the three parts of the body, from the last one to the first.
 pub returns : goal.returns
 unfolding program_body

@@ -2,8 +2,6 @@ use Rattle.drv_gcc.proofs.replacing.replace.Given as goal
 use Rattle.drv_gcc.specs.Replacing.{replaced}
 use Rattle.std.proofs.Common.{◌≡◌, ◌++◌, length}
 
--- The loops of replace (src/replacing.rt). A text with a form in other words, at each of its places.
-
 abbrev pub invariant-loop-left : goal.invariant-loop-left
 invariant-loop-left l = l.word ++ replaced l.form l.other l.skip l.left ≡ replaced l.form l.other 0 l.text
 

@@ -3,7 +3,5 @@ use Rattle.drv_gcc.specs.SpecFile.{test_byte}
 use Rattle.std.specs.List.{flat_map}
 use Rattle.std.proofs.Common.{◌≡◌, ◌++◌, drop}
 
--- The loops of push_test (src/words.rt). Adds a word as a test of switches has it.
-
 abbrev pub invariant-loop-byte : goal.invariant-loop-byte
 invariant-loop-byte l = l.text ++ flat_map test_byte (drop l.byte-index l.word) ≡ l.fn.text ++ flat_map test_byte l.word

@@ -3,7 +3,5 @@ use Rattle.drv_gcc.specs.SpecFile.{word_byte}
 use Rattle.std.specs.List.{flat_map}
 use Rattle.std.proofs.Common.{◌≡◌, ◌++◌, drop}
 
--- The loops of push_word (src/words.rt). Adds a word as a spec text has it.
-
 abbrev pub invariant-loop-byte : goal.invariant-loop-byte
 invariant-loop-byte l = l.text ++ flat_map word_byte (drop l.byte-index l.word) ≡ l.fn.text ++ flat_map word_byte l.word
