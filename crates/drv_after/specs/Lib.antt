@@ -2,5 +2,4 @@ pub mod After
 pub mod Answered
 pub mod Left
 pub mod Named
-pub mod Story
 pub mod Worded

@@ -5,7 +5,7 @@ ghost use Rattle.drv_core.specs.Run.{IfMake};
 ghost use Rattle.std.specs.Prelude.{◌≡◌, IfOk};
 
 use crate::answers::{Given, answer_to};
-use drv_core::{Action, FailureStatus, Run, Window};
+use drv_core::{Action, Run, Window};
 use drv_words::Plan;
 use std::alloc::{AllocError, Global};
 
@@ -19,7 +19,7 @@ use std::alloc::{AllocError, Global};
 pub fn after<'a>(
     alloc: Global,
     plan: &'a Plan,
-    pass_codes: FailureStatus,
+    pass_codes: bool,
     window: Window,
     given: &[Given],
 ) -> Result<Run<'a>, AllocError>

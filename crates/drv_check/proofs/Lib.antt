@@ -2,7 +2,6 @@ mod Agreeing
 mod CheckAgrees
 mod Covering
 mod Cutting
-mod DumpsDiffer
 mod FaultNotes
 mod FaultsAlone
 mod FaultsCounted
@@ -27,7 +26,6 @@ mod PiecesChecked
 mod PiecesRead
 mod PlainRuns
 mod RefusedFirst
-mod Reports
 mod SpotLaws
 mod TextOrigins
 mod TextsReached

@@ -8,12 +8,12 @@ use Rattle.drv_check.specs.OwnTexts.{own_text, own_tree, tree_after}
 use Rattle.drv_check.specs.declared.findings.Source.{Source}
 use Rattle.drv_check.specs.declared.findings.Spot.{Spot}
 use Rattle.drv_check.specs.declared.loading_order.LoadedPiece.{LoadedPiece}
-use Rattle.drv_check.specs.declared.marking.Before.TheVariants.{Follows, Returns}
+use Rattle.drv_check.specs.declared.mark_reading.Before.TheVariants.{Follows, Returns}
 use Rattle.drv_check.specs.declared.marking.Extent.{Extent}
 use Rattle.drv_check.specs.declared.marking.Joint.{Joint}
 use Rattle.drv_check.specs.declared.marking.MarkedPart.{MarkedPart}
-use Rattle.drv_check.specs.declared.marking.Reading.{Reading}
-use Rattle.drv_check.specs.declared.marking.Role.{Role}
+use Rattle.drv_check.specs.declared.mark_reading.Reading.{Reading}
+use Rattle.drv_check.specs.declared.mark_reading.Role.{Role}
 use Rattle.drv_specs.specs.Directives.{is_colon}
 use Rattle.drv_syntax.specs.Parsed.{tree_of}
 use Rattle.drv_syntax.specs.declared.token.Token.{Token}

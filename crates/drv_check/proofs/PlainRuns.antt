@@ -2,13 +2,13 @@ use Rattle.drv_check.proofs.MarkSteps.{end_further, extent_further, extent_next}
 use Rattle.drv_check.specs.Code.PlainRuns.{extent_if, follows, read_to}
 use Rattle.drv_check.specs.MarkedParts.{after_role, before_at, ends_starred, goes_on, is_entered, is_item}
 use Rattle.drv_check.specs.MarkedParts.{is_passed, joint_after, joint_of, part_end, part_if, parts_from, read_by, read_token, role_of}
-use Rattle.drv_check.specs.declared.marking.Before.TheVariants.{Follows}
-use Rattle.drv_check.specs.declared.marking.Before.{Before}
+use Rattle.drv_check.specs.declared.mark_reading.Before.TheVariants.{Follows}
+use Rattle.drv_check.specs.declared.mark_reading.Before.{Before}
 use Rattle.drv_check.specs.declared.marking.Extent.{Extent}
 use Rattle.drv_check.specs.declared.marking.Joint.{Joint}
-use Rattle.drv_check.specs.declared.marking.Reading.{Reading}
-use Rattle.drv_check.specs.declared.marking.Role.TheVariants as role
-use Rattle.drv_check.specs.declared.marking.Role.{Role}
+use Rattle.drv_check.specs.declared.mark_reading.Reading.{Reading}
+use Rattle.drv_check.specs.declared.mark_reading.Role.TheVariants as role
+use Rattle.drv_check.specs.declared.mark_reading.Role.{Role}
 use Rattle.drv_syntax.specs.declared.token.Token.{Token}
 use Rattle.drv_syntax.specs.declared.token.TokenKind.TheVariants as kinds
 use Rattle.drv_syntax.specs.declared.token.TokenKind.{TokenKind}

@@ -5,7 +5,6 @@ pub mod Checks
 pub mod Code
 pub mod Compared
 pub mod Coverage
-pub mod Differing
 pub mod FaultNotes
 pub mod GccNames
 pub mod HiddenPairs

@@ -1,11 +1,11 @@
-use Rattle.drv_check.specs.declared.marking.Before.TheVariants.{Follows, Loops, Opens, Returns, Spaces}
-use Rattle.drv_check.specs.declared.marking.Before.{Before}
+use Rattle.drv_check.specs.declared.mark_reading.Before.TheVariants.{Follows, Loops, Opens, Returns, Spaces}
+use Rattle.drv_check.specs.declared.mark_reading.Before.{Before}
 use Rattle.drv_check.specs.declared.marking.Extent.{Extent}
 use Rattle.drv_check.specs.declared.marking.Joint.TheVariants.{Apart, Joined}
 use Rattle.drv_check.specs.declared.marking.Joint.{Joint}
-use Rattle.drv_check.specs.declared.marking.Reading.{Reading}
-use Rattle.drv_check.specs.declared.marking.Role.TheVariants as role
-use Rattle.drv_check.specs.declared.marking.Role.{Role}
+use Rattle.drv_check.specs.declared.mark_reading.Reading.{Reading}
+use Rattle.drv_check.specs.declared.mark_reading.Role.TheVariants as role
+use Rattle.drv_check.specs.declared.mark_reading.Role.{Role}
 use Rattle.drv_syntax.specs.declared.token.Token.{Token}
 use Rattle.drv_syntax.specs.declared.token.TokenKind.TheVariants as kinds
 use Rattle.drv_syntax.specs.declared.token.TokenKind.{TokenKind}

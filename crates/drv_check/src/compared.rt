@@ -3,7 +3,7 @@
 ghost use Rattle.drv_check.specs.Compared.{asks_switch, is_between, is_call, prefix_of};
 ghost use Rattle.std.specs.Prelude.{◌≡◌, IfOk};
 
-use crate::bytes::is_white;
+use drv_specs::bytes::is_white;
 use drv_syntax::{TestKind, TokenKind};
 use drv_words::Word;
 use std::alloc::{AllocError, Global};

@@ -5,7 +5,9 @@ ghost use Rattle.drv_specs.specs.Directives.{by_keyword, include_directive};
 ghost use Rattle.drv_specs.specs.Lines.{words_of};
 ghost use Rattle.std.specs.Prelude.{◌≡◌, IfOk};
 
-use crate::bytes::{following, next_word, trim, without_blanks, without_last};
+use drv_place::after_first;
+use drv_specs::bytes::{trim, without_blanks, without_last};
+use drv_specs::lines::next_word;
 use drv_words::Word;
 use std::alloc::{AllocError, Global};
 
@@ -46,7 +48,7 @@ fn by_keyword(alloc: Global, line: &[u8]) -> Result<Option<Inclusion>, AllocErro
     if word == b"%rename".as_slice() {
         return Ok(None);
     }
-    let rest = trim(following(line, word.len()));
+    let rest = trim(after_first(line, word.len()));
     let may_miss = word == b"%include_noerr".as_slice();
     if word == b"%include".as_slice() {
         return inclusion_of(alloc, may_miss, rest);

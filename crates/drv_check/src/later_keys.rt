@@ -5,9 +5,9 @@ ghost use Rattle.drv_check.specs.Code.LaterKeys.{ends_seen, flags_of, has_key, h
 ghost use Rattle.drv_check.specs.HiddenPairs.{is_hidden, is_key, key_in};
 ghost use Rattle.std.specs.Prelude.{◌≡◌, ◌||◌, IfOk, List, OnOk, false, get_or, ℕ};
 
-use crate::bytes::following;
 use crate::hidden_pair::{is_hidden, key_in};
 use crate::pieces::Piece;
+use drv_place::after_first;
 use drv_specs::begins_with_at;
 use drv_words::Word;
 use std::alloc::{AllocError, Global};
@@ -117,7 +117,7 @@ fn many_flags(alloc: Global, pieces: &[Piece]) -> Result<Vec<bool>, AllocError>
     let mut keys = LaterKeys::new(alloc);
     let mut place = pieces.len();
     while place > 0 {
-        let later = following(pieces, place);
+        let later = after_first(pieces, place);
         place -= 1;
         let piece = &pieces[place];
         flags.push(keys.hide(alloc, piece, later)?)?;

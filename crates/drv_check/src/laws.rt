@@ -1,11 +1,10 @@
-//! Laws of pieces, of checks, of what a set's texts hold, and of what differs.
+//! Laws of pieces, of checks, and of what a set's texts hold.
 
 ghost use Rattle.drv_check.specs.Agreement.{Agrees, all_loaded, faults_of};
 ghost use Rattle.drv_check.specs.Branches.{covers, names_all};
 ghost use Rattle.drv_check.specs.Checked.{checked};
 ghost use Rattle.drv_check.specs.Checks.{all_called, is_full};
 ghost use Rattle.drv_check.specs.Coverage.{is_true, pattern_of};
-ghost use Rattle.drv_check.specs.Differing.{pairs_of, texts_difference};
 ghost use Rattle.drv_check.specs.FaultNotes.{IsFirst, first_fault, unchecked_over};
 ghost use Rattle.drv_check.specs.LoadingOrder.{loaded_pieces};
 ghost use Rattle.drv_check.specs.MarkWords.{Marked, marked_text};
@@ -86,12 +85,4 @@ pub fn spots_have_bytes()
 pub fn marks_are_in_order()
     ensures { (dump : List ℕ) (parts : List MarkedPart)
         → Marked 0 (length parts) dump (marked_text dump parts) }
-{}
-
-/// The law that nothing is printed of two dumps only if their pairs are the same, in their order
-/// and as often. It takes and gives nothing.
-#[tactic(auto, using(crate::proofs::DumpsDiffer::same_pairs))]
-pub fn no_difference_is_same_pairs()
-    ensures { (first second : List ℕ) → texts_difference first second ≡ []
-        → pairs_of (pieces_of first) ≡ pairs_of (pieces_of second) }
 {}

@@ -53,6 +53,7 @@ pub use told_json::report_json;
 
 // The texts of a set: which of them a plan can use, what in them names switches, and marks before their parts.
 mod compared;
+mod mark_reading;
 mod mark_words;
 mod marking;
 mod naming;
@@ -73,6 +74,6 @@ pub use differing::texts_difference;
 mod laws;
 
 pub use laws::{
-    covered_tests_are_true, first_fault_is_refusal, marks_are_in_order,
-    no_difference_is_same_pairs, noted_fault_is_refusal, pieces_are_directives, spots_have_bytes,
+    covered_tests_are_true, first_fault_is_refusal, marks_are_in_order, noted_fault_is_refusal,
+    pieces_are_directives, spots_have_bytes,
 };

@@ -7,14 +7,15 @@ ghost use Rattle.std.specs.List.{flat_map};
 ghost use Rattle.std.specs.Option.{option_map};
 ghost use Rattle.std.specs.Prelude.{◌≡◌, ◌++◌, IfOk, OnOk};
 
-use crate::bytes::{blanks_before, following, next_word};
+use crate::bytes::blanks_before;
 use crate::findings::{Source, Spot};
 use crate::heads::HeadedPieces;
 use crate::opening::{OpenFile, open_file};
 use crate::own_text::own_start;
 use crate::pieces::Piece;
 use crate::pointing::{body_start, colon_in, is_addition};
-use drv_place::{LentPlaces, Places};
+use drv_place::{LentPlaces, Places, after_first};
+use drv_specs::lines::next_word;
 use drv_words::Word;
 use std::alloc::{AllocError, Global};
 use std::marker::Model;
@@ -115,7 +116,7 @@ fn loaded_piece(alloc: Global, file: &OpenFile, piece: &Piece) -> Result<LoadedP
     Ok(LoadedPiece {
         spot: piece_spot(file, piece),
         head: kept_head(alloc, text)?,
-        adds: is_addition(following(text, body_start(text))),
+        adds: is_addition(after_first(text, body_start(text))),
         places,
         renaming: renaming_of(alloc, text)?,
     })

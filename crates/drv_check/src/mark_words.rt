@@ -3,8 +3,8 @@
 ghost use Rattle.drv_check.specs.MarkWords.{mark_text, mark_word, marked_text, with_marks};
 ghost use Rattle.std.specs.Prelude.{◌≡◌, ◌++◌, IfOk, OnOk, drop, length, take};
 
-use crate::bytes::following;
 use crate::marking::{Joint, MarkedPart};
+use drv_place::after_first;
 use drv_words::Word;
 use itoa::Buffer;
 use std::alloc::{AllocError, Global};
@@ -50,7 +50,7 @@ pub fn marked_text(alloc: Global, dump: &[u8], parts: &[MarkedPart]) -> Result<W
         let count = part.at.saturating_sub(at);
         text.extend_from_slice(first_bytes(left, count))?;
         push_mark(&mut text, part.joint, number)?;
-        left = following(left, count);
+        left = after_first(left, count);
         at = part.at;
         number += 1;
     }

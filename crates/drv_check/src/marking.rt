@@ -4,16 +4,14 @@
 //! words show which part gave them (`drv_why`).
 
 ghost use Rattle.drv_check.specs.Code.PlainRuns.{extent_if, follows, read_to};
-ghost use Rattle.drv_check.specs.MarkedParts.{after_blank, after_role, after_test, before_at, ends_starred, first_in, goes_on, has_left};
-ghost use Rattle.drv_check.specs.MarkedParts.{heads_named_text, inside_until, is_entered, is_item};
-ghost use Rattle.drv_check.specs.MarkedParts.{is_nested, is_passed, joint_after, joint_of};
-ghost use Rattle.drv_check.specs.MarkedParts.{part_end, parts_from, parts_of, read_by, read_token};
-ghost use Rattle.drv_check.specs.MarkedParts.{read_until, role_of};
+ghost use Rattle.drv_check.specs.MarkedParts.{before_at, first_in, goes_on, heads_named_text, is_item};
+ghost use Rattle.drv_check.specs.MarkedParts.{is_nested, is_passed, joint_after, joint_of, part_end};
+ghost use Rattle.drv_check.specs.MarkedParts.{parts_from, parts_of, read_by, role_of};
 ghost use Rattle.drv_check.specs.Markings.{headed_parts, marked_part, marked_parts, piece_parts, tree_parts};
 ghost use Rattle.drv_check.specs.OwnTexts.{own_start, own_text, own_tree};
-ghost use Rattle.drv_check.specs.declared.marking.Before.TheVariants.{Follows};
-ghost use Rattle.drv_check.specs.declared.marking.Reading.{Reading};
-ghost use Rattle.drv_check.specs.declared.marking.Role.TheVariants.{Item};
+ghost use Rattle.drv_check.specs.declared.mark_reading.Before.TheVariants.{Follows};
+ghost use Rattle.drv_check.specs.declared.mark_reading.Reading.{Reading};
+ghost use Rattle.drv_check.specs.declared.mark_reading.Role.TheVariants.{Item};
 ghost use Rattle.drv_syntax.specs.Parsed.{tree_of};
 ghost use Rattle.drv_syntax.specs.Tokens.{tokens_of};
 ghost use Rattle.std.specs.List.{flat_map};
@@ -22,6 +20,9 @@ ghost use Rattle.std.specs.Prelude.{◌≡◌, ◌∷◌, ◌++◌, ◌+◌, ◌
 use crate::findings::{Source, Spot};
 use crate::known_trees::{PairPlaces, known_tree};
 use crate::loading_order::{LoadedFiles, head_in};
+use crate::mark_reading::{
+    Before, Reading, Role, before_at, is_item, is_nested, is_passed, read_by, role_of,
+};
 use crate::origins::{Files, Spots, spot_at};
 use crate::own_text::{own_bytes, own_start, tree_of};
 use crate::pieces::{Piece, pieces_of};
@@ -55,48 +56,6 @@ pub enum Joint {
     Joined,
 }
 
-/// What precedes the next token in its list and command.
-#[derive(Clone, Copy, Debug)]
-pub(crate) enum Before {
-    /// Nothing, or blanks.
-    Opens,
-    /// Nothing, in a list that may give words for each of several switches, or in a text that
-    /// others name: its words may be given more than once, so each time begins with a mark.
-    Loops,
-    /// An item without marks inside.
-    Follows,
-    /// An item that may have marks inside.
-    Returns,
-    /// An item, and blanks.
-    Spaces,
-}
-
-/// What a token is for marks.
-#[derive(Clone, Copy, Debug)]
-pub(crate) enum Role {
-    /// A blank.
-    Blank,
-    /// A command or a list begins after it.
-    Break,
-    /// A test, after which a list begins.
-    Test,
-    /// An item that may have marks inside.
-    Nested,
-    /// Another item.
-    Item,
-}
-
-/// The tokens of a text, as far as they were read.
-#[derive(Clone, Copy, Debug)]
-pub(crate) struct Reading {
-    /// What precedes the next one.
-    pub(crate) before: Before,
-    /// Those that begin before this byte are passed over.
-    pub(crate) until: u32,
-    /// Where the last alternative ends.
-    pub(crate) inside: u32,
-}
-
 /// The bytes of a text from one place up to another.
 #[derive(Clone, Copy, Debug)]
 pub(crate) struct Extent {
@@ -106,151 +65,6 @@ pub(crate) struct Extent {
     pub(crate) end: u32,
     /// How the mark before them is put.
     pub(crate) joint: Joint,
-}
-
-/// What a token is for marks.
-fn role_of(kind: TokenKind) -> Role
-    ensures { result ≡ role_of kind }
-{
-    match kind {
-        TokenKind::Blank => Role::Blank,
-        TokenKind::Newline | TokenKind::Pipe | TokenKind::Alternative => Role::Break,
-        TokenKind::Test => Role::Test,
-        TokenKind::NamedText | TokenKind::BuiltinText => Role::Nested,
-        TokenKind::Function | TokenKind::Choose => Role::Nested,
-        _ => Role::Item,
-    }
-}
-
-/// Whether a token is an item of a part.
-fn is_item(role: Role) -> bool
-    ensures { result ≡ is_item role }
-{
-    matches!(role, Role::Nested | Role::Item)
-}
-
-/// Whether a token is an item that may have marks inside.
-fn is_nested(role: Role) -> bool
-    ensures { result ≡ is_nested role }
-{
-    matches!(role, Role::Nested)
-}
-
-/// What precedes the token after a blank.
-fn after_blank(before: Before) -> Before
-    ensures { result ≡ after_blank before }
-{
-    match before {
-        Before::Opens => Before::Opens,
-        Before::Loops | Before::Follows | Before::Returns | Before::Spaces => Before::Spaces,
-    }
-}
-
-/// Whether a star is the last byte before this place.
-fn ends_starred(text: &[u8], end: u32) -> bool
-    ensures { result ≡ ends_starred text.now end }
-{
-    match text.get(end.saturating_sub(1) as usize) {
-        Some(byte) => *byte == b'*',
-        None => false,
-    }
-}
-
-/// What precedes the token after a test that has a star at its end or none.
-fn after_test(before: Before, starred: bool) -> Before
-    ensures { result ≡ after_test before starred }
-{
-    match before {
-        Before::Loops => Before::Loops,
-        Before::Opens | Before::Follows | Before::Returns | Before::Spaces => {
-            if starred {
-                Before::Loops
-            } else {
-                Before::Opens
-            }
-        }
-    }
-}
-
-/// What precedes the token after this one.
-fn after_role(before: Before, role: Role, starred: bool) -> Before
-    ensures { result ≡ after_role before role starred }
-{
-    match role {
-        Role::Blank => after_blank(before),
-        Role::Break => Before::Opens,
-        Role::Test => after_test(before, starred),
-        Role::Nested => Before::Returns,
-        Role::Item => Before::Follows,
-    }
-}
-
-/// Whether the tokens inside are read.
-fn is_entered(kind: TokenKind) -> bool
-    ensures { result ≡ is_entered kind }
-{
-    matches!(kind, TokenKind::Choose | TokenKind::Alternative)
-}
-
-/// The byte before which tokens are passed over after this one.
-fn read_until(token: Token) -> u32
-    ensures { result ≡ read_until token }
-{
-    if is_entered(token.kind) {
-        token.start
-    } else {
-        token.end
-    }
-}
-
-/// Where the last alternative ends after a token that ends here.
-fn inside_until(kind: TokenKind, end: u32, inside: u32) -> u32
-    ensures { result ≡ inside_until kind end inside }
-{
-    match kind {
-        TokenKind::Alternative => end,
-        _ => inside,
-    }
-}
-
-/// Whether a choice ends before this place.
-fn has_left(reading: Reading, start: u32) -> bool
-    ensures { result ≡ has_left reading start }
-{
-    reading.inside <= start && start != reading.until
-}
-
-/// What precedes a token that begins here.
-fn before_at(reading: Reading, start: u32) -> Before
-    ensures { result ≡ before_at reading start }
-{
-    if has_left(reading, start) {
-        Before::Returns
-    } else {
-        reading.before
-    }
-}
-
-/// Whether a token is passed over.
-fn is_passed(reading: Reading, token: Token) -> bool
-    ensures { result ≡ is_passed reading token }
-{
-    token.start < reading.until
-}
-
-/// The tokens of a text with one more.
-fn read_by(text: &[u8], reading: Reading, token: Token) -> Reading
-    ensures { result ≡ read_by text.now reading token }
-{
-    if is_passed(reading, token) {
-        return reading;
-    }
-    let before = before_at(reading, token.start);
-    Reading {
-        before: after_role(before, role_of(token.kind), ends_starred(text, token.end)),
-        until: read_until(token),
-        inside: inside_until(token.kind, token.end, reading.inside),
-    }
 }
 
 /// How a mark is put after what precedes an item, if it has one.

@@ -7,12 +7,11 @@ ghost use Rattle.drv_words.specs.Bytes.{asterisk};
 ghost use Rattle.std.specs.Cmp.Lexicographic.{pointwise};
 ghost use Rattle.std.specs.Prelude.{◌≡◌, ◌∷◌, ◌++◌, [], IfOk, IfSome, IsTrue, OnOk, false, nat_eq, reverse, slice_get};
 
-use crate::bytes::following;
 use crate::findings::{Source, Spot};
 use crate::heads::HeadedPieces;
 use crate::known_trees::PairPlaces;
 use crate::loading_order::{LoadedPiece, Renaming};
-use drv_place::LentPlaces;
+use drv_place::{LentPlaces, after_first};
 use drv_specs::SpecSet;
 use drv_words::Word;
 use std::alloc::{AllocError, Global};
@@ -175,7 +174,7 @@ fn agree(sources: &[Source], spots: &[Spot], text: &[u8]) -> bool
 fn if_agreed<'a>(sources: &[Source], text: &[u8], spots: &'a [Spot]) -> &'a [Spot]
     ensures { result.now ≡ if_agreed sources.now text.now spots.now }
 {
-    let last = following(text, text.len().saturating_sub(spots.len()));
+    let last = after_first(text, text.len().saturating_sub(spots.len()));
     if agree(sources, spots, last) {
         spots
     } else {
@@ -187,7 +186,7 @@ fn if_agreed<'a>(sources: &[Source], text: &[u8], spots: &'a [Spot]) -> &'a [Spo
 fn last_spots<'a>(spots: &'a [Spot], text: &[u8]) -> &'a [Spot]
     ensures { result.now ≡ last_spots spots.now text.now }
 {
-    following(spots, spots.len().saturating_sub(text.len()))
+    after_first(spots, spots.len().saturating_sub(text.len()))
 }
 
 /// Where the last bytes of a text are in files: those that one directive gives, which are in one
@@ -309,7 +308,7 @@ fn agreed_places<'a>(sources: &[Source], piece: &'a LoadedPiece, text: &[u8]) ->
         return LentPlaces::none();
     };
     let last = places.after(places.len().saturating_sub(text.len()));
-    let bytes = following(text, text.len().saturating_sub(last.len()));
+    let bytes = after_first(text, text.len().saturating_sub(last.len()));
     if last.has_bytes(source.text.as_bytes(), bytes) {
         last
     } else {

@@ -5,8 +5,8 @@ ghost use Rattle.drv_check.specs.OwnTexts.{own_start, own_text, own_tree, plus_l
 ghost use Rattle.drv_syntax.specs.Parsed.{tree_of};
 ghost use Rattle.std.specs.Prelude.{◌≡◌, ◌≤◌, ◌+◌, IfOk, IfSome, length};
 
-use crate::bytes::following;
 use crate::pointing::{body_start, colon_in, is_addition};
+use drv_place::after_first;
 use drv_syntax::{SpecTree, SyntaxFault, parse};
 use std::alloc::{AllocError, Global};
 
@@ -24,14 +24,14 @@ pub(crate) fn own_start(text: &[u8]) -> usize
     ensures within { result ≤ length text.now + 1 }
 {
     let start = body_start(text);
-    start + plus_length(is_addition(following(text, start)))
+    start + plus_length(is_addition(after_first(text, start)))
 }
 
 /// The text that a piece gives.
 pub(crate) fn own_bytes(text: &[u8]) -> &[u8]
     ensures { result.now ≡ own_text text.now }
 {
-    following(text, own_start(text))
+    after_first(text, own_start(text))
 }
 
 /// The tree of a text, if it has one.

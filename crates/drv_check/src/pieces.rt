@@ -7,9 +7,10 @@ ghost use Rattle.drv_check.specs.Pieces.{longer, opened_by, piece_of, pieces_cut
 ghost use Rattle.drv_specs.specs.Lines.{lines_of};
 ghost use Rattle.std.specs.Prelude.{◌≡◌, ◌++◌, IfOk, OnOk};
 
-use crate::bytes::{cut_line, is_empty_line, without_blanks};
 use crate::pointing::colon_in;
 use crate::warning::{begins_keyword, name_precedes};
+use drv_specs::bytes::{is_empty_line, without_blanks};
+use drv_specs::lines::cut_line;
 use drv_words::{Listing, Word};
 use std::alloc::{AllocError, Global};
 

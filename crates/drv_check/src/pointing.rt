@@ -8,8 +8,9 @@ ghost use Rattle.std.specs.List.{position};
 ghost use Rattle.std.specs.Option.{option_map};
 ghost use Rattle.std.specs.Prelude.{◌≡◌, ◌≤◌, ◌<◌, IfSome, length};
 
-use crate::bytes::{blanks_before, following, is_blank, white_before};
-use drv_place::LentPlaces;
+use crate::bytes::{blanks_before, white_before};
+use drv_place::{LentPlaces, after_first};
+use drv_specs::bytes::is_blank;
 use drv_specs::{SpecSet, SpecsFault};
 use drv_syntax::SyntaxFault;
 
@@ -100,7 +101,7 @@ fn place_in_addition(
         Some(size) => rest.get(number - size),
         None if number == 0 => None,
         None => {
-            let white = white_before(following(body, 1));
+            let white = white_before(after_first(body, 1));
             rest.after(white).get(number - 1)
         }
     }
@@ -146,7 +147,7 @@ fn percent_place(
     let number = percent?;
     let start = body_start(text);
     let old = old_length(set, name_in(text));
-    in_body(old, following(text, start), &places.after(start), number)
+    in_body(old, after_first(text, start), &places.after(start), number)
 }
 
 /// The place of a fault in a file of this size, of a piece whose bytes are at these places.

@@ -15,7 +15,6 @@ ghost use Rattle.std.specs.Option.{option_map};
 ghost use Rattle.std.specs.Prelude.{◌≡◌, ◌<◌, ◌^◌, ◌++◌, OnOk, length};
 
 use crate::branches::push_choices;
-use crate::bytes::is_white;
 use crate::findings::Warning;
 use crate::lost_marks::{lone_size, push_all_lost};
 use crate::never_true::switch_warning;
@@ -24,6 +23,7 @@ use crate::pointing::name_in;
 use crate::unused_text::{Names, Whole, gcc_has};
 use crate::warning::Mark;
 use drv_match::Pattern;
+use drv_specs::bytes::is_white;
 use drv_syntax::{SpecTree, TestKind, Token, TokenKind};
 use std::alloc::{AllocError, Global};
 

@@ -1,12 +1,8 @@
 //! What a check prints of findings, as text.
 
-ghost use Rattle.drv_check.specs.Shown.{is_continuing, line_back, line_front, pad, pad_byte};
-ghost use Rattle.drv_check.specs.Shown.{padding, shown, takes_no_column};
-ghost use Rattle.drv_check.specs.Told.{all_told_text, excerpt, from_text, head_text, kind_text};
-ghost use Rattle.drv_check.specs.Told.{place_text, report_text};
-ghost use Rattle.drv_check.specs.Told.{rest_text, told_text};
-ghost use Rattle.std.specs.List.{flat_map};
-ghost use Rattle.std.specs.Prelude.{◌≡◌, ◌≤◌, ◌++◌, IfOk, OnOk, decimal, length, take};
+ghost use Rattle.drv_check.specs.Shown.{line_back, line_front};
+ghost use Rattle.drv_check.specs.Told.{place_text};
+ghost use Rattle.std.specs.Prelude.{◌≡◌, ◌≤◌, ◌++◌, OnOk, decimal, length, take};
 
 use crate::escaping::is_control;
 use drv_words::{Listing, Word};
@@ -104,26 +100,12 @@ pub(crate) fn push_place(text: &mut Word, place: &Place) -> Result<(), AllocErro
 }
 
 /// What one finding is.
-pub(crate) fn kind_text(is_error: bool) -> &'static str
-    ensures { result.now ≡ kind_text is_error }
-{
+pub(crate) fn kind_text(is_error: bool) -> &'static str {
     if is_error { "error" } else { "warning" }
 }
 
-/// Adds what begins the line of a finding.
-fn push_head(text: &mut Word, place: &Option<Place>) -> Result<(), AllocError>
-    ensures { OnOk result (text.new ≡ text.old ++ head_text place.now) }
-{
-    match place {
-        Some(place) => push_place(text, place),
-        None => text.extend_from_slice(b"gdrv-specs"),
-    }
-}
-
 /// Adds bytes of a line, without carriage returns.
-fn push_shown(text: &mut Word, line: &[u8]) -> Result<(), AllocError>
-    ensures { OnOk result (text.new ≡ text.old ++ shown line.now) }
-{
+fn push_shown(text: &mut Word, line: &[u8]) -> Result<(), AllocError> {
     for &byte in line {
         if byte != b'\r' {
             text.push(byte)?;
@@ -132,145 +114,70 @@ fn push_shown(text: &mut Word, line: &[u8]) -> Result<(), AllocError>
     Ok(())
 }
 
-/// The byte that a byte before the caret has below it.
-fn pad_byte(byte: u8) -> u8
-    ensures { result ≡ pad_byte byte }
-{
-    if byte == b'\t' { b'\t' } else { b' ' }
-}
-
-/// The first byte that goes on a character of UTF-8.
-const FIRST_CONTINUING: u8 = 0x80;
-/// The last one.
-const LAST_CONTINUING: u8 = 0xBF;
-
-/// Whether a byte goes on a character.
-fn is_continuing(byte: u8) -> bool
-    ensures { result ≡ is_continuing byte }
-{
-    FIRST_CONTINUING <= byte && byte <= LAST_CONTINUING
-}
-
-/// Whether a byte takes no column.
-fn takes_no_column(byte: u8) -> bool
-    ensures { result ≡ takes_no_column byte }
-{
-    byte == b'\r' || is_continuing(byte)
-}
-
-/// Adds what a byte that takes a column has below it.
-fn push_pad(text: &mut Word, byte: u8) -> Result<(), AllocError>
-    ensures { OnOk result (text.new ≡ text.old ++ pad byte) }
-{
-    if is_control(byte) {
-        text.extend_from_slice(b"    ")
-    } else {
-        text.push(pad_byte(byte))
-    }
-}
-
-/// Adds the bytes that those of a line before the caret have below them.
-fn push_padding(text: &mut Word, line: &[u8]) -> Result<(), AllocError>
-    ensures { OnOk result (text.new ≡ text.old ++ padding line.now) }
-{
+/// Adds what is below the bytes of a line before the caret, each by the columns that it takes: a byte
+/// that goes on a character of UTF-8 has none (RFC 3629, section 3), and of a control byte the number is
+/// shown.
+fn push_padding(text: &mut Word, line: &[u8]) -> Result<(), AllocError> {
     for &byte in line {
-        if !takes_no_column(byte) {
-            push_pad(text, byte)?;
+        match byte {
+            b'\r' | 0x80..=0xBF => {}
+            b'\t' => text.push(b'\t')?,
+            _ if is_control(byte) => text.extend_from_slice(b"    ")?,
+            _ => text.push(b' ')?,
         }
     }
     Ok(())
 }
 
-/// Adds the line of a place, and a caret below its byte.
-fn push_excerpt(
-    text: &mut Word,
-    place: &Option<Place>,
-    before: &[u8],
-    after: &[u8],
-) -> Result<(), AllocError>
-    ensures { OnOk result (text.new ≡ text.old ++ excerpt place.now before.now after.now) }
-{
-    if place.is_none() {
-        return Ok(());
-    }
-    text.extend_from_slice(b" ")?;
+/// Adds the line of a finding, a caret below its byte, and where its file is included.
+fn push_excerpt(text: &mut Word, told: &Told) -> Result<(), AllocError> {
+    let before = told.before.as_bytes();
+    text.push(b' ')?;
     push_shown(text, before)?;
-    push_shown(text, after)?;
+    push_shown(text, told.after.as_bytes())?;
     text.extend_from_slice(b"\n ")?;
     push_padding(text, before)?;
-    text.extend_from_slice(b"^\n")
-}
-
-/// Adds where a file is included.
-fn push_from(text: &mut Word, place: &Place) -> Result<(), AllocError>
-    ensures { OnOk result (text.new ≡ text.old ++ from_text place.now) }
-{
-    text.extend_from_slice(b"  included from ")?;
-    push_place(text, place)?;
-    text.extend_from_slice(b"\n")
-}
-
-/// Adds where files are included.
-fn push_all_from(text: &mut Word, places: &[Place]) -> Result<(), AllocError>
-    ensures { OnOk result (text.new ≡ text.old ++ flat_map from_text places.now) }
-{
-    for place in places {
-        push_from(text, place)?;
+    text.extend_from_slice(b"^\n")?;
+    for place in told.from.as_slice() {
+        text.extend_from_slice(b"  included from ")?;
+        push_place(text, place)?;
+        text.push(b'\n')?;
     }
     Ok(())
 }
 
 /// Adds the text of one finding.
-fn push_told(text: &mut Word, told: &Told) -> Result<(), AllocError>
-    ensures { OnOk result (text.new ≡ text.old ++ told_text told.now) }
-{
-    push_head(text, &told.place)?;
+fn push_told(text: &mut Word, told: &Told) -> Result<(), AllocError> {
+    match &told.place {
+        Some(place) => push_place(text, place)?,
+        None => text.extend_from_slice(b"gdrv-specs")?,
+    }
     text.extend_from_slice(b": ")?;
     text.extend_from_slice(kind_text(told.is_error).as_bytes())?;
     text.extend_from_slice(b": ")?;
     text.extend_from_slice(told.message.as_bytes())?;
-    text.extend_from_slice(b"\n")?;
-    push_excerpt(
-        text,
-        &told.place,
-        told.before.as_bytes(),
-        told.after.as_bytes(),
-    )?;
-    push_all_from(text, told.from.as_slice())
-}
-
-/// Adds the text of findings.
-fn push_all_told(text: &mut Word, all: &[Told]) -> Result<(), AllocError>
-    ensures { OnOk result (text.new ≡ text.old ++ all_told_text all.now) }
-{
-    for told in all {
-        push_told(text, told)?;
+    text.push(b'\n')?;
+    if told.place.is_some() {
+        return push_excerpt(text, told);
     }
     Ok(())
 }
 
-/// Adds the line about what isn't shown.
-fn push_rest(text: &mut Word, unshown: Option<usize>) -> Result<(), AllocError>
-    ensures { OnOk result (text.new ≡ text.old ++ rest_text unshown) }
-{
-    match unshown {
-        None => text.extend_from_slice(b"gdrv-specs: stopped at 100 errors\n"),
-        Some(0) => Ok(()),
-        Some(more) => {
-            text.extend_from_slice(b"gdrv-specs: ")?;
-            push_number(text, more)?;
-            text.extend_from_slice(b" more not shown\n")
-        }
-    }
-}
-
 /// The text of a report: for each finding its place and what it is, then its line with a caret below
 /// its byte, and where its file is included; at the end how many more there are.
-pub fn report_text(alloc: Global, report: &Report) -> Result<Word, AllocError>
-    ensures { IfOk result (λ text. text ≡ report_text report.now) }
-{
+pub fn report_text(alloc: Global, report: &Report) -> Result<Word, AllocError> {
     let mut text = Word::empty(alloc);
-    push_all_told(&mut text, report.told.as_slice())?;
-    push_rest(&mut text, report.unshown)?;
+    for told in report.told.as_slice() {
+        push_told(&mut text, told)?;
+    }
+    match report.unshown {
+        None => text.extend_from_slice(b"gdrv-specs: stopped at 100 errors\n")?,
+        Some(0) => {}
+        Some(more) => {
+            text.extend_from_slice(b"gdrv-specs: ")?;
+            push_number(&mut text, more)?;
+            text.extend_from_slice(b" more not shown\n")?;
+        }
+    }
     Ok(text)
 }

@@ -11,13 +11,14 @@ ghost use Rattle.std.specs.List.{flat_map};
 ghost use Rattle.std.specs.Option.{option_map};
 ghost use Rattle.std.specs.Prelude.{◌≡◌, ◌<◌, ◌++◌, IfOk, OnOk, length};
 
-use crate::bytes::{blanks_before, following};
+use crate::bytes::blanks_before;
 use crate::findings::{Source, Warning};
 use crate::opening::open_file;
 use crate::own_text::own_tree;
 use crate::pieces::Piece;
 use crate::pointing::{body_start, is_addition, name_in};
 use crate::warning::{Mark, is_self_spec};
+use drv_place::after_first;
 use drv_specs::SpecSet;
 use drv_syntax::{SpecTree, TokenKind};
 use drv_words::Word;
@@ -205,7 +206,7 @@ fn is_unused(whole: &Whole<'_>, name: Option<&[u8]>) -> bool
 fn puts_text(text: &[u8]) -> bool
     ensures { result ≡ puts_text text.now }
 {
-    !is_addition(following(text, body_start(text))) || is_self_spec(name_in(text))
+    !is_addition(after_first(text, body_start(text))) || is_self_spec(name_in(text))
 }
 
 /// Adds the warning of a piece whose text no other one works.

@@ -9,11 +9,14 @@ ghost use Rattle.std.specs.List.{list_all};
 ghost use Rattle.std.specs.Option.{option_map};
 ghost use Rattle.std.specs.Prelude.{◌≡◌, ◌<◌, ◌^◌, ◌+◌, ◌++◌, IfOk, OnOk, length};
 
-use crate::bytes::{blanks_before, cut_line, following, has_byte, next_word, without_blanks};
+use crate::bytes::blanks_before;
 use crate::findings::Warning;
 use crate::pointing::{body_start, colon_in, is_addition, name_in, old_length};
 use crate::unused_text::{Names, gcc_has_named};
+use drv_place::after_first;
 use drv_specs::SpecSet;
+use drv_specs::bytes::{has_byte, without_blanks};
+use drv_specs::lines::{cut_line, next_word};
 use std::alloc::{AllocError, Global};
 
 /// A warning at a byte of a piece. (The marks before parts of a text are another notion: `marking.rt`.)
@@ -90,7 +93,7 @@ fn push_append(
     ensures { OnOk result
         (marks.new.items ≡ marks.old.items ++ append_marks whose set.now text.now) }
 {
-    let body = following(text, body_start(text));
+    let body = after_first(text, body_start(text));
     let name = name_in(text);
     if adds_to_nothing(old_length(set, name), body) && !may_be_missing(whose, name) {
         marks.push(Mark {

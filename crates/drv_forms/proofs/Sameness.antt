@@ -1,10 +1,7 @@
 use Rattle.drv_forms.proofs.Edited.{makes}
-use Rattle.drv_forms.proofs.Lists.{append_empty_left, append_empty_right}
-use Rattle.drv_forms.specs.Difference.{changes, changes_text, difference, edits_text, entries_text, lines_changes, pair_changes, replacement}
+use Rattle.drv_forms.specs.Difference.{difference, lines_changes, pair_changes, replacement}
 use Rattle.drv_forms.specs.Edits.{Makes, comes, edits, ends, goes, stays}
 use Rattle.drv_forms.specs.Entries.{entries}
-use Rattle.drv_forms.specs.declared.comparing.LineChange.{LineChange}
-use Rattle.drv_forms.specs.declared.editing.Edit.TheVariants.{Comes, Goes}
 use Rattle.drv_forms.specs.declared.editing.Edit.{Edit}
 use Rattle.drv_words.proofs.ReadBack.{one_list}
 use Rattle.drv_words.proofs.Shown.{shown_text}
@@ -15,9 +12,9 @@ use Rattle.drv_words.specs.declared.plan.PlanLine.{PlanLine}
 use Rattle.std.proofs.Common.{◌≡◌, ◌∙◌, Bool, false, true, List, [], ◌∷◌, ◌++◌, ap, append-nil, nat_eq, refl, sym, ℕ}
 use Rattle.std.specs.Cmp.Lexicographic.{pointwise, same_text}
 
--- For `no_difference_is_same` (src/laws.rt): nothing is printed of two plans only if they are the same.
--- Names: `line` and `other` are lines of the two plans at one place, `lines` and `others` those behind them. `none` is that nothing is
--- printed. `found` is edits, and `made` is that they make the one list the other. `t`: a test's value, so that `by` can go by both cases.
+-- For `no_difference_is_same` (src/laws.rt): nothing differs between two plans only if they are the same.
+-- Names: `line` and `other` are lines of the two plans at one place, `lines` and `others` those behind them. `none` is that nothing
+-- differs. `found` is edits, and `made` is that they make the one list the other. `t`: a test's value, so that `by` can go by both cases.
 
 -- the first of lists that are the same
 heads : (line other : PlanLine) → line ∷ [] ≡ other ∷ [] → line ≡ other
@@ -30,12 +27,8 @@ line_known line other same =
     (one_list (line_text line) (line ∷ []) (other ∷ []) (shown_text (line_text line) (line ∷ []) (sym (append-nil (line_text line))))
     (shown_text (line_text line) (other ∷ []) (same ∙ sym (append-nil (line_text other)))))
 
--- two lines that differ are printed
-printed : (line other : PlanLine) (changes : List LineChange) → changes_text (replacement line other ∷ changes) ≡ [] → ⊥
-printed line other changes none = absurd cc
-
 -- lines without a change are the same
-unchanged : (lines others : List PlanLine) → changes_text (lines_changes lines others) ≡ [] → lines ≡ others
+unchanged : (lines others : List PlanLine) → lines_changes lines others ≡ [] → lines ≡ others
 unchanged [] [] none = refl
 unchanged [] (other ∷ others) none = absurd cc
 unchanged (line ∷ lines) [] none = absurd cc
@@ -43,18 +36,12 @@ unchanged (line ∷ lines) (other ∷ others) none =
     by (pointwise nat_eq (line_text line) (line_text other)) refl (unchanged lines others) none
   where
     by : (t : Bool) → pointwise nat_eq (line_text line) (line_text other) ≡ t
-        → (changes_text (lines_changes lines others) ≡ [] → lines ≡ others)
-        → changes_text (pair_changes line other ++ lines_changes lines others) ≡ [] → line ∷ lines ≡ other ∷ others
+        → (lines_changes lines others ≡ [] → lines ≡ others)
+        → pair_changes line other ++ lines_changes lines others ≡ [] → line ∷ lines ≡ other ∷ others
     by true is later none =
         ap (λ l. l ∷ lines) (line_known line other (same_text (line_text line) (line_text other) (sym is)))
         ∙ ap (λ ls. other ∷ ls) (later (rw is at none))
-    by false is later none = absurd (printed line other (lines_changes lines others) (rw is at none))
-
--- edits that print nothing are none
-unprinted : (found : List Edit) → edits_text found ≡ [] → found ≡ []
-unprinted [] none = refl
-unprinted (Goes word ∷ found) none = absurd cc
-unprinted (Comes word ∷ found) none = absurd cc
+    by false is later none = absurd (let z : replacement line other ∷ lines_changes lines others ≡ [] = rw is at none in cc)
 
 -- words that no edit changes are the same
 unedited : {words others : List (List ℕ)} {found : List Edit} → Makes words found others → found ≡ [] → words ≡ others
@@ -67,14 +54,10 @@ unedited (comes made) none = absurd cc
 pub no_edits_same : (words others : List (List ℕ)) → edits words others ≡ [] → words ≡ others
 no_edits_same words others none = unedited (makes words others) none
 
--- plans without a difference have the same lines
-pub same_lines : (plan other : Plan) → difference plan other ≡ [] → lines_of plan ≡ lines_of other
-same_lines plan other none =
-    unchanged (lines_of plan) (lines_of other) (append_empty_left (changes_text (changes plan other)) (entries_text plan other) none)
+-- plans whose lines have no change have the same lines
+pub same_lines : (plan other : Plan) → (difference plan other).lines ≡ [] → lines_of plan ≡ lines_of other
+same_lines plan other none = unchanged (lines_of plan) (lines_of other) none
 
--- and the same beside these
-pub same_entries : (plan other : Plan) → difference plan other ≡ [] → entries plan ≡ entries other
-same_entries plan other none =
-    no_edits_same (entries plan) (entries other)
-    (unprinted (edits (entries plan) (entries other))
-    (append_empty_right (changes_text (changes plan other)) (entries_text plan other) none))
+-- and the same beside these, if nothing goes or comes there
+pub same_entries : (plan other : Plan) → (difference plan other).entries ≡ [] → entries plan ≡ entries other
+same_entries plan other none = no_edits_same (entries plan) (entries other) none

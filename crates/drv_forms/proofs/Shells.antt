@@ -1,5 +1,5 @@
 use Rattle.drv_forms.specs.Shell.{Outside, Quoted, Rest, Values, after_blank, after_bytes, bare_variable, begins, bytes_of, inside, moved}
-use Rattle.drv_forms.specs.Shell.{moved_after, quoted, quoted_variable, read, shell_text, shell_word, shell_words, stem_name, stem_text}
+use Rattle.drv_forms.specs.Shell.{moved_after, quoted, quoted_variable, read, shell_words, stem_name, stem_text}
 use Rattle.drv_forms.specs.Shell.{stem_word, words_of}
 use Rattle.drv_words.specs.Printed.{is_bare, is_plain}
 use Rattle.std.proofs.Common.{◌≡◌, Bool, false, true, ◌&&◌, ◌==◌, ◌-◌, List, [], ◌∷◌, ◌++◌, None, Option, Some, if◌then◌else◌, option_map}
@@ -10,7 +10,7 @@ use Rattle.std.proofs.lemmas.Slice.Eq.{starts_is}
 use Rattle.std.specs.List.{list_all, starts_with}
 use Rattle.std.specs.Prelude.{map}
 
--- For `shell_word` and `stem_line` (src/shell.rt): the shell reads a word that was written for it as that word, with the variable's value
+-- For `words_are_read_back` (src/laws.rt): the shell reads a word that was written for it as that word, with the variable's value
 -- for each stem.
 -- Names: `b`, `t`: a test's value, so that `by` can go by both cases. `read`: what the shell reads from a place on. `after_bytes`: bytes
 -- before a rest belong to its word. `inside`: what is between single quotes.
@@ -206,33 +206,23 @@ all_same : (f : List ℕ → List ℕ) (words : List (List ℕ)) → ((word : Li
 all_same f [] same = refl
 all_same f (word ∷ words) same = ap (λ w. w ∷ map f words) (same word) ∙ ap (λ w. word ∷ w) (all_same f words same)
 
--- for `stem_line` (src/shell.rt): the shell reads its text as the words with the variable's value for each stem
-pub stems_read : (text stem : List ℕ) (words : List (List ℕ)) → text ≡ stem_text stem words
-    → (values : Values) → shell_words values text ≡ Some (map (moved stem (values stem_name)) words)
-stems_read text stem words is values =
-    ap (shell_words values) is ∙ ap (option_map (λ rest. words_of rest.going_on rest.words)) (line_read values stem words)
+-- for `words_are_read_back` (src/laws.rt): the shell reads the text as the words with the variable's value for each stem
+pub stems_read : (values : Values) (stem : List ℕ) (words : List (List ℕ))
+    → shell_words values (stem_text stem words) ≡ Some (map (moved stem (values stem_name)) words)
+stems_read values stem words = ap (option_map (λ rest. words_of rest.going_on rest.words)) (line_read values stem words)
 
--- for `stem_line`: with the stem for the variable's value the shell reads its text as the words
-pub stems_same : (text stem : List ℕ) (words : List (List ℕ)) → text ≡ stem_text stem words
-    → (values : Values) → values stem_name ≡ stem → shell_words values text ≡ Some words
-stems_same text stem words is values has =
-    stems_read text stem words is values
+-- with the stem for the variable's value the shell reads the text as the words
+pub stems_same : (values : Values) (stem : List ℕ) (words : List (List ℕ)) → values stem_name ≡ stem
+    → shell_words values (stem_text stem words) ≡ Some words
+stems_same values stem words has =
+    stems_read values stem words
     ∙ ap (λ v. Some (map (moved stem v) words)) has
     ∙ ap Some (all_same (moved stem stem) words (same_after stem 0))
 
--- for `shell_line` (src/shell.rt): the shell reads its text as the words
-pub words_read : (text : List ℕ) (words : List (List ℕ)) → text ≡ shell_text words
-    → (values : Values) → shell_words values text ≡ Some words
-words_read text words is values =
-    stems_read text [] words is values
-    ∙ ap Some (all_same (moved [] (values stem_name)) words (without_stem (values stem_name)))
-
--- for `shell_word` (src/shell.rt): the shell reads its text as the one word
-pub one_read : (text word : List ℕ) → text ≡ shell_word word → (values : Values) → shell_words values text ≡ Some (word ∷ [])
-one_read text word is values =
-    ap (shell_words values) (is ∙ sym (append-nil (shell_word word)))
-    ∙ ap (option_map (λ rest. words_of rest.going_on rest.words)) (word_read values [] word [])
-    ∙ ap (λ w. Some (w ∷ [])) (append-nil (moved [] (values stem_name) word) ∙ without_stem (values stem_name) word)
+-- without a stem the shell reads the text as the words
+pub words_read : (values : Values) (words : List (List ℕ)) → shell_words values (stem_text [] words) ≡ Some words
+words_read values words =
+    stems_read values [] words ∙ ap Some (all_same (moved [] (values stem_name)) words (without_stem (values stem_name)))
 
 -- the turns of `push_inside` (src/shell.rt)
 

@@ -3,7 +3,7 @@ use Rattle.drv_forms.specs.declared.editing.Edit.{Edit}
 use Rattle.drv_words.specs.declared.plan.Command.{Command}
 use Rattle.std.specs.Cmp.Lexicographic.{pointwise}
 use Rattle.std.specs.List.{position}
-use Rattle.std.specs.Prelude.{Bool, false, true, List, [], ◌∷◌, ◌++◌, None, Option, Some, if◌then◌else◌, map, nat_eq, nat_le, ℕ}
+use Rattle.std.specs.Prelude.{Bool, false, true, List, [], ◌∷◌, None, Option, Some, if◌then◌else◌, map, nat_eq, nat_le, ℕ}
 
 -- How the words of one command become those of another: some go and others come, in their order (POSIX XCU 4 "diff"; which of several ways
 -- that is, is this project's profile).
@@ -48,10 +48,9 @@ abbrev pub edits : List (List ℕ) → List (List ℕ) → List Edit
 edits [] others = map Comes others
 edits (word ∷ words) others = edits_from word words (edits words) others
 
--- the edits of a program's name
-abbrev pub program_edits : List ℕ → List ℕ → List Edit
-program_edits program other = if pointwise nat_eq program other then [] else Goes program ∷ Comes other ∷ []
-
 -- the edits of a command: of its program, and of its words
 abbrev pub command_edits : Command → Command → List Edit
-command_edits command other = program_edits command.program other.program ++ edits command.words other.words
+command_edits command other =
+    if pointwise nat_eq command.program other.program
+    then edits command.words other.words
+    else Goes command.program ∷ Comes other.program ∷ edits command.words other.words

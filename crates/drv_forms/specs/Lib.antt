@@ -1,10 +1,7 @@
-pub mod ChangesJson
-pub mod CompileCommands
 pub mod Difference
 pub mod Edits
 pub mod Entries
 pub mod Fits
-pub mod Picture
 pub mod Pieces
 pub mod PlanJson
 pub mod PlanOfJson

@@ -145,6 +145,3 @@ shell_word word = stem_word [] word
 
 abbrev pub spaced : List ℕ → List ℕ
 spaced word = stem_spaced [] word
-
-abbrev pub shell_text : List (List ℕ) → List ℕ
-shell_text words = stem_text [] words

@@ -1,12 +1,11 @@
 //! What differs between two plans.
 
-ghost use Rattle.drv_forms.specs.Difference.{addition, change_text, changed_text, changes, changes_text};
-ghost use Rattle.drv_forms.specs.Difference.{difference as difference_text, entries_text, lines_changes};
-ghost use Rattle.drv_forms.specs.Difference.{marked_line, pair_changes, removal, replacement};
+ghost use Rattle.drv_forms.specs.Difference.{addition, difference};
+ghost use Rattle.drv_forms.specs.Difference.{entry_edits, lines_changes, pair_changes, removal, replacement};
 ghost use Rattle.drv_words.specs.Printed.{line_text as printed_line};
 ghost use Rattle.std.specs.Prelude.{◌≡◌, ◌++◌, IfOk, OnOk, map};
 
-use crate::editing::{push_command_edits, push_edits};
+use crate::editing::{Edit, command_edits, edits, push_edits};
 use crate::gathering::entries_of;
 use drv_words::{Listing, Plan, PlanLine, Word, plan_lines, render};
 use std::alloc::{AllocError, Global};
@@ -21,6 +20,24 @@ pub struct LineChange {
     pub other: Option<PlanLine>,
 }
 
+/// What differs between two plans.
+#[derive(Debug, Drop)]
+pub struct PlanChanges {
+    /// Their lines that differ.
+    pub lines: Listing<LineChange>,
+    /// What goes and what comes of that which they have beside their commands.
+    pub entries: Listing<Edit>,
+}
+
+/// How much is printed of two lines that differ.
+#[derive(Clone, Copy, Debug)]
+pub enum Detail {
+    /// The words that go and those that come.
+    Words,
+    /// These words, and then both lines.
+    Lines,
+}
+
 /// The text of one line.
 fn line_text(alloc: Global, line: &PlanLine) -> Result<Word, AllocError>
     ensures { IfOk result (λ text. text ≡ printed_line line.now) }
@@ -28,55 +45,47 @@ fn line_text(alloc: Global, line: &PlanLine) -> Result<Word, AllocError>
     render(alloc, from_ref(line))
 }
 
-/// Adds a line after a mark.
+/// Adds a line after a mark, as `diff` marks it.
 fn push_marked(
     alloc: Global,
     text: &mut Vec<u8>,
     mark: u8,
     line: &PlanLine,
-) -> Result<(), AllocError>
-    ensures { OnOk result (text.new.items ≡ text.old.items ++ marked_line mark line.now) }
-{
+) -> Result<(), AllocError> {
     text.push(mark)?;
     text.extend_from_slice(line_text(alloc, line)?.as_bytes())
 }
 
-/// Adds two lines that differ, and the words that make the one the other.
+/// Adds what makes one line the other: its words, and the lines where no word differs.
 fn push_differing(
     alloc: Global,
     text: &mut Vec<u8>,
     line: &PlanLine,
     other: &PlanLine,
-) -> Result<(), AllocError>
-    ensures { OnOk result (text.new.items ≡ text.old.items ++ changed_text line.now other.now) }
-{
-    push_marked(alloc, text, b'-', line)?;
-    push_marked(alloc, text, b'+', other)?;
-    push_command_edits(alloc, text, &line.command, &other.command)
+    detail: Detail,
+) -> Result<(), AllocError> {
+    let words = command_edits(alloc, &line.command, &other.command)?;
+    push_edits(alloc, text, words.as_slice())?;
+    if words.is_empty() || matches!(detail, Detail::Lines) {
+        push_marked(alloc, text, b'-', line)?;
+        push_marked(alloc, text, b'+', other)?;
+    }
+    Ok(())
 }
 
 /// Adds a change.
-fn push_change(alloc: Global, text: &mut Vec<u8>, change: &LineChange) -> Result<(), AllocError>
-    ensures { OnOk result (text.new.items ≡ text.old.items ++ change_text change.now) }
-{
+fn push_change(
+    alloc: Global,
+    text: &mut Vec<u8>,
+    change: &LineChange,
+    detail: Detail,
+) -> Result<(), AllocError> {
     match (&change.line, &change.other) {
-        (Some(line), Some(other)) => push_differing(alloc, text, line, other),
+        (Some(line), Some(other)) => push_differing(alloc, text, line, other, detail),
         (Some(line), None) => push_marked(alloc, text, b'-', line),
         (None, Some(other)) => push_marked(alloc, text, b'+', other),
         (None, None) => Ok(()),
     }
-}
-
-/// Changes as text, as `diff` marks them: after two lines that differ the words that go and those
-/// that come.
-pub fn changes_text(alloc: Global, changes: &[LineChange]) -> Result<Word, AllocError>
-    ensures { IfOk result (λ text. text ≡ changes_text changes.now) }
-{
-    let mut text = Vec::new(alloc);
-    for change in changes {
-        push_change(alloc, &mut text, change)?;
-    }
-    Ok(Word::from_vec(text))
 }
 
 /// A copy of a line.
@@ -167,35 +176,41 @@ fn push_changes(
     push_added(changes, left)
 }
 
-/// What differs between two plans: their printed lines one by one. Plans with the same lines have no
-/// changes.
-pub fn changes(alloc: Global, plan: &Plan, other: &Plan) -> Result<Listing<LineChange>, AllocError>
-    ensures { IfOk result (λ found. found ≡ changes plan.now other.now) }
+/// What goes and what comes of that which two plans have beside their commands.
+fn entry_edits(alloc: Global, plan: &Plan, other: &Plan) -> Result<Listing<Edit>, AllocError>
+    ensures { IfOk result (λ found. found ≡ entry_edits plan.now other.now) }
+{
+    let entries = entries_of(alloc, plan)?;
+    let others = entries_of(alloc, other)?;
+    edits(alloc, entries.as_slice(), others.as_slice())
+}
+
+/// What differs between two plans: their printed lines one by one, and what they have beside these.
+pub fn difference(alloc: Global, plan: &Plan, other: &Plan) -> Result<PlanChanges, AllocError>
+    ensures { IfOk result (λ found. found ≡ difference plan.now other.now) }
 {
     let lines = plan_lines(alloc, plan)?;
     let others = plan_lines(alloc, other)?;
-    let mut found = Listing::new(alloc);
-    push_changes(alloc, &mut found, lines.as_slice(), others.as_slice())?;
-    Ok(found)
+    let mut changes = Listing::new(alloc);
+    push_changes(alloc, &mut changes, lines.as_slice(), others.as_slice())?;
+    Ok(PlanChanges {
+        lines: changes,
+        entries: entry_edits(alloc, plan, other)?,
+    })
 }
 
-/// What two plans have beside their commands, where they differ.
-fn entries_text(alloc: Global, plan: &Plan, other: &Plan) -> Result<Word, AllocError>
-    ensures { IfOk result (λ text. text ≡ entries_text plan.now other.now) }
-{
-    let found = entries_of(alloc, plan)?;
-    let others = entries_of(alloc, other)?;
+/// What differs between two plans as text: of each line the words that go after `<` and those that
+/// come after `>`, and then what the plans have beside their commands, in the same way. A line that
+/// only one plan has is printed whole, after `-` or `+`.
+pub fn difference_text(
+    alloc: Global,
+    found: &PlanChanges,
+    detail: Detail,
+) -> Result<Word, AllocError> {
     let mut text = Vec::new(alloc);
-    push_edits(alloc, &mut text, found.as_slice(), others.as_slice())?;
+    for change in found.lines.as_slice() {
+        push_change(alloc, &mut text, change, detail)?;
+    }
+    push_edits(alloc, &mut text, found.entries.as_slice())?;
     Ok(Word::from_vec(text))
-}
-
-/// What differs between two plans as text: their commands, and then what they have beside these.
-pub fn difference(alloc: Global, plan: &Plan, other: &Plan) -> Result<Word, AllocError>
-    ensures { IfOk result (λ text. text ≡ difference_text plan.now other.now) }
-{
-    let found = changes(alloc, plan, other)?;
-    let mut text = changes_text(alloc, found.as_slice())?;
-    text.extend_from_slice(entries_text(alloc, plan, other)?.as_bytes())?;
-    Ok(text)
 }

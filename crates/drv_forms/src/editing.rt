@@ -1,7 +1,6 @@
 //! How the words of one command become those of another.
 
-ghost use Rattle.drv_forms.specs.Difference.{edit_text, edits_text, word_line};
-ghost use Rattle.drv_forms.specs.Edits.{command_edits, edits, goes_first, place_of, program_edits};
+ghost use Rattle.drv_forms.specs.Edits.{command_edits, edits, goes_first, place_of};
 ghost use Rattle.std.specs.Prelude.{◌≡◌, ◌++◌, [], IfOk, OnOk};
 
 use drv_words::{Command, Listing, Word, quote};
@@ -14,27 +13,6 @@ pub enum Edit {
     Goes(Word),
     /// This word of the second list comes.
     Comes(Word),
-}
-
-/// Adds a word after a mark.
-fn push_word(alloc: Global, text: &mut Vec<u8>, mark: u8, word: &Word) -> Result<(), AllocError>
-    ensures { OnOk result (text.new.items ≡ text.old.items ++ word_line mark word.now) }
-{
-    text.push(mark)?;
-    text.push(b' ')?;
-    text.extend_from_slice(quote(alloc, word)?.as_bytes())?;
-    text.push(b'\n')?;
-    Ok(())
-}
-
-/// Adds a word that goes, or one that comes.
-fn push_edit(alloc: Global, text: &mut Vec<u8>, edit: &Edit) -> Result<(), AllocError>
-    ensures { OnOk result (text.new.items ≡ text.old.items ++ edit_text edit.now) }
-{
-    match edit {
-        Edit::Goes(word) => push_word(alloc, text, b'<', word),
-        Edit::Comes(word) => push_word(alloc, text, b'>', word),
-    }
 }
 
 /// Adds that words go.
@@ -76,18 +54,19 @@ fn goes_first(here: Option<usize>, there: Option<usize>) -> bool
     }
 }
 
-/// The words of the first list that go and those of the second that come, in their order. They make
-/// the first list the second, but may not be the fewest that do.
-pub fn edits(alloc: Global, words: &[Word], others: &[Word]) -> Result<Listing<Edit>, AllocError>
-    ensures { IfOk result (λ found. found ≡ edits words.now others.now) }
+/// Adds the words of the first list that go and those of the second that come, in their order.
+fn push_word_edits(
+    found: &mut Listing<Edit>,
+    words: &[Word],
+    others: &[Word],
+) -> Result<(), AllocError>
+    ensures { OnOk result (found.new ≡ found.old ++ edits words.now others.now) }
 {
-    let mut found = Listing::new(alloc);
     let mut left = words;
     let mut coming = others;
     while let [word, behind @ ..] = left {
         let [other, rest @ ..] = coming else {
-            push_going(&mut found, left)?;
-            return Ok(found);
+            return push_going(found, left);
         };
         if word == other {
             left = behind;
@@ -100,59 +79,56 @@ pub fn edits(alloc: Global, words: &[Word], others: &[Word]) -> Result<Listing<E
             coming = rest;
         }
     }
-    push_coming(&mut found, coming)?;
+    push_coming(found, coming)
+}
+
+/// The words of the first list that go and those of the second that come, in their order. They make
+/// the first list the second, but may not be the fewest that do.
+pub fn edits(alloc: Global, words: &[Word], others: &[Word]) -> Result<Listing<Edit>, AllocError>
+    ensures { IfOk result (λ found. found ≡ edits words.now others.now) }
+{
+    let mut found = Listing::new(alloc);
+    push_word_edits(&mut found, words, others)?;
     Ok(found)
 }
 
-/// Adds the words that go and those that come.
-pub(crate) fn push_edits(
+/// The words of a command that go and those of another one that come.
+pub(crate) fn command_edits(
     alloc: Global,
-    text: &mut Vec<u8>,
-    words: &[Word],
-    others: &[Word],
-) -> Result<(), AllocError>
-    ensures { OnOk result (text.new.items
-        ≡ text.old.items ++ edits_text (edits words.now others.now)) }
+    command: &Command,
+    other: &Command,
+) -> Result<Listing<Edit>, AllocError>
+    ensures { IfOk result (λ found. found ≡ command_edits command.now other.now) }
 {
-    let found = edits(alloc, words, others)?;
-    for edit in found.as_slice() {
-        push_edit(alloc, text, edit)?;
+    let mut found = Listing::new(alloc);
+    if command.program != other.program {
+        found.push(Edit::Goes(command.program.clone()?))?;
+        found.push(Edit::Comes(other.program.clone()?))?;
     }
+    push_word_edits(&mut found, command.words.as_slice(), other.words.as_slice())?;
+    Ok(found)
+}
+
+/// Adds a line for a word, after a mark, as a shell reads the word.
+fn push_word(alloc: Global, text: &mut Vec<u8>, mark: u8, word: &Word) -> Result<(), AllocError> {
+    text.push(mark)?;
+    text.push(b' ')?;
+    text.extend_from_slice(quote(alloc, word)?.as_bytes())?;
+    text.push(b'\n')?;
     Ok(())
 }
 
-/// Adds the program that goes and the one that comes, if they differ.
-fn push_program(
+/// Adds words that go and those that come, each on a line of its own.
+pub(crate) fn push_edits(
     alloc: Global,
     text: &mut Vec<u8>,
-    program: &Word,
-    other: &Word,
-) -> Result<(), AllocError>
-    ensures { OnOk result (text.new.items
-        ≡ text.old.items ++ edits_text (program_edits program.now other.now)) }
-{
-    if program == other {
-        return Ok(());
+    edits: &[Edit],
+) -> Result<(), AllocError> {
+    for edit in edits {
+        match edit {
+            Edit::Goes(word) => push_word(alloc, text, b'<', word)?,
+            Edit::Comes(word) => push_word(alloc, text, b'>', word)?,
+        }
     }
-    push_word(alloc, text, b'<', program)?;
-    push_word(alloc, text, b'>', other)
-}
-
-/// Adds the words of a command that go and those of another one that come.
-pub(crate) fn push_command_edits(
-    alloc: Global,
-    text: &mut Vec<u8>,
-    command: &Command,
-    other: &Command,
-) -> Result<(), AllocError>
-    ensures { OnOk result (text.new.items
-        ≡ text.old.items ++ edits_text (command_edits command.now other.now)) }
-{
-    push_program(alloc, text, &command.program, &other.program)?;
-    push_edits(
-        alloc,
-        text,
-        command.words.as_slice(),
-        other.words.as_slice(),
-    )
+    Ok(())
 }

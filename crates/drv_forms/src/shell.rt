@@ -1,16 +1,16 @@
 //! Words in the shell's language.
 
-ghost use Rattle.drv_forms.specs.Shell.{Values, bare_variable, begins, inside, moved};
-ghost use Rattle.drv_forms.specs.Shell.{quoted, quoted_variable, shell_text, shell_word as word_text};
-ghost use Rattle.drv_forms.specs.Shell.{shell_words, spaced, stem_name, stem_spaced};
+ghost use Rattle.drv_forms.specs.Shell.{bare_variable, begins, inside};
+ghost use Rattle.drv_forms.specs.Shell.{quoted, quoted_variable, shell_word as word_text};
+ghost use Rattle.drv_forms.specs.Shell.{spaced, stem_spaced};
 ghost use Rattle.drv_forms.specs.Shell.{stem_text, stem_word};
 ghost use Rattle.drv_words.specs.Printed.{is_bare, is_plain};
 ghost use Rattle.std.specs.List.{list_all};
-ghost use Rattle.std.specs.Prelude.{◌≡◌, ◌∷◌, ◌++◌, [], IfOk, IsTrue, OnOk, Some, length};
-ghost use Rattle.std.specs.Prelude.{◌≤◌, ◌<◌, map};
+ghost use Rattle.std.specs.Prelude.{◌≡◌, ◌++◌, IsTrue, OnOk, length};
+ghost use Rattle.std.specs.Prelude.{◌≤◌, ◌<◌};
 
 use drv_words::Word;
-use std::alloc::{AllocError, Global};
+use std::alloc::AllocError;
 
 /// The variable, where there are no quotes around it.
 const BARE_VARIABLE: &[u8] = b"\"$gdrv_stem\"";
@@ -134,52 +134,4 @@ pub(crate) fn push_stem_words(
         push_stem_spaced(text, stem, word.as_bytes())?;
     }
     Ok(())
-}
-
-/// Adds words, each after a space.
-pub(crate) fn push_shell_words(text: &mut Vec<u8>, words: &[Word]) -> Result<(), AllocError>
-    ensures { OnOk result (text.new.items ≡ text.old.items ++ shell_text words.now) }
-{
-    push_stem_words(text, b"", words)
-}
-
-/// The text of one word in the shell's language, which the shell reads as that word, byte by byte:
-/// a word of letters, digits and `./-_` stays as it is, any other is in single quotes.
-pub fn shell_word(alloc: Global, word: &Word) -> Result<Word, AllocError>
-    ensures text { IfOk result (λ text. text ≡ word_text word.now) }
-    ensures read { IfOk result
-        (λ text. (values : Values) → shell_words values text ≡ Some (word.now ∷ [])) }
-{
-    let mut text = Vec::new(alloc);
-    push_shell_word(&mut text, word.as_bytes())?;
-    Ok(Word::from_vec(text))
-}
-
-/// The text of words in the shell's language, each after a space, which the shell reads as those
-/// words.
-pub fn shell_line(alloc: Global, words: &[Word]) -> Result<Word, AllocError>
-    ensures text { IfOk result (λ text. text ≡ shell_text words.now) }
-    ensures read { IfOk result
-        (λ text. (values : Values) → shell_words values text ≡ Some words.now) }
-{
-    let mut text = Vec::new(alloc);
-    push_shell_words(&mut text, words)?;
-    Ok(Word::from_vec(text))
-}
-
-/// The text of words in the shell's language, each after a space, where the variable `gdrv_stem`
-/// is in the place of each stem in them. The shell reads the words with the variable's value for
-/// each stem, and so the words themselves where that is the stem. An empty stem is none.
-pub fn stem_line(alloc: Global, stem: &[u8], words: &[Word]) -> Result<Word, AllocError>
-    ensures text { IfOk result (λ text. text ≡ stem_text stem.now words.now) }
-    ensures read { IfOk result
-        (λ text. (values : Values)
-        → shell_words values text ≡ Some (map (moved stem.now (values stem_name)) words.now)) }
-    ensures same { IfOk result
-        (λ text. (values : Values) → values stem_name ≡ stem.now
-        → shell_words values text ≡ Some words.now) }
-{
-    let mut text = Vec::new(alloc);
-    push_stem_words(&mut text, stem, words)?;
-    Ok(Word::from_vec(text))
 }

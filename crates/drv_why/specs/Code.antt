@@ -2,11 +2,9 @@
 pub mod Beginning
 pub mod Behind
 pub mod Cancelling
-pub mod Counting
 pub mod Halts
 pub mod LinePlaces
 pub mod ListedParts
 pub mod Marks
 pub mod PlainParts
 pub mod Takers
-pub mod Wanting

@@ -3,8 +3,6 @@ pub mod Code
 pub mod Fates
 pub mod FatesJson
 pub mod Origins
-pub mod Parts
-pub mod Reasons
 pub mod Taken
 pub mod Traces
 pub mod Walks

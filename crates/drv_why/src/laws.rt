@@ -1,23 +1,14 @@
-//! What holds of the parts of each line, of its switches, and of the words of its plan.
+//! What holds of the switches of each line, and of the words of its plan.
 
 ghost use Rattle.drv_args.specs.declared.line.Switch.{Switch};
 ghost use Rattle.drv_forms.specs.Difference.{words_of};
 ghost use Rattle.drv_match.specs.Matching.{is_live, name_at};
 ghost use Rattle.drv_why.specs.Fates.{canceller};
-ghost use Rattle.drv_why.specs.Parts.{part_words, parts_of};
 ghost use Rattle.drv_why.specs.Traces.{traces_by};
 ghost use Rattle.drv_why.specs.declared.traces.Trace.{Trace};
 ghost use Rattle.drv_words.specs.declared.plan.Command.{Command};
 ghost use Rattle.drv_words.specs.declared.plan.PlanLine.{PlanLine};
-ghost use Rattle.std.specs.List.{flat_map};
 ghost use Rattle.std.specs.Prelude.{◌≡◌, ◌+◌, List, Option, Some, drop, is_none, map, ℕ};
-
-/// Each word of a line belongs to one part: the words of its parts, one part after another, are the
-/// line.
-#[tactic(auto, using(crate::proofs::Parts::make_the_line))]
-pub fn parts_make_the_line()
-    ensures { (line : List (List ℕ)) → flat_map (part_words line) (parts_of line) ≡ line }
-{}
 
 /// The switch that is said to cancel another one is there exactly if the driver's patterns find that
 /// one cancelled.

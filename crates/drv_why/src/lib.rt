@@ -1,5 +1,4 @@
-//! The parts of a line, what the line without one of them is, what becomes of its switches, and where the
-//! words of its plan are from.
+//! What becomes of the switches of a line, and where the words of its plan are from.
 #![tactic(auto)]
 
 mod alike;
@@ -9,7 +8,6 @@ mod fates;
 mod fates_json;
 mod halts;
 mod laws;
-mod leaving_out;
 mod lending;
 mod line_places;
 mod matching;
@@ -18,10 +16,6 @@ mod numbers;
 mod origins;
 mod origins_json;
 mod outers;
-mod parting;
-mod printing;
-mod reasons;
-mod reasons_json;
 mod repeating;
 mod report;
 mod takers;
@@ -33,11 +27,8 @@ mod walking;
 mod whole;
 
 pub use fates::fates_report;
-pub use laws::{live_is_uncancelled, parts_make_the_line, traced_words_are_the_commands};
-pub use leaving_out::{part_words, without};
+pub use laws::{live_is_uncancelled, traced_words_are_the_commands};
 pub use lending::{LentLine, lent_lines};
 pub use origins::{Marking, origins_report};
-pub use parting::{LinePart, parts_of};
-pub use reasons::{Reason, Rest, reasons_report};
 pub use report::Report;
 pub use whole::whole_report;

@@ -1,6 +1,6 @@
-//! The forms in which reasons are printed.
+//! The forms in which an answer is printed.
 
-/// A form in which reasons are printed.
+/// A form in which an answer is printed.
 #[derive(Clone, Copy, Debug)]
 pub enum Report {
     /// Lines of text.

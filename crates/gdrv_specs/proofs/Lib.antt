@@ -1,13 +1,4 @@
 mod Calls
-mod Differences
-mod FilesChecked
-mod LineNames
 mod Noted
-mod Outcomes
 mod Plans
-mod Reasons
-mod Runs
-mod SwitchesTold
 mod Told
-mod Translations
-mod WordsTold

@@ -1,19 +1,22 @@
+use Rattle.drv_forms.specs.declared.comparing.Detail.TheVariants as printed
+use Rattle.drv_forms.specs.declared.comparing.Detail.{Detail}
 use Rattle.drv_why.specs.declared.report.Report.TheVariants as report
 use Rattle.drv_why.specs.declared.report.Report.{Report}
-use Rattle.gdrv_specs.specs.declared.calling.Call.TheVariants.{After, Ask, Check, Database, Differ, Parts, Plan, Switches, Trace, Translate}
+use Rattle.gdrv_specs.specs.Requests.{no_request, requested_from}
+use Rattle.gdrv_specs.specs.declared.calling.Call.TheVariants.{After, Ask, Check, Differ, Plan, Why}
 use Rattle.gdrv_specs.specs.declared.calling.Call.{Call}
-use Rattle.gdrv_specs.specs.declared.calling.CallFault.TheVariants.{MissingAnswer, MissingFile, NoCommand, NoFiles, NotOneFile, NotTwoFiles}
+use Rattle.gdrv_specs.specs.declared.calling.CallFault.TheVariants.{MissingAnswer, MissingFile, NoCommand, NoFiles, NotTwoFiles}
 use Rattle.gdrv_specs.specs.declared.calling.CallFault.TheVariants.{TooManyAnswers, UnknownCommand, UnknownOption}
 use Rattle.gdrv_specs.specs.declared.calling.CallFault.{CallFault}
 use Rattle.gdrv_specs.specs.declared.calling.Command.TheVariants as command
 use Rattle.gdrv_specs.specs.declared.calling.Command.{Command}
 use Rattle.gdrv_specs.specs.declared.cutting.Cut.{Cut}
-use Rattle.gdrv_specs.specs.declared.forms.Form.TheVariants.{Json, Lines, Picture, Script}
+use Rattle.gdrv_specs.specs.declared.explaining.Scope.TheVariants as scope
+use Rattle.gdrv_specs.specs.declared.explaining.Scope.{Scope}
+use Rattle.gdrv_specs.specs.declared.forms.Form.TheVariants.{Json, Lines, Script}
 use Rattle.gdrv_specs.specs.declared.forms.Form.{Form}
 use Rattle.gdrv_specs.specs.declared.help.Question.TheVariants.{Help, Version}
-use Rattle.gdrv_specs.specs.Requests.{no_request, requested_from}
 use Rattle.gdrv_specs.specs.declared.requesting.Request.{Request}
-use Rattle.gdrv_specs.specs.declared.views.Scope.TheVariants as scope
 use Rattle.std.specs.Cmp.Lexicographic.{pointwise}
 use Rattle.std.specs.List.{starts_with}
 use Rattle.std.specs.Prelude.{Bool, Err, List, [], ◌∷◌, ◌++◌, None, Ok, Option, Result, Some, codes, drop, false, if◌then◌else◌, length}
@@ -28,7 +31,6 @@ abbrev pub command_named : List ℕ → Option Command
 command_named word =
     if pointwise nat_eq word (codes "plan") then Some command.Plan
     else if pointwise nat_eq word (codes "after") then Some command.After
-    else if pointwise nat_eq word (codes "translate") then Some command.Translate
     else if pointwise nat_eq word (codes "diff") then Some command.Differ
     else if pointwise nat_eq word (codes "check") then Some command.Check
     else if pointwise nat_eq word (codes "why") then Some command.Why
@@ -41,8 +43,7 @@ command_named word =
 abbrev pub form_named : List ℕ → Option Form
 form_named word =
     if pointwise nat_eq word (codes "--json") then Some Json
-    else if pointwise nat_eq word (codes "--sh") then Some Script
-    else if pointwise nat_eq word (codes "--dot") then Some Picture else None
+    else if pointwise nat_eq word (codes "--sh") then Some Script else None
 
 -- the form that the first word asks for, if there is a word and it asks for one
 abbrev pub form_asked : List (List ℕ) → Option Form
@@ -67,14 +68,9 @@ after_form (Some form) words = drop 1 words
 abbrev pub line_of : List (List ℕ) → List (List ℕ)
 line_of words = after_form (form_asked words) words
 
--- a first word asks for a compilation database
-abbrev pub asks_database : List (List ℕ) → Bool
-asks_database [] = false
-asks_database (word ∷ words) = pointwise nat_eq word (codes "--compdb")
-
--- what the words after plan ask for: a database, or a plan in a form
+-- what the words after plan ask for
 abbrev pub plan_asked : List (List ℕ) → Call
-plan_asked words = if asks_database words then Database (drop 1 words) else Plan (form_of words) (line_of words)
+plan_asked words = Plan (form_of words) (line_of words)
 
 -- Answers that are given ahead: each word --fail takes the word after it for one, --fail=ANSWER has it, and the line is what is left.
 
@@ -118,14 +114,6 @@ run_asked cut =
     else if nat_lt most_answers (length cut.given) then Err TooManyAnswers
     else Ok (After cut.given cut.line)
 
--- A translation takes the path of a dump, and no other word.
-
--- what the words of translate ask for
-abbrev pub translation_asked : List (List ℕ) → Result Call CallFault
-translation_asked [] = Err NotOneFile
-translation_asked (path ∷ []) = Ok (Translate path)
-translation_asked (path ∷ word ∷ words) = Err NotOneFile
-
 -- A comparison takes the paths of two spec files, and after the word -- a line. Without a line it is one of their texts.
 
 -- whether the words of diff are two paths, -- and a line
@@ -134,20 +122,39 @@ are_compared (first ∷ second ∷ dashes ∷ line) = pointwise nat_eq dashes (c
 are_compared words = false
 
 -- a comparison of two plans of a line, if the words are such
-abbrev pub line_compared : List (List ℕ) → Result Call CallFault
-line_compared (first ∷ second ∷ dashes ∷ line) =
-    if are_compared (first ∷ second ∷ dashes ∷ line) then Ok (Differ (record { first = first; second = second; line = line }))
+abbrev pub line_compared : Detail → List (List ℕ) → Result Call CallFault
+line_compared detail (first ∷ second ∷ dashes ∷ line) =
+    if are_compared (first ∷ second ∷ dashes ∷ line)
+    then Ok (Differ (record { detail = detail; first = first; second = second; line = line }))
     else Err NotTwoFiles
-line_compared words = Err NotTwoFiles
+line_compared detail words = Err NotTwoFiles
 
 -- a comparison of the texts of two spec files: the line is -dumpspecs
-abbrev pub texts_compared : List ℕ → List ℕ → Call
-texts_compared first second = Differ (record { first = first; second = second; line = codes "-dumpspecs" ∷ [] })
+abbrev pub texts_compared : Detail → List ℕ → List ℕ → Call
+texts_compared detail first second =
+    Differ (record { detail = detail; first = first; second = second; line = codes "-dumpspecs" ∷ [] })
+
+-- what the words of diff ask for, in this detail
+abbrev pub compared_so : Detail → List (List ℕ) → Result Call CallFault
+compared_so detail (first ∷ second ∷ []) = Ok (texts_compared detail first second)
+compared_so detail words = line_compared detail words
+
+-- whether a first word asks for whole commands
+abbrev pub asks_full : List (List ℕ) → Bool
+asks_full [] = false
+asks_full (word ∷ words) = pointwise nat_eq word (codes "--full")
+
+-- how much of a difference words ask for
+abbrev pub detail_of : List (List ℕ) → Detail
+detail_of words = if asks_full words then printed.Lines else printed.Words
+
+-- the words after that
+abbrev pub after_full : List (List ℕ) → List (List ℕ)
+after_full words = if asks_full words then drop 1 words else words
 
 -- what the words of diff ask for
 abbrev pub difference_asked : List (List ℕ) → Result Call CallFault
-difference_asked (first ∷ second ∷ []) = Ok (texts_compared first second)
-difference_asked words = line_compared words
+difference_asked words = compared_so (detail_of words) (after_full words)
 
 -- A check takes options and the paths of files.
 
@@ -165,25 +172,8 @@ check_by request None = if request.awaits then Err MissingFile else files_asked 
 abbrev pub check_asked : Request → Result Call CallFault
 check_asked request = check_by request request.unknown
 
--- Where the words of a line's plan are from and what becomes of its switches. A first word --words or --switches asks for one half, and
--- --parts for what each part of the line changes.
-
--- whether the words of why ask what becomes of switches
-abbrev pub asks_switches : List (List ℕ) → Bool
-asks_switches [] = false
-asks_switches (word ∷ words) = pointwise nat_eq word (codes "--switches")
-
--- whether they ask where the words of the plan are from
-abbrev pub asks_words : List (List ℕ) → Bool
-asks_words [] = false
-asks_words (word ∷ words) = pointwise nat_eq word (codes "--words")
-
--- whether they ask what each part of the line changes
-abbrev pub asks_parts : List (List ℕ) → Bool
-asks_parts [] = false
-asks_parts (word ∷ words) = pointwise nat_eq word (codes "--parts")
-
--- each as text, or as JSON with a word --json at the beginning, before that word or after it
+-- Where the words of a line's plan are from and what becomes of its switches. A word --words or --switches asks for one of these alone. The
+-- answer is text, or JSON with a word --json before that word or after it.
 
 -- whether a first word asks for JSON
 abbrev pub asks_json : List (List ℕ) → Bool
@@ -198,34 +188,42 @@ report_of otherwise words = if asks_json words then report.Json else otherwise
 abbrev pub after_json : List (List ℕ) → List (List ℕ)
 after_json words = if asks_json words then drop 1 words else words
 
--- what why --switches asks for; a --json after it counts too
-abbrev pub switches_asked : Report → List (List ℕ) → Call
-switches_asked otherwise words = Switches (report_of otherwise words) (after_json words)
+-- what the answer has that a word asks for
+abbrev pub scope_named : List ℕ → Option Scope
+scope_named word =
+    if pointwise nat_eq word (codes "--words") then Some scope.Words
+    else if pointwise nat_eq word (codes "--switches") then Some scope.Switches else None
 
--- what why --parts asks for; a --json after it counts too
-abbrev pub parts_asked : Report → List (List ℕ) → Call
-parts_asked otherwise words = Parts (report_of otherwise words) (after_json words)
+-- what the answer has that the first word asks for, if there is a word and it asks for that
+abbrev pub scope_asked : List (List ℕ) → Option Scope
+scope_asked [] = None
+scope_asked (word ∷ words) = scope_named word
 
--- what why --words asks for; a --json after it counts too
-abbrev pub words_asked : Report → List (List ℕ) → Call
-words_asked otherwise words = Trace (record { scope = scope.Words; report = report_of otherwise words }) (after_json words)
+-- the whole answer where nothing else is asked for
+abbrev pub scope_or : Option Scope → Scope
+scope_or None = scope.Whole
+scope_or (Some asked) = asked
 
--- what why asks for without --switches and --parts: where the words of the plan are from, or that and the rest
-abbrev pub words_or_whole : Report → List (List ℕ) → Call
-words_or_whole form words =
-    if asks_words words then words_asked form (drop 1 words) else Trace (record { scope = scope.Whole; report = form }) words
+-- what the answer has that words ask for
+abbrev pub scope_of : List (List ℕ) → Scope
+scope_of words = scope_or (scope_asked words)
 
--- without --switches: what each part of the line changes, or one of these
-abbrev pub parts_or_words : Report → List (List ℕ) → Call
-parts_or_words form words = if asks_parts words then parts_asked form (drop 1 words) else words_or_whole form words
+-- the words after the one that asks for it
+abbrev pub after_named : Option Scope → List (List ℕ) → List (List ℕ)
+after_named None words = words
+after_named (Some asked) words = drop 1 words
 
--- what why asks for after a --json: what becomes of the switches, or one of these
-abbrev pub half_asked : Report → List (List ℕ) → Call
-half_asked form words = if asks_switches words then switches_asked form (drop 1 words) else parts_or_words form words
+-- the words after the one that asks for a part of the answer
+abbrev pub after_scope : List (List ℕ) → List (List ℕ)
+after_scope words = after_named (scope_asked words) words
 
 -- what the words of why ask for
 abbrev pub why_asked : List (List ℕ) → Call
-why_asked words = half_asked (report_of report.Lines words) (after_json words)
+why_asked words =
+    Why (record {
+      scope = scope_of (after_json words);
+      report = report_of (report_of report.Lines words) (after_scope (after_json words));
+    }) (after_json (after_scope (after_json words)))
 
 -- what words ask for, by the command that the first one names
 abbrev pub asked_by : List ℕ → List (List ℕ) → Option Command → Result Call CallFault
@@ -233,7 +231,6 @@ asked_by word words None = Err (UnknownCommand word)
 asked_by word words (Some (command.Ask question)) = Ok (Ask question)
 asked_by word words (Some command.Plan) = Ok (plan_asked words)
 asked_by word words (Some command.After) = run_asked (cut_from no_words words)
-asked_by word words (Some command.Translate) = translation_asked words
 asked_by word words (Some command.Differ) = difference_asked words
 asked_by word words (Some command.Check) = check_asked (requested_from no_request words)
 asked_by word words (Some command.Why) = Ok (why_asked words)

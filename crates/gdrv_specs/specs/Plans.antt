@@ -11,19 +11,13 @@ use Rattle.gdrv_specs.specs.declared.outcome.Outcome.{Outcome}
 use Rattle.std.specs.Prelude.{◌≡◌, List, [], None, Option, Some, ℕ}
 
 -- What telling the plan of a line is (GCC manual, "Overall Options", -###).
--- For clauses of src/planning.rt and src/differing.rt.
+-- For clauses of src/planning.rt.
 
 -- the plan of a work; a dump of the specs has none
 abbrev pub plan_in : Work → Option Plan
 plan_in (Dump text) = None
 plan_in (Show plan) = Some plan
 plan_in (CarryOut plan manner) = Some plan
-
--- the text of a work that dumps the specs
-abbrev pub dump_in : Work → Option (List ℕ)
-dump_in (Dump text) = Some text
-dump_in (Show plan) = None
-dump_in (CarryOut plan manner) = None
 
 -- what is printed of a work, by how that ended: its plan, once; where memory lacked nothing was done
 abbrev pub TellsOf : Form → Work → Outcome → List Event → Type 0

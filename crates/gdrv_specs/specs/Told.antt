@@ -1,4 +1,3 @@
-use Rattle.drv_check.specs.Shown.{visible}
 use Rattle.drv_run.specs.Calls.{status_of}
 use Rattle.drv_run.specs.Drives.{Drives, Refuses}
 use Rattle.drv_run.specs.declared.ending.Ending.TheVariants.{OutOfMemory, Refused}
@@ -13,7 +12,7 @@ use Rattle.gdrv_specs.specs.declared.outcome.Outcome.{Outcome}
 use Rattle.std.specs.Prelude.{◌≡◌, ◌⊎◌, List, [], ◌∷◌, ◌++◌, ℕ}
 
 -- What telling something of a line is: questions, and then one text at most (this project's profile).
--- For clauses of src/planning.rt, src/translating.rt, src/running.rt and others.
+-- For clauses of src/planning.rt.
 
 -- a text was written to standard output once, and nothing else was done
 abbrev pub Puts : List ℕ → ℕ → List Event → Type 0
@@ -22,14 +21,6 @@ Puts text status told = (answer : TellAnswer) × (told ≡ Put text answer ∷ [
 -- a text was written once and nothing else was done, of two journals
 abbrev pub PutsText : List Event → List Event → List ℕ → ℕ → Type 0
 PutsText journal journal' text status = (told : List Event) × (journal' ≡ journal ++ told) × Puts text status told
-
--- a text was written for a reader, in which no byte steers a terminal; JSON has no such byte and stays as it is
-abbrev pub Shows : List ℕ → ℕ → List Event → Type 0
-Shows text status told = Puts (visible text) status told
-
--- it was written once and nothing else was done, of two journals
-abbrev pub ShowsText : List Event → List Event → List ℕ → ℕ → Type 0
-ShowsText journal journal' text status = PutsText journal journal' (visible text) status
 
 -- what is printed of a work, by how that ended
 abbrev pub Telling : Type 1

@@ -3,9 +3,9 @@ use Rattle.drv_check.specs.declared.findings.Warning.TheVariants.{NeverLanguage,
 use Rattle.drv_check.specs.declared.findings.Warning.TheVariants.{NeverSpecs, NeverTrue, QuotedWord, UnknownText, Unreachable, UnusedText}
 use Rattle.drv_check.specs.declared.findings.Warning.{Warning}
 use Rattle.std.specs.Cmp.Lexicographic.{pointwise}
-use Rattle.std.specs.Prelude.{◌||◌, ◌++◌, Bool, List, codes, nat_eq, ℕ}
+use Rattle.std.specs.Prelude.{◌||◌, Bool, List, codes, nat_eq, ℕ}
 
--- The names of the warnings of a check, and what they say (this project's profile).
+-- The names of the warnings of a check (this project's profile).
 -- For clauses of src/warning_names.rt. A new warning is named in docs/gdrv-specs.1 and crates/gdrv_cc/src/completion.rt too.
 
 -- the name of a warning, by which -Wno- switches it off
@@ -26,29 +26,6 @@ warning_name Unreachable = codes "unreachable"
 warning_name LostMark = codes "lost-mark"
 warning_name LostInPair = codes "lost-mark"
 warning_name UnusedText = codes "unused-text"
-
--- what a warning says
-abbrev pub warning_words : Warning → List ℕ
-warning_words AppendToNothing = codes "there is no text to append to"
-warning_words DirectiveInBody = codes "this line belongs to the text above it, as no line before it is empty"
-warning_words QuotedWord = codes "this quote is a byte of the word, as texts have no quotes"
-warning_words NeverTrue = codes "no switch has this name, as -DX is the switch D with the argument X"
-warning_words NeverOutput = codes "no switch has this name, as -oX is the switch o with the argument X"
-warning_words NeverLibrary = codes "no switch has this name, as -lX is a library"
-warning_words NeverLanguage = codes "no switch has this name, as -xX is a language"
-warning_words NeverPiece = codes "no switch has this name, as its option gives words to a tool"
-warning_words NeverSetting = codes "no switch has this name, as its option is a setting of the call"
-warning_words NeverSpecs = codes "no switch has this name, as --specs=X is the switch specs=X"
-warning_words UnknownText = codes "there is no text of this name"
-warning_words HiddenPair = codes "a later pair of this file counts wherever this one would"
-warning_words Unreachable = codes "no line reaches this branch, as an earlier one is taken in its place"
-warning_words LostMark = codes "this marks no word, as white space is on both sides"
-warning_words LostInPair = codes "this marks no word, as the text of a pair begins or ends beside it"
-warning_words UnusedText = codes "no text names this one, and nothing else runs it"
-
--- what a warning says, with its name
-abbrev pub warning_text : Warning → List ℕ
-warning_text warning = warning_words warning ++ codes " [-W" ++ warning_name warning ++ codes "]"
 
 -- whether a name is that of a warning
 abbrev pub is_name_of : List ℕ → Warning → Bool

@@ -1,31 +1,30 @@
 //! What a call of the program asks for.
 
 // In clauses: `Gives` says that a result is the defined one, or lack of memory.
-ghost use Rattle.gdrv_specs.specs.Calls.{are_compared, asks_parts, asks_switches, asks_words};
-ghost use Rattle.gdrv_specs.specs.Calls.{call_of, check_asked, command_named, difference_asked};
-ghost use Rattle.gdrv_specs.specs.Calls.{form_asked, line_compared, texts_compared, cut_from};
-ghost use Rattle.gdrv_specs.specs.Calls.{form_named, form_of, line_of, no_words, run_asked};
-ghost use Rattle.gdrv_specs.specs.Calls.{after_json, asks_database, asks_json, half_asked};
-ghost use Rattle.gdrv_specs.specs.Calls.{parts_asked, parts_or_words, plan_asked, report_of};
-ghost use Rattle.gdrv_specs.specs.Calls.{switches_asked, translation_asked, why_asked, words_asked};
-ghost use Rattle.gdrv_specs.specs.Calls.{words_or_whole};
 ghost use Rattle.drv_words.specs.Gives.{Gives};
+ghost use Rattle.gdrv_specs.specs.Calls.{after_full, after_json, after_scope, are_compared, asks_full};
+ghost use Rattle.gdrv_specs.specs.Calls.{asks_json, call_of, check_asked, command_named, compared_so};
+ghost use Rattle.gdrv_specs.specs.Calls.{cut_from, detail_of, difference_asked, form_asked, form_named};
+ghost use Rattle.gdrv_specs.specs.Calls.{form_of, line_compared, line_of, no_words, plan_asked};
+ghost use Rattle.gdrv_specs.specs.Calls.{report_of, run_asked, scope_asked, scope_named, scope_of};
+ghost use Rattle.gdrv_specs.specs.Calls.{texts_compared, why_asked};
 ghost use Rattle.gdrv_specs.specs.Requests.{no_request, requested_from};
 ghost use Rattle.gdrv_specs.specs.declared.calling.CallFault.TheVariants.{Memory};
 ghost use Rattle.std.specs.Prelude.{◌≡◌, IfOk};
 
 use crate::cutting::{Cut, cut_words};
 use crate::differing::Comparison;
+use crate::explaining::{Scope, View};
 use crate::forms::Form;
 use crate::help::Question;
 use crate::requesting::{Request, request_of};
-use crate::views::{Scope, View};
+use drv_forms::Detail;
 use drv_why::Report;
 use drv_words::{Listing, Word};
 use std::alloc::{AllocError, Global};
 
 /// What a call asks for.
-#[derive(Debug, Drop)]
+#[derive(Drop)]
 pub enum Call {
     /// What the program says of itself.
     Ask(Question),
@@ -34,38 +33,24 @@ pub enum Call {
         form: Form,
         line: Listing<Word>,
     },
-    /// The compilation database of a line of the driver.
-    Database(Listing<Word>),
     /// The run of a line of the driver, where these words give some answers ahead.
     After {
         given: Listing<Word>,
         line: Listing<Word>,
     },
-    /// The texts of the dump at this path, in the driver's language.
-    Translate(Word),
     /// What differs between the plans of a line with one spec file and with another.
     Differ(Comparison),
     /// What is found in spec files.
     Check(Request),
-    /// What each part of a line changes, in a form.
-    Parts {
-        report: Report,
-        line: Listing<Word>,
-    },
-    /// What becomes of the switches of a line, in a form.
-    Switches {
-        report: Report,
-        line: Listing<Word>,
-    },
-    /// Where the words of a line's plan are from, alone or with what becomes of its switches.
-    Trace {
+    /// Where the words of a line's plan are from, what becomes of its switches, or both.
+    Why {
         view: View,
         line: Listing<Word>,
     },
 }
 
 /// Why a call asks for nothing.
-#[derive(Debug, Drop)]
+#[derive(Drop)]
 pub enum CallFault {
     /// Memory was wanted.
     Memory,
@@ -77,8 +62,6 @@ pub enum CallFault {
     MissingAnswer,
     /// There are more answers than 1000.
     TooManyAnswers,
-    /// `translate` takes one word, the path of a dump.
-    NotOneFile,
     /// `diff` takes the paths of two spec files, and then nothing, or `--` and a line.
     NotTwoFiles,
     /// `check` takes the path of one file or more.
@@ -101,12 +84,11 @@ impl From<AllocError> for CallFault {
 }
 
 /// What a first word asks for.
-#[derive(Clone, Copy, Debug)]
+#[derive(Clone, Copy)]
 enum Command {
     Ask(Question),
     Plan,
     After,
-    Translate,
     Differ,
     Check,
     Why,
@@ -124,9 +106,6 @@ fn command_named(word: &[u8]) -> Option<Command>
     }
     if word == b"after".as_slice() {
         return Some(Command::After);
-    }
-    if word == b"translate".as_slice() {
-        return Some(Command::Translate);
     }
     if word == b"diff".as_slice() {
         return Some(Command::Differ);
@@ -155,9 +134,6 @@ fn form_named(word: &[u8]) -> Option<Form>
     }
     if word == b"--sh".as_slice() {
         return Some(Form::Script);
-    }
-    if word == b"--dot".as_slice() {
-        return Some(Form::Picture);
     }
     None
 }
@@ -188,25 +164,10 @@ fn cut_form(mut words: Vec<Word>) -> (Form, Listing<Word>)
     }
 }
 
-/// Whether words ask for a compilation database.
-fn asks_database(words: &[Word]) -> bool
-    ensures { result ≡ asks_database words.now }
-{
-    match words {
-        [word, ..] => word.as_bytes() == b"--compdb".as_slice(),
-        _ => false,
-    }
-}
-
 /// The plan that the words after the command ask for. The call allocates nothing.
-#[tactic(auto, using(crate::proofs::Calls::database_word))]
-fn plan_asked(mut words: Vec<Word>) -> Call
+fn plan_asked(words: Vec<Word>) -> Call
     ensures { result ≡ plan_asked words.items }
 {
-    if asks_database(words.as_slice()) {
-        let _ = words.remove(0);
-        return Call::Database(Listing::from_vec(words));
-    }
     let (form, line) = cut_form(words);
     Call::Plan { form, line }
 }
@@ -236,16 +197,6 @@ fn run_of_words(alloc: Global, words: &[Word]) -> Result<Call, CallFault>
     run_asked(cut)
 }
 
-/// The translation that these words ask for, which are the path of a dump.
-fn translation_asked(mut words: Vec<Word>) -> Result<Call, CallFault>
-    ensures { result ≡ translation_asked words.items }
-{
-    if words.len() != 1 {
-        return Err(CallFault::NotOneFile);
-    }
-    Ok(Call::Translate(words.remove(0)))
-}
-
 /// Whether words are two, then `--`, and any others.
 fn are_compared(words: &[Word]) -> bool
     ensures { result ≡ are_compared words.now }
@@ -258,8 +209,8 @@ fn are_compared(words: &[Word]) -> bool
 
 /// The comparison of the plans of a line that these words ask for.
 #[tactic(auto, using(crate::proofs::Calls::are_three, crate::proofs::Calls::compared, crate::proofs::Calls::not_compared))]
-fn line_compared(mut words: Vec<Word>) -> Result<Call, CallFault>
-    ensures { result ≡ line_compared words.items }
+fn line_compared(detail: Detail, mut words: Vec<Word>) -> Result<Call, CallFault>
+    ensures { result ≡ line_compared detail words.items }
 {
     if !are_compared(words.as_slice()) {
         return Err(CallFault::NotTwoFiles);
@@ -268,6 +219,7 @@ fn line_compared(mut words: Vec<Word>) -> Result<Call, CallFault>
     let second = words.remove(0);
     let _ = words.remove(0);
     Ok(Call::Differ(Comparison {
+        detail,
         first,
         second,
         line: Listing::from_vec(words),
@@ -275,29 +227,66 @@ fn line_compared(mut words: Vec<Word>) -> Result<Call, CallFault>
 }
 
 /// The comparison of the texts of two files.
-fn texts_compared(alloc: Global, first: Word, second: Word) -> Result<Call, AllocError>
-    ensures { IfOk result (λ call. call ≡ texts_compared first second) }
+fn texts_compared(
+    alloc: Global,
+    detail: Detail,
+    first: Word,
+    second: Word,
+) -> Result<Call, AllocError>
+    ensures { IfOk result (λ call. call ≡ texts_compared detail first second) }
 {
     let mut line = Listing::new(alloc);
     line.push(Word::from_bytes(alloc, b"-dumpspecs")?)?;
     Ok(Call::Differ(Comparison {
+        detail,
         first,
         second,
         line,
     }))
 }
 
-/// The comparison that these words ask for.
+/// The comparison that these words ask for, in this detail.
 #[tactic(auto, using(crate::proofs::Calls::of_texts, crate::proofs::Calls::of_line))]
-fn difference_asked(alloc: Global, mut words: Vec<Word>) -> Result<Call, CallFault>
-    ensures { Gives Memory (λ call. call) result (difference_asked words.items) }
+fn compared_so(alloc: Global, detail: Detail, mut words: Vec<Word>) -> Result<Call, CallFault>
+    ensures { Gives Memory (λ call. call) result (compared_so detail words.items) }
 {
     if words.len() != 2 {
-        return line_compared(words);
+        return line_compared(detail, words);
     }
     let first = words.remove(0);
     let second = words.remove(0);
-    Ok(texts_compared(alloc, first, second)?)
+    Ok(texts_compared(alloc, detail, first, second)?)
+}
+
+/// Whether the first of these words asks for whole commands.
+fn asks_full(words: &[Word]) -> bool
+    ensures { result ≡ asks_full words.now }
+{
+    match words {
+        [word, ..] => word.as_bytes() == b"--full".as_slice(),
+        _ => false,
+    }
+}
+
+/// How much of a difference words ask for, and the words after that. The call allocates nothing.
+#[tactic(auto, using(crate::proofs::Calls::full_word))]
+fn cut_detail(mut words: Vec<Word>) -> (Detail, Vec<Word>)
+    ensures detail { result.0 ≡ detail_of words.items }
+    ensures words { result.1.items ≡ after_full words.items }
+{
+    if !asks_full(words.as_slice()) {
+        return (Detail::Words, words);
+    }
+    let _ = words.remove(0);
+    (Detail::Lines, words)
+}
+
+/// The comparison that the words after the command ask for.
+fn difference_asked(alloc: Global, words: Vec<Word>) -> Result<Call, CallFault>
+    ensures { Gives Memory (λ call. call) result (difference_asked words.items) }
+{
+    let (detail, rest) = cut_detail(words);
+    compared_so(alloc, detail, rest)
 }
 
 /// The check that a request asks for.
@@ -326,36 +315,6 @@ fn check_of_words(alloc: Global, words: &[Word]) -> Result<Call, CallFault>
     check_asked(request)
 }
 
-/// Whether the first of these words asks for the switches of a line.
-fn asks_switches(words: &[Word]) -> bool
-    ensures { result ≡ asks_switches words.now }
-{
-    match words {
-        [word, ..] => word.as_bytes() == b"--switches".as_slice(),
-        _ => false,
-    }
-}
-
-/// Whether the first of these words asks where the words of a plan are from.
-fn asks_words(words: &[Word]) -> bool
-    ensures { result ≡ asks_words words.now }
-{
-    match words {
-        [word, ..] => word.as_bytes() == b"--words".as_slice(),
-        _ => false,
-    }
-}
-
-/// Whether the first of these words asks what each part of a line changes.
-fn asks_parts(words: &[Word]) -> bool
-    ensures { result ≡ asks_parts words.now }
-{
-    match words {
-        [word, ..] => word.as_bytes() == b"--parts".as_slice(),
-        _ => false,
-    }
-}
-
 /// Whether the first of these words asks for JSON.
 fn asks_json(words: &[Word]) -> bool
     ensures { result ≡ asks_json words.now }
@@ -380,98 +339,64 @@ fn cut_report(otherwise: Report, mut words: Vec<Word>) -> (Report, Vec<Word>)
     (Report::Json, words)
 }
 
-/// What becomes of the switches of the line that words ask for.
-fn switches_asked(otherwise: Report, words: Vec<Word>) -> Call
-    ensures { result ≡ switches_asked otherwise words.items }
+/// What the answer has that a word asks for.
+fn scope_named(word: &[u8]) -> Option<Scope>
+    ensures { result ≡ scope_named word.now }
 {
-    let (report, line) = cut_report(otherwise, words);
-    Call::Switches {
-        report,
-        line: Listing::from_vec(line),
+    if word == b"--words".as_slice() {
+        return Some(Scope::Words);
+    }
+    if word == b"--switches".as_slice() {
+        return Some(Scope::Switches);
+    }
+    None
+}
+
+/// What the answer has that the first of these words asks for.
+fn scope_asked(words: &[Word]) -> Option<Scope>
+    ensures { result ≡ scope_asked words.now }
+{
+    match words {
+        [word, ..] => scope_named(word.as_bytes()),
+        _ => None,
     }
 }
 
-/// What each part of the line that words ask for changes.
-fn parts_asked(otherwise: Report, words: Vec<Word>) -> Call
-    ensures { result ≡ parts_asked otherwise words.items }
+/// What the answer has that words ask for, and the words after that. The call allocates nothing.
+#[tactic(auto, using(crate::proofs::Calls::scope_word))]
+fn cut_scope(mut words: Vec<Word>) -> (Scope, Vec<Word>)
+    ensures scope { result.0 ≡ scope_of words.items }
+    ensures words { result.1.items ≡ after_scope words.items }
 {
-    let (report, line) = cut_report(otherwise, words);
-    Call::Parts {
-        report,
-        line: Listing::from_vec(line),
+    match scope_asked(words.as_slice()) {
+        Some(scope) => {
+            let _ = words.remove(0);
+            (scope, words)
+        }
+        None => (Scope::Whole, words),
     }
 }
 
-/// Where the words of the plan of the line that words ask for are from.
-fn words_asked(otherwise: Report, words: Vec<Word>) -> Call
-    ensures { result ≡ words_asked otherwise words.items }
-{
-    let (report, line) = cut_report(otherwise, words);
-    Call::Trace {
-        view: View {
-            scope: Scope::Words,
-            report,
-        },
-        line: Listing::from_vec(line),
-    }
-}
-
-/// What words that name no part of the answer ask for in this form, unless they ask for the words.
-#[tactic(auto, using(crate::proofs::Calls::words_word))]
-fn words_or_whole(report: Report, mut words: Vec<Word>) -> Call
-    ensures { result ≡ words_or_whole report words.items }
-{
-    if !asks_words(words.as_slice()) {
-        return Call::Trace {
-            view: View {
-                scope: Scope::Whole,
-                report,
-            },
-            line: Listing::from_vec(words),
-        };
-    }
-    let _ = words.remove(0);
-    words_asked(report, words)
-}
-
-/// What words without `--switches` ask for in this form.
-#[tactic(auto, using(crate::proofs::Calls::parts_word))]
-fn parts_or_words(report: Report, mut words: Vec<Word>) -> Call
-    ensures { result ≡ parts_or_words report words.items }
-{
-    if !asks_parts(words.as_slice()) {
-        return words_or_whole(report, words);
-    }
-    let _ = words.remove(0);
-    parts_asked(report, words)
-}
-
-/// What words ask for in this form.
-#[tactic(auto, using(crate::proofs::Calls::switches_word))]
-fn half_asked(report: Report, mut words: Vec<Word>) -> Call
-    ensures { result ≡ half_asked report words.items }
-{
-    if !asks_switches(words.as_slice()) {
-        return parts_or_words(report, words);
-    }
-    let _ = words.remove(0);
-    switches_asked(report, words)
-}
-
-/// What these words after the command ask for. The call allocates nothing.
+/// What these words after the command ask for: a word for JSON may be before or after the one that
+/// asks for a part of the answer. The call allocates nothing.
 fn why_asked(words: Vec<Word>) -> Call
     ensures { result ≡ why_asked words.items }
 {
-    let (report, rest) = cut_report(Report::Lines, words);
-    half_asked(report, rest)
+    let (otherwise, words) = cut_report(Report::Lines, words);
+    let (scope, words) = cut_scope(words);
+    let (report, words) = cut_report(otherwise, words);
+    Call::Why {
+        view: View { scope, report },
+        line: Listing::from_vec(words),
+    }
 }
 
 /// What a call with these arguments asks for.
 ///
 /// # Errors
 /// Lack of memory. It has no arguments, or the first one is no command. The words of `--fail` are too
-/// few or too many. `translate` has no path or several. The words of `diff` aren't two, or two, `--`
-/// and a line. `check` has no path, none after `--over`, or a word that begins with `-` and is no option.
+/// few or too many. The words of `diff` aren't two, or two, `--` and a line. `check` has no path, none
+/// after `--over`, or a word that begins with `-` and is no option.
 pub fn call_of(alloc: Global, args: Listing<Word>) -> Result<Call, CallFault>
     ensures { Gives Memory (λ call. call) result (call_of args) }
 {
@@ -484,7 +409,6 @@ pub fn call_of(alloc: Global, args: Listing<Word>) -> Result<Call, CallFault>
         Some(Command::Ask(asked)) => Ok(Call::Ask(asked)),
         Some(Command::Plan) => Ok(plan_asked(words)),
         Some(Command::After) => run_of_words(alloc, words.as_slice()),
-        Some(Command::Translate) => translation_asked(words),
         Some(Command::Differ) => difference_asked(alloc, words),
         Some(Command::Check) => check_of_words(alloc, words.as_slice()),
         Some(Command::Why) => Ok(why_asked(words)),

@@ -4,12 +4,12 @@ ghost use Rattle.gdrv_specs.specs.Forms.{form_text};
 ghost use Rattle.gdrv_specs.specs.declared.forms.Form.TheVariants.{Json};
 ghost use Rattle.std.specs.Prelude.{◌≡◌, IfOk};
 
-use drv_forms::{compile_commands, picture, plan_json, script};
-use drv_words::{Listing, Plan, Word, render_plan};
+use drv_forms::{plan_json, script};
+use drv_words::{Plan, Word, render_plan};
 use std::alloc::{AllocError, Global};
 
 /// A form in which a plan is printed.
-#[derive(Debug, Drop)]
+#[derive(Clone, Copy)]
 pub enum Form {
     /// Its commands as `-###` prints them.
     Lines,
@@ -17,13 +17,6 @@ pub enum Form {
     Json,
     /// A script of the shell.
     Script,
-    /// A picture, in Graphviz's language.
-    Picture,
-    /// A compilation database, for sources in this directory, with the names of the line's inputs.
-    Database {
-        directory: Word,
-        names: Listing<Word>,
-    },
 }
 
 /// A plan as JSON, with a newline at its end.
@@ -36,16 +29,12 @@ fn json_line(alloc: Global, plan: &Plan) -> Result<Word, AllocError>
 }
 
 /// The text of a plan in a form.
-pub fn form_text(alloc: Global, form: &Form, plan: &Plan) -> Result<Word, AllocError>
-    ensures { IfOk result (λ text. text ≡ form_text form.now plan.now) }
+pub fn form_text(alloc: Global, form: Form, plan: &Plan) -> Result<Word, AllocError>
+    ensures { IfOk result (λ text. text ≡ form_text form plan.now) }
 {
     match form {
         Form::Lines => render_plan(alloc, plan),
         Form::Json => json_line(alloc, plan),
         Form::Script => script(alloc, plan),
-        Form::Picture => picture(alloc, plan),
-        Form::Database { directory, names } => {
-            compile_commands(alloc, directory, names.as_slice(), plan)
-        }
     }
 }

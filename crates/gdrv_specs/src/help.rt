@@ -6,11 +6,10 @@ use std::io::{self, Write};
 const HELP: &str = "\
 Usage: gdrv-specs check [--json] [-Werror] [-Wno-NAME]... [--gcc] [--over FILE]...
                         FILE...
-       gdrv-specs plan [--json | --sh | --dot | --compdb] LINE...
+       gdrv-specs plan [--json | --sh] LINE...
        gdrv-specs after LINE... [--fail PLACE=ANSWER]...
-       gdrv-specs translate FILE
-       gdrv-specs diff FILE FILE [-- LINE...]
-       gdrv-specs why [--json] [--words | --switches | --parts] LINE...
+       gdrv-specs diff [--full] FILE FILE [-- LINE...]
+       gdrv-specs why [--json] [--words | --switches] LINE...
 gdrv-specs prints what gdrv would do with a line. It starts nothing and makes no
 file.
 
@@ -19,22 +18,18 @@ file.
   plan            print the commands of the line
   plan --json     print its plan as JSON
   plan --sh       print a shell script that does what the line does
-  plan --dot      print a picture of it for Graphviz
-  plan --compdb   print a compilation database of its sources
   after           print what the line would start, make and remove, its status
                   and what it leaves, where each PLACE has this ANSWER
-  translate       print the spec texts of FILE, which gcc -dumpspecs printed,
-                  in the language of gdrv
-  diff            print what differs between the commands of the line with the
-                  first spec FILE and with the second; without LINE, what
-                  differs between the texts
+  diff            print the words that differ between the commands of the line
+                  with the first spec FILE and with the second; without LINE,
+                  what differs between the texts; the status is 1 if any does
+  diff --full     print after them the commands
   why             print the commands of the line, and under each its words with
                   the parts of texts that they are from; then which texts pass
                   each switch on, test it or hide it, and which later switch
                   cancels it
   why --words     print the first half of that
   why --switches  print the second half of that
-  why --parts     print what each option and each file of the line changes
   why --json      print any of these as JSON
 
 The words of LINE are those of gdrv, -specs=FILE among them. The manual page
@@ -42,7 +37,7 @@ gdrv-specs(1) says more.
 ";
 
 /// What a call asks of the program itself.
-#[derive(Clone, Copy, Debug)]
+#[derive(Clone, Copy)]
 pub enum Question {
     /// How it is used.
     Help,

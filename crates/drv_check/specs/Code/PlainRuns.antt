@@ -1,8 +1,8 @@
-use Rattle.drv_check.specs.declared.marking.Before.TheVariants.{Follows, Loops, Opens, Returns, Spaces}
-use Rattle.drv_check.specs.declared.marking.Before.{Before}
+use Rattle.drv_check.specs.declared.mark_reading.Before.TheVariants.{Follows, Loops, Opens, Returns, Spaces}
+use Rattle.drv_check.specs.declared.mark_reading.Before.{Before}
 use Rattle.drv_check.specs.declared.marking.Extent.{Extent}
 use Rattle.drv_check.specs.declared.marking.Joint.{Joint}
-use Rattle.drv_check.specs.declared.marking.Reading.{Reading}
+use Rattle.drv_check.specs.declared.mark_reading.Reading.{Reading}
 use Rattle.std.specs.Prelude.{Bool, List, [], ◌∷◌, None, Option, Some, false, true, ℕ}
 
 -- The plain tokens right behind an item, which the code reads at once. For private clauses of src/marking.rt.

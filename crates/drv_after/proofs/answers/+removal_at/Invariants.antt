@@ -1,8 +1,6 @@
 use Rattle.drv_after.proofs.answers.+removal_at.Given as goal
 use Rattle.std.proofs.Common.{length}
 
--- The loops of removal_at (src/answers.rt). Whether a file is removed: it is unless another answer is given.
-
 -- each call has one answer less to look at
 abbrev pub decreases-removal_at : goal.decreases-removal_at
 decreases-removal_at l = length l.given.now

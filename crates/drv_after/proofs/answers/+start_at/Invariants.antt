@@ -1,8 +1,6 @@
 use Rattle.drv_after.proofs.answers.+start_at.Given as goal
 use Rattle.std.proofs.Common.{length}
 
--- The loops of start_at (src/answers.rt). Why a command is not started, if that is given.
-
 -- each call has one answer less to look at
 abbrev pub decreases-start_at : goal.decreases-start_at
 decreases-start_at l = length l.given.now

@@ -7,9 +7,6 @@ use Rattle.drv_core.specs.Story.{event}
 use Rattle.drv_words.specs.Stepping.{fits}
 use Rattle.std.proofs.Common.{◌≡◌, ◌∙◌, ◌++◌, [], ◌∷◌, ap, length, subst, sym, true}
 
--- after (src/running.rt). The whole run of a plan, in which each step is answered by the first answer that is given for its place, or else
--- that all is well.
-
 -- Names: `event`: a step and its answer. `answer_fits`: as `after` needs it. `answered_more`: the answers after all events.
 
 pub answer-requires-clause-fits : goal.answer-requires-clause-fits

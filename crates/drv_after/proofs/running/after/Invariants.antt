@@ -5,9 +5,6 @@ use Rattle.drv_core.specs.Needed.{needed}
 use Rattle.drv_core.specs.Run.{step_in}
 use Rattle.std.proofs.Common.{◌≡◌, ◌-◌, [], length}
 
--- The loops of after (src/running.rt). The whole run of a plan, in which each step is answered by the first answer that is given for its
--- place, or else that all is well.
-
 -- each event so far has the answer of its place, and its step is that of the first source that may go on
 abbrev pub invariant-loop-run : goal.invariant-loop-run
 invariant-loop-run l = record {

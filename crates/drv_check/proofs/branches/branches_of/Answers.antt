@@ -5,8 +5,6 @@ use Rattle.drv_check.specs.Code.Branching.{branch_in, branches_of}
 use Rattle.drv_syntax.specs.Parsed.{tree_of}
 use Rattle.drv_syntax.specs.Tokens.{tokens_of}
 
--- branches_of (src/branches.rt). The branches of a part, the first part inside which has this place.
-
 -- The loop ended at the end of the text (`parts_over`) or of the part (`parts_past`).
 pub returns : goal.returns
 returns c = elim c.loop-place-test.branch [

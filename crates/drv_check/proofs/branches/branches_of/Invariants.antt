@@ -4,8 +4,6 @@ use Rattle.drv_syntax.specs.Parsed.{tree_of}
 use Rattle.drv_syntax.specs.Tokens.{tokens_of}
 use Rattle.std.proofs.Common.{◌≡◌, ◌-◌, ◌++◌, drop, length}
 
--- The loops of branches_of (src/branches.rt). The branches of a part, the first part inside which has this place.
-
 abbrev pub invariant-loop-place : goal.invariant-loop-place
 invariant-loop-place l =
     l.branches.items ++ branches_from l.end l.next l.place (drop l.place (tokens_of (tree_of l.tree)))

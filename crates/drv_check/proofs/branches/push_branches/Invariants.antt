@@ -3,8 +3,6 @@ use Rattle.drv_check.specs.Code.Branching.{listed_marks}
 use Rattle.drv_syntax.specs.Parsed.{tree_of}
 use Rattle.std.proofs.Common.{◌≡◌, ◌++◌, [], drop}
 
--- The loops of push_branches (src/branches.rt). Adds the warnings of these branches of a choice.
-
 abbrev pub invariant-loop-branch : goal.invariant-loop-branch
 invariant-loop-branch l =
     l.marks.items ++ listed_marks (tree_of l.tree) l.start l.earlier.items (drop l.branch-index l.branches)

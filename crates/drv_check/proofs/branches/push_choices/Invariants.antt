@@ -4,8 +4,6 @@ use Rattle.drv_syntax.specs.Parsed.{tree_of}
 use Rattle.drv_syntax.specs.Tokens.{tokens_of}
 use Rattle.std.proofs.Common.{◌≡◌, ◌-◌, ◌++◌, drop, length}
 
--- The loops of push_choices (src/branches.rt). Adds the warnings of the choices of a tree, whose text begins at this byte of the piece.
-
 abbrev pub invariant-loop-place : goal.invariant-loop-place
 invariant-loop-place l =
     l.marks.items ++ parts_marks (tree_of l.tree) l.start l.place (drop l.place (tokens_of (tree_of l.tree)))

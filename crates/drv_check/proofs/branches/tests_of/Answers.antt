@@ -5,8 +5,6 @@ use Rattle.drv_check.specs.Code.Branching.{test_in, tests_of}
 use Rattle.drv_syntax.specs.Parsed.{tree_of}
 use Rattle.drv_syntax.specs.Tokens.{tokens_of}
 
--- tests_of (src/branches.rt). The tests of a branch.
-
 -- The loop ended at the end of the text (`parts_over`) or of the branch (`parts_past`).
 pub returns : goal.returns
 returns c = elim c.loop-place-test.branch [

@@ -4,8 +4,6 @@ use Rattle.drv_syntax.specs.Parsed.{tree_of}
 use Rattle.drv_syntax.specs.Tokens.{tokens_of}
 use Rattle.std.proofs.Common.{◌≡◌, ◌-◌, ◌++◌, drop, length}
 
--- The loops of tests_of (src/branches.rt). The tests of a branch.
-
 abbrev pub invariant-loop-place : goal.invariant-loop-place
 invariant-loop-place l =
     l.tests.items ++ tests_from (tree_of l.tree) l.branch.end l.next l.place (drop l.place (tokens_of (tree_of l.tree)))

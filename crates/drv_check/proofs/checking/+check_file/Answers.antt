@@ -4,8 +4,6 @@ use Rattle.drv_check.specs.Checks.{entered, enters_at, file_checked, is_full}
 use Rattle.drv_system.proofs.AskedCalls.{asked_further, asked_none, extends_before}
 use Rattle.std.proofs.Common.{◌∙◌, ap, drop, sym}
 
--- check_file (src/checking.rt). Checks an open file, within which `levels` more files may be nested.
-
 pub loop-piece-init : goal.loop-piece-init
 loop-piece-init g t c = record {
   asks = asked_none c.args.outside.now;

@@ -5,8 +5,6 @@ use Rattle.drv_system.specs.Code.Asked.{Asked}
 use Rattle.drv_system.specs.Facts.{Facts}
 use Rattle.std.proofs.Common.{◌≡◌, drop}
 
--- The loops of check_file (src/checking.rt). Checks an open file, within which `levels` more files may be nested.
-
 -- The pieces that are left, from the check so far, give what the whole file gives.
 abbrev pub invariant-loop-piece : goal.invariant-loop-piece
 invariant-loop-piece g l = record {

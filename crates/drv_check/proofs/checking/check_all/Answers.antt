@@ -4,8 +4,6 @@ use Rattle.drv_check.specs.Checks.{all_called, is_full}
 use Rattle.drv_system.proofs.AskedCalls.{asked_further, extends_before}
 use Rattle.std.proofs.Common.{◌∙◌, drop, sym}
 
--- check_all (src/checking.rt). Checks the files of the call.
-
 pub returns-then-is_full-clause-checks : goal.returns-then-is_full-clause-checks
 returns-then-is_full-clause-checks g c F e =
     sym (c.loop-name.invariant.rest F e)

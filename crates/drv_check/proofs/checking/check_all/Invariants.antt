@@ -5,8 +5,6 @@ use Rattle.drv_system.specs.Code.Asked.{Asked}
 use Rattle.drv_system.specs.Facts.{Facts}
 use Rattle.std.proofs.Common.{◌≡◌, drop}
 
--- The loops of check_all (src/checking.rt). Checks the files of the call.
-
 -- The files that are left, from the check so far, lead to the same end as all of them.
 abbrev pub invariant-loop-name : goal.invariant-loop-name
 invariant-loop-name g l = record {

@@ -1,8 +1,6 @@
 use Rattle.drv_check.proofs.FaultsAlone.{base_checked}
 use Rattle.drv_check.proofs.checking.check_base.Goals as goal
 
--- check_base (src/checking.rt). Checks the files that are loaded first, and keeps their faults alone.
-
 -- Names: `F`: what is known of the outside. `e`: that `F` extends the facts of this call. `base_checked`: the files that are loaded first
 -- are checked over nothing, and their faults alone are kept.
 

@@ -6,8 +6,6 @@ use Rattle.drv_system.proofs.AskedCalls.{extends_before}
 use Rattle.drv_system.specs.Known.{Is}
 use Rattle.std.proofs.Common.{◌∙◌, None, ap, false, sym}
 
--- check_called (src/checking.rt). Checks a file of the call.
-
 -- The file was opened, so its check is that of its pieces (`called_in`).
 pub returns-in-Some-clause-checks : goal.returns-in-Some-clause-checks
 returns-in-Some-clause-checks g c F e =

@@ -5,9 +5,6 @@ use Rattle.drv_system.proofs.Asking.{asks_then}
 use Rattle.drv_system.specs.Asking.{Extends}
 use Rattle.std.proofs.Common.{[], refl, rules}
 
--- check_files (src/checking.rt). All faults of spec files and what is surely not meant, in the order of their lines, those of an included
--- file in its place (GCC manual, "Spec Files"); then what shows only in the whole of them.
-
 -- Names: `F`: what is known of the outside. `e`: that `F` extends the facts of this call. `checks_files`: the prefixes that the call finds
 -- are those of the definition. `extends_before`: what extends the facts after a call extends those before it.
 

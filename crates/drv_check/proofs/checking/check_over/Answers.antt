@@ -2,8 +2,6 @@ use Rattle.drv_check.proofs.FaultsAlone.{over_checked}
 use Rattle.drv_check.proofs.checking.check_over.Goals as goal
 use Rattle.drv_system.proofs.AskedCalls.{extends_before}
 
--- check_over (src/checking.rt). Checks files over the built-in set and over those that are loaded first.
-
 -- Names: `F`: what is known of the outside. `e`: that `F` extends the facts of this call. `over_checked`: the files of the call are checked
 -- over these. `extends_before`: what extends the facts after a call extends those before it.
 

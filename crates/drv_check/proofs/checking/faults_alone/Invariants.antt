@@ -3,7 +3,5 @@ use Rattle.drv_check.specs.Checked.{tells_fault}
 use Rattle.std.proofs.Common.{◌≡◌}
 use Rattle.std.specs.Prelude.{filter}
 
--- The loops of faults_alone (src/checking.rt). Takes what is surely not meant out of what was found.
-
 abbrev pub invariant-loop-finding : goal.invariant-loop-finding
 invariant-loop-finding l = l.findings ≡ filter tells_fault l.yielded

@@ -3,7 +3,5 @@ use Rattle.drv_check.specs.Shown.{visible, visible_byte}
 use Rattle.std.proofs.Common.{◌≡◌, ◌++◌, drop}
 use Rattle.std.specs.List.{flat_map}
 
--- The loops of visible (src/escaping.rt). A text in which each control byte but tabs and newlines is its number, as `\\x1b`.
-
 abbrev pub invariant-loop-byte : goal.invariant-loop-byte
 invariant-loop-byte l = l.shown ++ flat_map visible_byte (drop l.byte-index l.text) ≡ visible l.text

@@ -5,9 +5,6 @@ use Rattle.drv_system.proofs.Asking.{asks_then}
 use Rattle.drv_system.specs.Asking.{Extends}
 use Rattle.std.proofs.Common.{rules}
 
--- fault_note (src/fault_notes.rt). Where the driver refuses files that are loaded over a set, in their order, as a note: the place of the
--- first fault in its file.
-
 -- Names: `F`: what is known of the outside. `e`: that `F` extends the facts of this call. `notes_files`: the folders of the call give the
 -- prefixes, and along these the files are checked. `extends_before`: what extends the facts after a call extends those before it.
 

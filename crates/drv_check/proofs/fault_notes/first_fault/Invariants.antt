@@ -2,7 +2,5 @@ use Rattle.drv_check.proofs.fault_notes.first_fault.Given as goal
 use Rattle.drv_check.specs.FaultNotes.{first_fault}
 use Rattle.std.proofs.Common.{◌≡◌, drop}
 
--- The loops of first_fault (src/fault_notes.rt). The first fault that was found.
-
 abbrev pub invariant-loop-finding : goal.invariant-loop-finding
 invariant-loop-finding l = first_fault (drop l.finding-index l.findings) ≡ first_fault l.findings

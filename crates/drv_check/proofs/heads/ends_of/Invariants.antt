@@ -3,8 +3,6 @@ use Rattle.drv_check.specs.Code.Heads.{end_of}
 use Rattle.drv_check.specs.Origins.{spots_after}
 use Rattle.std.proofs.Common.{◌≡◌, ◌-◌, List, length, reverse, take, ℕ}
 
--- The loops of ends_of (src/heads.rt). The places behind the last directives of heads.
-
 -- the directives so far that are before the place of a head give the same spots as all so far
 abbrev pub invariant-loop-place : goal.invariant-loop-place
 invariant-loop-place l = (head : List ℕ)

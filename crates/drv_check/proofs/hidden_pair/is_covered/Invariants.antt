@@ -3,7 +3,5 @@ use Rattle.drv_check.specs.HiddenPairs.{hides_key}
 use Rattle.std.proofs.Common.{◌≡◌, drop}
 use Rattle.std.specs.List.{list_any}
 
--- The loops of is_covered (src/hidden_pair.rt). Whether a piece among these hides a pair of this key.
-
 abbrev pub invariant-loop-piece : goal.invariant-loop-piece
 invariant-loop-piece l = list_any (hides_key l.key) (drop l.piece-index l.later) ≡ list_any (hides_key l.key) l.later

@@ -4,8 +4,6 @@ use Rattle.drv_check.specs.Code.LaterKeys.{flags_of}
 use Rattle.drv_check.specs.Whole.{file_judged}
 use Rattle.std.proofs.Common.{◌∙◌, ◌++◌, ap, false, get_or}
 
--- judge_file (src/judging.rt). Adds what the whole of the files shows of one.
-
 -- one piece more was judged
 pub loop-place-preserved : goal.loop-place-preserved
 loop-place-preserved c =

@@ -2,8 +2,6 @@ use Rattle.drv_check.proofs.judging.judge_file.Given as goal
 use Rattle.drv_check.specs.Whole.{file_judged, pieces_judged}
 use Rattle.std.proofs.Common.{◌≡◌, ◌-◌, ◌++◌, drop, length}
 
--- The loops of judge_file (src/judging.rt). Adds what the whole of the files shows of one.
-
 abbrev pub invariant-loop-place : goal.invariant-loop-place
 invariant-loop-place l =
     l.findings ++ pieces_judged l.whole.whose l.whole.set.now l.whole.worked.now l.file (drop l.place l.pieces) ≡ l.fn.findings

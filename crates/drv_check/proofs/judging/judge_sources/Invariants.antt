@@ -2,8 +2,6 @@ use Rattle.drv_check.proofs.judging.judge_sources.Given as goal
 use Rattle.drv_check.specs.Whole.{sources_judged}
 use Rattle.std.proofs.Common.{◌≡◌, ◌-◌, ◌++◌, drop, length}
 
--- The loops of judge_sources (src/judging.rt). Adds what the whole of the files shows of the sources from this place on.
-
 abbrev pub invariant-loop-number : goal.invariant-loop-number
 invariant-loop-number l =
     l.findings ++ sources_judged l.whole.whose l.whole.set.now l.whole.worked.now l.number (drop l.number l.sources) ≡ l.fn.findings

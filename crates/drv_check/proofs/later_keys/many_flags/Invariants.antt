@@ -2,8 +2,6 @@ use Rattle.drv_check.proofs.later_keys.many_flags.Given as goal
 use Rattle.drv_check.specs.Code.LaterKeys.{flags_of, has_key, keys_seen}
 use Rattle.std.proofs.Common.{◌≡◌, ◌≤◌, List, drop, length, reverse, ℕ}
 
--- The loops of many_flags (src/later_keys.rt). For each of many pieces whether a later one hides it, by the keys of those.
-
 -- the flags of the pieces that were read are right, and so are the keys
 abbrev pub invariant-loop-place : goal.invariant-loop-place
 invariant-loop-place l = record {

@@ -2,8 +2,6 @@ use Rattle.drv_check.proofs.loading_order.loaded_pieces.Given as goal
 use Rattle.drv_check.specs.LoadingOrder.{loaded_after, loaded_pieces}
 use Rattle.std.proofs.Common.{◌≡◌, ◌-◌, drop, length}
 
--- The loops of loaded_pieces (src/loading_order.rt). The directives of files, in the order in which they are loaded.
-
 abbrev pub invariant-loop-number : goal.invariant-loop-number
 invariant-loop-number l = loaded_after l.pieces.items l.number (drop l.number l.sources) ≡ loaded_pieces l.sources
 

@@ -3,7 +3,5 @@ use Rattle.drv_check.specs.LoadingOrder.{file_pieces, with_included}
 use Rattle.std.proofs.Common.{◌≡◌}
 use Rattle.std.specs.List.{flat_map}
 
--- The loops of with_inner (src/loading_order.rt). Directives with those of a file that the one at this spot includes.
-
 abbrev pub invariant-loop-piece : goal.invariant-loop-piece
 invariant-loop-piece l = l.all.items ≡ flat_map (with_included l.spot (file_pieces l.file)) l.yielded

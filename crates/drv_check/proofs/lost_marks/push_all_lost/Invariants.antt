@@ -4,8 +4,6 @@ use Rattle.drv_syntax.specs.Parsed.{tree_of}
 use Rattle.drv_syntax.specs.Tokens.{tokens_of}
 use Rattle.std.proofs.Common.{◌≡◌, ◌++◌, None, length}
 
--- The loops of push_all_lost (src/lost_marks.rt). Adds the warnings of tokens that mark no word.
-
 abbrev pub invariant-loop-left : goal.invariant-loop-left
 invariant-loop-left l =
     l.marks.items ++ lost_marks l.size l.start l.before l.left

@@ -2,9 +2,6 @@ use Rattle.drv_check.proofs.mark_words.marked_text.Given as goal
 use Rattle.drv_check.specs.MarkWords.{marked_text, with_marks}
 use Rattle.std.proofs.Common.{◌≡◌, ◌-◌, ◌++◌, drop, length}
 
--- The loops of marked_text (src/mark_words.rt). A dump with a mark before each of these parts of it: its number is the part's place among
--- them.
-
 abbrev pub invariant-loop-number : goal.invariant-loop-number
 invariant-loop-number l =
     l.text.items ++ with_marks l.number l.at (drop l.number l.parts) l.left ≡ marked_text l.dump l.parts

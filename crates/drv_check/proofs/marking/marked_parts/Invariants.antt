@@ -4,8 +4,6 @@ use Rattle.drv_check.specs.Markings.{marked_parts, piece_parts}
 use Rattle.std.proofs.Common.{◌≡◌, ◌++◌, drop}
 use Rattle.std.specs.List.{flat_map}
 
--- The loops of marked_parts (src/marking.rt). The parts of the texts of a set that have a mark, by its dump, in their order.
-
 abbrev pub invariant-loop-piece : goal.invariant-loop-piece
 invariant-loop-piece l =
     l.parts ++ flat_map (piece_parts l.loaded (loaded_pieces l.loaded)) (drop l.piece-index l.piece-items)

@@ -2,8 +2,6 @@ use Rattle.drv_check.proofs.marking.part_end.Given as goal
 use Rattle.drv_check.specs.MarkedParts.{part_end}
 use Rattle.std.proofs.Common.{◌≡◌, length}
 
--- The loops of part_end (src/marking.rt). Where a part ends that has reached this place, behind an item of this role.
-
 abbrev pub invariant-loop-left : goal.invariant-loop-left
 invariant-loop-left l = part_end l.last l.at l.left ≡ part_end l.fn.role l.end l.tokens
 

@@ -1,13 +1,10 @@
 use Rattle.drv_check.proofs.marking.plain_run.Given as goal
 use Rattle.drv_check.specs.Code.PlainRuns.{read_to}
 use Rattle.drv_check.specs.MarkedParts.{part_end, parts_from}
-use Rattle.drv_check.specs.declared.marking.Before.TheVariants.{Follows}
-use Rattle.drv_check.specs.declared.marking.Reading.{Reading}
-use Rattle.drv_check.specs.declared.marking.Role.TheVariants.{Item}
+use Rattle.drv_check.specs.declared.mark_reading.Before.TheVariants.{Follows}
+use Rattle.drv_check.specs.declared.mark_reading.Reading.{Reading}
+use Rattle.drv_check.specs.declared.mark_reading.Role.TheVariants.{Item}
 use Rattle.std.proofs.Common.{◌≡◌, ◌≤◌, List, length, ℕ}
-
--- The loops of plain_run (src/marking.rt). Where the plain tokens end that are right behind an item without marks inside, which ends here,
--- and the tokens behind them.
 
 -- the tokens left end a part, and are read, as all of them from the item on
 abbrev pub invariant-loop-left : goal.invariant-loop-left

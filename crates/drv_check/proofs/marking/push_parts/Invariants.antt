@@ -4,8 +4,6 @@ use Rattle.drv_check.specs.Markings.{marked_part}
 use Rattle.std.proofs.Common.{◌≡◌, ◌++◌, drop}
 use Rattle.std.specs.Prelude.{map}
 
--- The loops of push_parts (src/marking.rt). Adds the marked parts of a text with these tokens.
-
 abbrev pub invariant-loop-extent : goal.invariant-loop-extent
 invariant-loop-extent l =
     l.parts ++ map (marked_part l.text.head.now l.text.text.now l.text.spots.now l.text.at) (drop l.extent-index l.extent-items)

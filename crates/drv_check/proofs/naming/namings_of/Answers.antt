@@ -5,8 +5,6 @@ use Rattle.drv_check.specs.LoadingOrder.{loaded_pieces}
 use Rattle.drv_check.specs.Namings.{namings_of}
 use Rattle.std.proofs.Common.{◌∙◌, ◌++◌, ap, false, get_or}
 
--- namings_of (src/naming.rt). The parts of the texts of a set that name switches, by its dump, in their order.
-
 -- one piece more was read
 pub loop-place-preserved : goal.loop-place-preserved
 loop-place-preserved c =

@@ -3,8 +3,6 @@ use Rattle.drv_check.specs.LoadingOrder.{loaded_pieces}
 use Rattle.drv_check.specs.Namings.{namings_of, pieces_namings}
 use Rattle.std.proofs.Common.{◌≡◌, ◌++◌, ◌-◌, drop, length}
 
--- The loops of namings_of (src/naming.rt). The parts of the texts of a set that name switches, by its dump, in their order.
-
 abbrev pub invariant-loop-place : goal.invariant-loop-place
 invariant-loop-place l =
     l.namings ++ pieces_namings l.loaded (loaded_pieces l.loaded) (drop l.place l.pieces) ≡ namings_of l.loaded l.dump

@@ -3,8 +3,6 @@ use Rattle.drv_check.proofs.opening.find_text.Goals as goal
 use Rattle.drv_system.proofs.Asking.{asks_extends, asks_then, extends_then}
 use Rattle.std.proofs.Common.{refl}
 
--- find_text (src/opening.rt). The path of an included file, and its text.
-
 -- Names: `F`: what is known of the outside. `e`: that `F` extends the facts of this call. `asks_then`: one call that only asks after
 -- another. `found_is`: an included file is opened by its path and its text, once both are known. `asks_extends`: a call that only asked
 -- keeps every answer.

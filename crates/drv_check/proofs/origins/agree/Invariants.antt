@@ -2,8 +2,6 @@ use Rattle.drv_check.proofs.origins.agree.Given as goal
 use Rattle.drv_check.specs.Origins.{agree}
 use Rattle.std.proofs.Common.{◌≡◌, length}
 
--- The loops of agree (src/origins.rt). Whether files have the bytes of a text at these spots.
-
 -- The spots that are left agree with the bytes left exactly if all agree.
 abbrev pub invariant-loop-spots_left : goal.invariant-loop-spots_left
 invariant-loop-spots_left l = agree l.sources l.spots_left l.bytes_left ≡ agree l.sources l.spots l.text

@@ -3,8 +3,6 @@ use Rattle.drv_check.proofs.origins.agreed_places.Goals as goal
 use Rattle.drv_check.specs.Origins.{spots_at}
 use Rattle.std.proofs.Common.{◌∙◌, ap, rules}
 
--- agreed_places (src/origins.rt). The places of the last bytes of a text that a directive gives, if its source has those bytes there.
-
 -- there is no source
 pub returns-in_default : goal.returns-in_default
 returns-in_default c =
@@ -15,7 +13,7 @@ returns-in_default c =
 pub returns-then-has_bytes : goal.returns-then-has_bytes
 returns-then-has_bytes c =
     places_agree c.args.sources.now c.args.piece.now.spot.source c.in-Some.source.now c.args.piece.now.places c.args.text.now
-    c.after-last.result c.following-bytes.result.now (search rules) (search rules)
+    c.after-last.result c.after_first-bytes.result.now (search rules) (search rules)
     (search rules) (search rules) (search rules)
 
 -- it has others
@@ -23,5 +21,5 @@ pub returns-else-has_bytes : goal.returns-else-has_bytes
 returns-else-has_bytes c =
     ap (spots_at c.args.piece.now.spot.source) c.none-else-has_bytes.ensures
     ∙ places_differ c.args.sources.now c.args.piece.now.spot.source c.in-Some.source.now c.args.piece.now.places c.args.text.now
-    c.after-last.result c.following-bytes.result.now (search rules) (search rules)
+    c.after-last.result c.after_first-bytes.result.now (search rules) (search rules)
     (search rules) (search rules) (search rules)

@@ -2,9 +2,6 @@ use Rattle.drv_check.proofs.origins.own_piece.Given as goal
 use Rattle.drv_check.specs.Origins.{spots_after}
 use Rattle.std.proofs.Common.{◌≡◌, length, reverse}
 
--- The loops of own_piece (src/origins.rt). The directive that gives all bytes of a head's text that are in files: the last one puts the
--- text, or adds to one that no file gives.
-
 abbrev pub invariant-loop-piece : goal.invariant-loop-piece
 invariant-loop-piece l = spots_after l.head (reverse l.left) ≡ spots_after l.head (reverse l.pieces)
 

@@ -2,8 +2,6 @@ use Rattle.drv_check.proofs.origins.push_own.Given as goal
 use Rattle.drv_check.specs.Origins.{own_spots, spots_at}
 use Rattle.std.proofs.Common.{◌≡◌, ◌≤◌, ◌++◌, length, reverse, take}
 
--- The loops of push_own (src/origins.rt). Adds the spots of the text that a directive gives, the last one first.
-
 abbrev pub invariant-loop-left : goal.invariant-loop-left
 invariant-loop-left l = record {
   within : l.left ≤ length l.piece.places;

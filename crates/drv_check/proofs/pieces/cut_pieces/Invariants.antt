@@ -5,8 +5,6 @@ use Rattle.drv_specs.specs.Code.Slices.{bytes_from, lines_from}
 use Rattle.std.proofs.Common.{◌≡◌, ◌≤◌, ◌+◌, ◌++◌, length}
 use Rattle.std.specs.Option.{option_map}
 
--- The loops of cut_pieces (src/pieces.rt). The pieces of a settled text that is read so.
-
 abbrev pub invariant-loop-left : goal.invariant-loop-left
 invariant-loop-left l = record {
   cut : l.pieces.items ++ pieces_from (recovers l.reading) l.begun l.number l.at (lines_from (option_map (λ bytes. bytes.now) l.left))

@@ -1,8 +1,6 @@
 use Rattle.drv_check.proofs.TextsReached.{name_next}
 use Rattle.drv_check.proofs.reached.add_names.Goals as goal
 
--- add_names (src/reached.rt). Adds several names, each unless it is there.
-
 -- Names: `name_next`: the loop has added one name more.
 
 pub loop-name-preserved : goal.loop-name-preserved

@@ -2,7 +2,5 @@ use Rattle.drv_check.proofs.reached.add_names.Given as goal
 use Rattle.drv_check.specs.Reached.{with_names}
 use Rattle.std.proofs.Common.{◌≡◌}
 
--- The loops of add_names (src/reached.rt). Adds several names, each unless it is there.
-
 abbrev pub invariant-loop-name : goal.invariant-loop-name
 invariant-loop-name l = l.names ≡ with_names l.fn.names l.yielded

@@ -5,8 +5,6 @@ use Rattle.std.proofs.Common.{◌<◌, ◌∙◌, ap, length, subst}
 use Rattle.std.specs.Option.{option_map}
 use Rattle.std.specs.Prelude.{get_or}
 
--- add_pairs (src/reached.rt). Adds the names that the texts of pairs name, where those are among these texts.
-
 -- One pair more: its names were added if its text is among these (`pair_next`).
 pub loop-place-preserved : goal.loop-place-preserved
 loop-place-preserved c =

@@ -2,8 +2,6 @@ use Rattle.drv_check.proofs.reached.add_pairs.Given as goal
 use Rattle.drv_check.specs.Reached.{with_pairs}
 use Rattle.std.proofs.Common.{◌≡◌, ◌-◌, drop, length}
 
--- The loops of add_pairs (src/reached.rt). Adds the names that the texts of pairs name, where those are among these texts.
-
 abbrev pub invariant-loop-place : goal.invariant-loop-place
 invariant-loop-place l = with_pairs l.texts l.names (drop l.place l.set.pairs) ≡ with_pairs l.texts l.fn.names l.set.pairs
 

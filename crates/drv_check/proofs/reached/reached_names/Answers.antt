@@ -6,8 +6,6 @@ use Rattle.std.proofs.Common.{◌≡◌, ◌∙◌, ◌-◌, ap, arith}
 use Rattle.std.specs.Option.{option_map}
 use Rattle.std.specs.Prelude.{get_or}
 
--- reached_names (src/reached.rt). The names of the texts that a plan can use whose sources have these texts.
-
 pub loop-place-init : goal.loop-place-init
 loop-place-init c =
     let all : most_texts - 0 ≡ most_texts = omega arith in

@@ -3,8 +3,6 @@ use Rattle.drv_check.proofs.seeking.+seek_file.Goals as goal
 use Rattle.drv_check.specs.Checks.{file_checked, never}
 use Rattle.drv_system.proofs.AskedCalls.{asked_further, asked_none, extends_before}
 
--- seek_file (src/seeking.rt). Opens what an open file includes, and what is included there.
-
 pub loop-piece-init : goal.loop-piece-init
 loop-piece-init g t c = record {
   asks = asked_none c.args.outside.now;

@@ -6,8 +6,6 @@ use Rattle.drv_system.specs.Asking.{Extends}
 use Rattle.drv_system.specs.Code.Asked.{Asked}
 use Rattle.drv_system.specs.Facts.{Facts}
 
--- The loops of seek_file (src/seeking.rt). Opens what an open file includes, and what is included there.
-
 -- The pieces that are left, from the check so far, open what the whole file opens.
 abbrev pub invariant-loop-piece : goal.invariant-loop-piece
 invariant-loop-piece g l = record {

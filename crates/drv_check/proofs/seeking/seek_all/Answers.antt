@@ -4,8 +4,6 @@ use Rattle.drv_check.specs.Checks.{all_called, never}
 use Rattle.drv_system.proofs.AskedCalls.{asked_further, asked_none, extends_before}
 use Rattle.std.proofs.Common.{refl}
 
--- seek_all (src/seeking.rt). Opens the files of the line, and what they include.
-
 pub loop-name-init : goal.loop-name-init
 loop-name-init g c = record { asks = asked_none c.args.outside.now; rest = λ F e set findings. (set, findings, refl) }
 

@@ -6,8 +6,6 @@ use Rattle.drv_system.specs.Code.Asked.{Asked}
 use Rattle.drv_system.specs.Facts.{Facts}
 use Rattle.std.proofs.Common.{drop}
 
--- The loops of seek_all (src/seeking.rt). Opens the files of the line, and what they include.
-
 -- The files that are left, from the check so far, open what all of them open.
 abbrev pub invariant-loop-name : goal.invariant-loop-name
 invariant-loop-name g l = record {

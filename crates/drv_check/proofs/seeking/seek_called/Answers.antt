@@ -6,8 +6,6 @@ use Rattle.drv_system.proofs.AskedCalls.{extends_before}
 use Rattle.drv_system.specs.Known.{Is}
 use Rattle.std.proofs.Common.{◌∙◌, None, ap, false, sym}
 
--- seek_called (src/seeking.rt). Opens a file of the line, and what it includes.
-
 -- The file was opened, so what is sought is what its pieces open (`called_within`).
 pub returns-in-Some-clause-seeks : goal.returns-in-Some-clause-seeks
 returns-in-Some-clause-seeks g c F e =

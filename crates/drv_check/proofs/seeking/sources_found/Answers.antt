@@ -1,8 +1,6 @@
 use Rattle.drv_check.proofs.FilesSought.{sources_sought}
 use Rattle.drv_check.proofs.seeking.sources_found.Goals as goal
 
--- sources_found (src/seeking.rt). The files that a line loads into the built-in set, along prefixes that were found.
-
 -- Names: `F`: what is known of the outside. `e`: that `F` extends the facts of this call. `sources_sought`: So the files that were opened
 -- are those of a check over the built-in set.
 

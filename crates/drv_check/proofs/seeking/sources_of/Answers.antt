@@ -5,9 +5,6 @@ use Rattle.drv_system.proofs.Asking.{asks_then}
 use Rattle.drv_system.specs.Asking.{Extends}
 use Rattle.std.proofs.Common.{rules}
 
--- sources_of (src/seeking.rt). The files that a line loads into the built-in set, in the order in which they are opened: each of these
--- names, found along these prefixes, and those that it includes.
-
 -- Names: `F`: what is known of the outside. `e`: that `F` extends the facts of this call. `opens_sources`: the prefixes that the call finds
 -- are those of the definition. `extends_before`: what extends the facts after a call extends those before it.
 

@@ -3,8 +3,6 @@ use Rattle.drv_check.specs.Checks.{finding_of}
 use Rattle.std.proofs.Common.{◌≡◌, ◌++◌, drop}
 use Rattle.std.specs.Prelude.{map}
 
--- The loops of push_warnings (src/stepping.rt). Adds the warnings of a piece.
-
 abbrev pub invariant-loop-mark : goal.invariant-loop-mark
 invariant-loop-mark l = l.findings ++ map (finding_of l.file l.piece) (drop l.mark-index l.marks) ≡ l.fn.findings
     ++ map (finding_of l.file l.piece) l.marks

@@ -1,7 +1,5 @@
 use Rattle.drv_check.proofs.Unused.{gcc_counts}
 use Rattle.drv_check.proofs.unused_text.gcc_has.Goals as goal
 
--- gcc_has (src/unused_text.rt). Whether gcc has the text of this name, where its names count.
-
 pub returns-in-Gcc : goal.returns-in-Gcc
 returns-in-Gcc c = gcc_counts c.args.whose c.args.name.now c.stands_in.result c.in-Gcc.is c.stands_in.ensures

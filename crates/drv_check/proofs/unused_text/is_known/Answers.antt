@@ -1,8 +1,6 @@
 use Rattle.drv_check.proofs.Unused.{known_first, known_second}
 use Rattle.drv_check.proofs.unused_text.is_known.Goals as goal
 
--- is_known (src/unused_text.rt). Whether the driver works the text of this name itself, or gcc, where its names count.
-
 pub returns-then-stands_in : goal.returns-then-stands_in
 returns-then-stands_in c =
     known_first c.args.whose c.args.name.now c.stands_in-in-Gcc.result c.in-Gcc.is c.if-stands_in.true c.stands_in-in-Gcc.ensures

@@ -3,7 +3,5 @@ use Rattle.drv_check.specs.UnusedTexts.{source_names}
 use Rattle.std.proofs.Common.{◌≡◌, ◌++◌, drop}
 use Rattle.std.specs.List.{flat_map}
 
--- The loops of names_worked (src/unused_text.rt). The names that the texts of these sources work.
-
 abbrev pub invariant-loop-source : goal.invariant-loop-source
 invariant-loop-source l = l.names.items ++ flat_map source_names (drop l.source-index l.sources) ≡ flat_map source_names l.sources

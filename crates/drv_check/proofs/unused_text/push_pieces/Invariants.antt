@@ -3,8 +3,6 @@ use Rattle.drv_check.specs.UnusedTexts.{piece_names}
 use Rattle.std.proofs.Common.{◌≡◌, ◌++◌, drop}
 use Rattle.std.specs.List.{flat_map}
 
--- The loops of push_pieces (src/unused_text.rt). Adds the names that pieces work.
-
 abbrev pub invariant-loop-piece : goal.invariant-loop-piece
 invariant-loop-piece l = l.names.items ++ flat_map piece_names (drop l.piece-index l.pieces) ≡ l.fn.names.items
     ++ flat_map piece_names l.pieces

@@ -4,8 +4,6 @@ use Rattle.drv_syntax.specs.Parsed.{tree_of}
 use Rattle.drv_syntax.specs.Tokens.{tokens_of}
 use Rattle.std.proofs.Common.{◌≡◌, ◌-◌, ◌++◌, drop, length}
 
--- The loops of push_tree (src/unused_text.rt). Adds the names that a tree works.
-
 abbrev pub invariant-loop-place : goal.invariant-loop-place
 invariant-loop-place l =
     l.names.items ++ names_from (tree_of l.tree) l.place (drop l.place (tokens_of (tree_of l.tree))) ≡ l.fn.names.items

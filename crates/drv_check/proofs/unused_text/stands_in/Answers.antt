@@ -5,8 +5,6 @@ use Rattle.std.proofs.lemmas.Iterator.Search.{any_from_yields_List}
 use Rattle.std.proofs.lemmas.Iterator.Splits.{YieldsList-from_slice_split}
 use Rattle.std.specs.Cmp.Lexicographic.{pointwise}
 
--- stands_in (src/unused_text.rt). Whether a text has a name between spaces.
-
 pub returns : goal.returns
 returns c =
     let made = c.split.ensures in

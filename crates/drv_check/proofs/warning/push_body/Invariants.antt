@@ -5,8 +5,6 @@ use Rattle.drv_specs.specs.Lines.{lines_of}
 use Rattle.std.proofs.Common.{◌≡◌, ◌≤◌, ◌+◌, ◌++◌, length}
 use Rattle.std.specs.Option.{option_map}
 
--- The loops of push_body (src/warning.rt). Adds the warnings of the lines after the first.
-
 abbrev pub invariant-loop-left : goal.invariant-loop-left
 invariant-loop-left l = record {
   cut : l.marks.items ++ lines_marks l.at (lines_from (option_map (λ bytes. bytes.now) l.left)) ≡ l.fn.marks.items

@@ -2,8 +2,6 @@ use Rattle.drv_forms.proofs.gathering.push_jobs.Given as goal
 use Rattle.drv_forms.specs.Entries.{jobs_entries}
 use Rattle.std.proofs.Common.{◌≡◌, ◌++◌, drop}
 
--- The loops of push_jobs (src/gathering.rt). Adds what jobs have.
-
 abbrev pub invariant-loop-job : goal.invariant-loop-job
 invariant-loop-job l = record {
   entries : l.entries ++ jobs_entries l.number (drop l.job-index l.jobs) ≡ l.fn.entries ++ jobs_entries 0 l.jobs;

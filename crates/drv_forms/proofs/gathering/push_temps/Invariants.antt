@@ -3,7 +3,5 @@ use Rattle.drv_forms.specs.Entries.{temp_entries}
 use Rattle.std.proofs.Common.{◌≡◌, ◌++◌, drop}
 use Rattle.std.specs.List.{flat_map}
 
--- The loops of push_temps (src/gathering.rt). Adds temporary files.
-
 abbrev pub invariant-loop-temp : goal.invariant-loop-temp
 invariant-loop-temp l = l.entries ++ flat_map (temp_entries l.job) (drop l.temp-index l.temps) ≡ l.fn.entries ++ flat_map (temp_entries l.job) l.temps

@@ -8,8 +8,6 @@ use Rattle.std.proofs.Common.{◌≡◌, option_and_then, ap, ◌∙◌, arith}
 use Rattle.std.proofs.lemmas.Grind.{common_steps}
 use Rattle.drv_forms.proofs.json_form.plan_json.Goals as goal
 
--- plan_json (src/json_form.rt). The text of a plan in JSON, with a line for each item and member, which ends without a newline.
-
 -- Names: `plan_json`: a plan as an object. `document_of`: tokens of a value are its whole text, if the value doesn't nest too deep.
 
 pub returns-clause-document : goal.returns-clause-document

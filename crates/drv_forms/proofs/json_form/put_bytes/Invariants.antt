@@ -4,8 +4,6 @@ use Rattle.json.specs.Tree.{items_tokens}
 use Rattle.std.proofs.Common.{◌≡◌, ◌∷◌, ◌++◌, drop}
 use Rattle.drv_forms.proofs.json_form.put_bytes.Given as goal
 
--- The loops of put_bytes (src/json_form.rt). Writes bytes as an array.
-
 abbrev pub invariant-loop-byte : goal.invariant-loop-byte
 invariant-loop-byte l = l.out ++ items_tokens (items_json number_json (drop l.byte-index l.bytes)) ≡ l.fn.out ++ begin_array
     ∷ items_tokens (items_json number_json l.bytes)

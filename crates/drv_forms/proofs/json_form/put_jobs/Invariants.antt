@@ -4,8 +4,6 @@ use Rattle.json.specs.Tree.{items_tokens}
 use Rattle.std.proofs.Common.{◌≡◌, ◌∷◌, ◌++◌, drop}
 use Rattle.drv_forms.proofs.json_form.put_jobs.Given as goal
 
--- The loops of put_jobs (src/json_form.rt). Writes jobs as an array.
-
 abbrev pub invariant-loop-job : goal.invariant-loop-job
 invariant-loop-job l = l.out ++ items_tokens (items_json job_json (drop l.job-index l.jobs)) ≡ l.fn.out ++ begin_array
     ∷ items_tokens (items_json job_json l.jobs)

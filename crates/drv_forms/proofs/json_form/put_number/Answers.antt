@@ -2,7 +2,5 @@ use Rattle.json.proofs.Printed.Decimals.{IsNumber-decimal}
 use Rattle.std.proofs.Common.{rules}
 use Rattle.drv_forms.proofs.json_form.put_number.Goals as goal
 
--- put_number (src/json_form.rt). Writes a number.
-
 pub token-requires : goal.token-requires
 token-requires c = rw c.format.ensures.text (IsNumber-decimal c.args.number (search rules))

@@ -4,8 +4,6 @@ use Rattle.json.specs.Tree.{items_tokens}
 use Rattle.std.proofs.Common.{◌≡◌, ◌∷◌, ◌++◌, drop}
 use Rattle.drv_forms.proofs.json_form.put_temps.Given as goal
 
--- The loops of put_temps (src/json_form.rt). Writes temporary files as an array.
-
 abbrev pub invariant-loop-temp : goal.invariant-loop-temp
 invariant-loop-temp l = l.out ++ items_tokens (items_json temp_json (drop l.temp-index l.temps)) ≡ l.fn.out ++ begin_array
     ∷ items_tokens (items_json temp_json l.temps)

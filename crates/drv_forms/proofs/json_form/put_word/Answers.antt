@@ -4,8 +4,6 @@ use Rattle.std.proofs.Common.{◌≡◌, ◌++◌, List, OnOk, subst, sym, ◌�
 use Rattle.std.specs.Str.{IsUtf8}
 use Rattle.drv_forms.proofs.json_form.put_word.Goals as goal
 
--- put_word (src/json_form.rt). Writes a word: a string, or the list of its bytes where these aren't UTF-8.
-
 -- Names: `bytes_tokens`: `put_word` writes another word byte by byte. `text_tokens`: `put_word` writes a word of text as one token.
 
 pub returns-in-Ok : goal.returns-in-Ok

@@ -3,8 +3,6 @@ use Rattle.std.proofs.Common.{◌≡◌, ◌++◌, drop}
 use Rattle.std.specs.List.{flat_map}
 use Rattle.drv_forms.proofs.scripting.push_all_marked.Given as goal
 
--- The loops of push_all_marked (src/scripting.rt). Adds marked files.
-
 abbrev pub invariant-loop-path : goal.invariant-loop-path
 invariant-loop-path l =
     l.text.items ++ flat_map (marked_text l.stem) (drop l.path-index l.paths)

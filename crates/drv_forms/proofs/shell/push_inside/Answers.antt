@@ -4,8 +4,6 @@ use Rattle.std.proofs.Common.{◌≡◌, ◌++◌, arith, drop, length, true}
 use Rattle.std.proofs.lemmas.Grind.{common_steps}
 use Rattle.drv_forms.proofs.shell.push_inside.Goals as goal
 
--- push_inside (src/shell.rt). Adds what is between single quotes, with the variable for a stem.
-
 pub loop-left-preserved-then-begins_with : goal.loop-left-preserved-then-begins_with
 loop-left-preserved-then-begins_with c =
     let is : begins c.args.stem.now c.loop-left.left.now ≡ true = grind (arith, common_steps) in

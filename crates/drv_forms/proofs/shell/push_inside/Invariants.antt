@@ -2,8 +2,6 @@ use Rattle.drv_forms.specs.Shell.{inside}
 use Rattle.std.proofs.Common.{◌≡◌, ◌++◌, length}
 use Rattle.drv_forms.proofs.shell.push_inside.Given as goal
 
--- The loops of push_inside (src/shell.rt). Adds what is between single quotes, with the variable for a stem.
-
 abbrev pub invariant-loop-left : goal.invariant-loop-left
 invariant-loop-left l = l.text.items ++ inside l.stem l.variable 0 l.left ≡ l.fn.text.items ++ inside l.stem l.variable 0 l.word
 

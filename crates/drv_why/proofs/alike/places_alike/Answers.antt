@@ -2,8 +2,6 @@ use Rattle.drv_why.proofs.Beginnings.{one_met}
 use Rattle.drv_why.proofs.alike.places_alike.Goals as goal
 use Rattle.std.proofs.Common.{rules}
 
--- places_alike (src/alike.rt). The places of the parts whose patterns begin as a name does.
-
 -- one part more was met
 pub loop-place-preserved : goal.loop-place-preserved
 loop-place-preserved c =

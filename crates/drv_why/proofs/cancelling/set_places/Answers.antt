@@ -5,8 +5,6 @@ use Rattle.drv_why.specs.Code.Cancelling.{place_seen}
 use Rattle.std.proofs.Common.{◌≡◌, ◌<◌, ◌+◌, ◌-◌, ◌∙◌, Some, ap, arith, get_or, if◌then◌else◌, length, set, sym}
 use Rattle.std.proofs.lemmas.Grind.{common_steps}
 
--- set_places (src/cancelling.rt). Sets for each switch the place of the first later one that cancels it.
-
 -- one switch more was read: its place is set, and then it is noted
 pub loop-place-preserved : goal.loop-place-preserved
 loop-place-preserved c =

@@ -3,8 +3,6 @@ use Rattle.drv_why.specs.Code.Cancelling.{canceller_at, name_from, place_seen}
 use Rattle.drv_why.specs.Fates.{canceller}
 use Rattle.std.proofs.Common.{◌≡◌, ◌<◌, ◌≤◌, List, None, drop, get_or, length, ℕ}
 
--- The loops of set_places (src/cancelling.rt). Sets for each switch the place of the first later one that cancels it.
-
 -- the places of the switches that were read are right, and so is what is noted
 abbrev pub invariant-loop-place : goal.invariant-loop-place
 invariant-loop-place l = record {

@@ -2,8 +2,6 @@ use Rattle.drv_why.proofs.causes.find_input.Given as goal
 use Rattle.drv_why.specs.Causes.{word_of_input}
 use Rattle.std.proofs.Common.{◌≡◌, ◌-◌, drop, length}
 
--- The loops of find_input (src/causes.rt). The place of the first input from a place on that is this word, if there is one.
-
 abbrev pub invariant-loop-place : goal.invariant-loop-place
 invariant-loop-place l = word_of_input (drop l.place l.inputs) l.word ≡ word_of_input (drop l.from l.inputs) l.word
 

@@ -3,8 +3,6 @@ use Rattle.drv_why.proofs.fates.fates_text.Goals as goal
 use Rattle.drv_why.specs.Fates.{namings_text}
 use Rattle.std.proofs.Common.{◌<◌, ◌∙◌, ap, arith, length}
 
--- fates_text (src/fates.rt). What becomes of the switches of a line, as text.
-
 -- the lines of one switch more were added, and those of its parts are kept for the next one
 pub loop-place-preserved : goal.loop-place-preserved
 loop-place-preserved c =

@@ -6,8 +6,6 @@ use Rattle.drv_words.specs.Bytes.{hyphen}
 use Rattle.drv_words.specs.Printed.{quoted}
 use Rattle.std.proofs.Common.{◌≡◌, ◌-◌, ◌∷◌, ◌++◌, drop, length}
 
--- The loops of fates_text (src/fates.rt). What becomes of the switches of a line, as text.
-
 abbrev pub invariant-loop-place : goal.invariant-loop-place
 invariant-loop-place l =
     (l.text.items ++ fates_text l.parts.sources.now l.parts.namings.now (drop l.place l.switches)

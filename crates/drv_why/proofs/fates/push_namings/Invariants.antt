@@ -4,8 +4,6 @@ use Rattle.drv_why.specs.Code.LinePlaces.{IsKept}
 use Rattle.drv_why.specs.Fates.{namings_text}
 use Rattle.std.proofs.Common.{◌≡◌, ◌++◌, drop}
 
--- The loops of push_namings (src/fates.rt). Adds the lines of those of the parts at these places that have to do with a switch.
-
 abbrev pub invariant-loop-place : goal.invariant-loop-place
 invariant-loop-place l =
     (l.text.bytes.items ++ namings_text l.parts.sources.now l.name l.live (parts_at l.parts.namings.now (drop l.place-index l.places))

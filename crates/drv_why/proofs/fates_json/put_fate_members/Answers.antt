@@ -1,4 +1,4 @@
-use Rattle.drv_forms.proofs.Databases.{named_then}
+use Rattle.drv_why.proofs.Members.{named_then}
 use Rattle.drv_why.proofs.fates_json.put_fate_members.Goals as goal
 use Rattle.drv_why.specs.FatesJson.{cancelled_json, namings_items}
 use Rattle.json.specs.Json.{array, member, no_members}
@@ -7,9 +7,6 @@ use Rattle.json.specs.Tree.{json_tokens, members_tokens}
 use Rattle.std.proofs.Common.{codes}
 use Rattle.std.specs.Option.{option_map}
 use Rattle.std.specs.Prelude.{is_none}
-
--- put_fate_members (src/fates_json.rt). Writes what cancels a switch of this name and the parts that have to do with it, and ends the
--- object.
 
 -- Two members were put one after the other: who cancels the switch, and the parts that have to do with it.
 pub returns : goal.returns

@@ -2,8 +2,6 @@ use Rattle.drv_why.proofs.ListedFates.{fate_next}
 use Rattle.drv_why.proofs.fates_json.put_fates.Goals as goal
 use Rattle.std.proofs.Common.{◌<◌, arith, length}
 
--- put_fates (src/fates_json.rt). Writes what becomes of switches as an array.
-
 -- the object of one switch more was written
 pub loop-place-preserved : goal.loop-place-preserved
 loop-place-preserved c =

@@ -4,8 +4,6 @@ use Rattle.json.specs.Token.{begin_array}
 use Rattle.json.specs.Tree.{items_tokens}
 use Rattle.std.proofs.Common.{◌≡◌, ◌-◌, ◌∷◌, ◌++◌, drop, length}
 
--- The loops of put_fates (src/fates_json.rt). Writes what becomes of switches as an array.
-
 abbrev pub invariant-loop-place : goal.invariant-loop-place
 invariant-loop-place l =
     l.out ++ items_tokens (fates_items l.parts.sources.now l.parts.namings.now (drop l.place l.switches))

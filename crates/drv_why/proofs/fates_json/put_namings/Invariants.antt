@@ -4,8 +4,6 @@ use Rattle.json.specs.Token.{begin_array}
 use Rattle.json.specs.Tree.{items_tokens}
 use Rattle.std.proofs.Common.{◌≡◌, ◌∷◌, ◌++◌, drop}
 
--- The loops of put_namings (src/fates_json.rt). Writes the parts that have to do with a switch as an array.
-
 abbrev pub invariant-loop-naming : goal.invariant-loop-naming
 invariant-loop-naming l =
     l.out ++ items_tokens (namings_items l.sources l.name l.live (drop l.naming-index l.namings))

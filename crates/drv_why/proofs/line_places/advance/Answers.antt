@@ -2,8 +2,6 @@ use Rattle.drv_why.proofs.LinePlaces.{column_anew, column_on, column_within, lat
 use Rattle.drv_why.proofs.line_places.advance.Goals as goal
 use Rattle.std.proofs.Common.{◌+◌, ◌-◌, arith}
 
--- advance (src/line_places.rt). Moves a place on in its file.
-
 -- a column is small
 pub overflow_add-place : goal.overflow_add-place
 overflow_add-place c =

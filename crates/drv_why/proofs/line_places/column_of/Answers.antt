@@ -2,8 +2,6 @@ use Rattle.drv_why.proofs.LinePlaces.{column_within}
 use Rattle.drv_why.proofs.line_places.column_of.Goals as goal
 use Rattle.std.proofs.Common.{arith}
 
--- column_of (src/line_places.rt). The column of a place, from 1.
-
 -- a column is small
 pub overflow_add-result : goal.overflow_add-result
 overflow_add-result c =

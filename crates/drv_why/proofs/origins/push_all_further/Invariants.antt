@@ -4,8 +4,6 @@ use Rattle.drv_why.specs.Origins.{further_text}
 use Rattle.std.proofs.Common.{◌≡◌, ◌++◌, drop}
 use Rattle.std.specs.List.{flat_map}
 
--- The loops of push_all_further (src/origins.rt). Adds more parts of a word.
-
 abbrev pub invariant-loop-number : goal.invariant-loop-number
 invariant-loop-number l =
     (l.text.bytes.items ++ flat_map (further_text l.marking.sources l.marking.parts) (drop l.number-index l.numbers)

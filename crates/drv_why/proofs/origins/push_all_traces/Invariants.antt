@@ -5,8 +5,6 @@ use Rattle.drv_words.specs.Bytes.{newline}
 use Rattle.std.proofs.Common.{◌≡◌, ◌++◌, ◌∷◌, [], codes, drop}
 use Rattle.std.specs.List.{flat_map}
 
--- The loops of push_all_traces (src/origins.rt). Adds the lines of words.
-
 abbrev pub invariant-loop-trace : goal.invariant-loop-trace
 invariant-loop-trace l =
     (l.text.items ++ flat_map (trace_text l.marking.sources l.marking.parts) (drop l.trace-index l.traces)

@@ -2,8 +2,6 @@ use Rattle.drv_why.proofs.origins.push_commands.Given as goal
 use Rattle.drv_why.specs.Origins.{origins_from}
 use Rattle.std.proofs.Common.{◌≡◌, ◌-◌, ◌++◌, drop, length}
 
--- The loops of push_commands (src/origins.rt). Adds the lines of a plan, each with the lines of its words.
-
 abbrev pub invariant-loop-place : goal.invariant-loop-place
 invariant-loop-place l =
     l.text.items ++ origins_from l.marking l.place (drop l.place l.lines) ≡ l.fn.text.items ++ origins_from l.marking 0 l.lines

@@ -3,7 +3,5 @@ use Rattle.drv_why.specs.Origins.{more_text}
 use Rattle.std.proofs.Common.{◌≡◌, ◌++◌, drop}
 use Rattle.std.specs.List.{flat_map}
 
--- The loops of push_more (src/origins.rt). Adds what else a word is for.
-
 abbrev pub invariant-loop-name : goal.invariant-loop-name
 invariant-loop-name l = l.text.items ++ flat_map more_text (drop l.name-index l.names) ≡ l.fn.text.items ++ flat_map more_text l.names

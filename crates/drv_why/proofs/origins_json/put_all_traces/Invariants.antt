@@ -5,8 +5,6 @@ use Rattle.json.specs.Token.{begin_array}
 use Rattle.json.specs.Tree.{items_tokens}
 use Rattle.std.proofs.Common.{◌≡◌, ◌∷◌, ◌++◌, drop}
 
--- The loops of put_all_traces (src/origins_json.rt). Writes words with their parts as an array.
-
 abbrev pub invariant-loop-trace : goal.invariant-loop-trace
 invariant-loop-trace l =
     l.out ++ items_tokens (items_json (trace_json l.marking.sources l.marking.parts) (drop l.trace-index l.traces))

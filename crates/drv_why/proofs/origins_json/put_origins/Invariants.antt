@@ -4,8 +4,6 @@ use Rattle.json.specs.Token.{begin_array}
 use Rattle.json.specs.Tree.{items_tokens}
 use Rattle.std.proofs.Common.{◌≡◌, ◌-◌, ◌∷◌, ◌++◌, drop, length}
 
--- The loops of put_origins (src/origins_json.rt). Writes the commands of a plan as an array.
-
 abbrev pub invariant-loop-place : goal.invariant-loop-place
 invariant-loop-place l =
     l.out ++ items_tokens (origins_items l.marking l.place (drop l.place l.lines))

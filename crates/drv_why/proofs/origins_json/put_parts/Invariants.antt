@@ -5,8 +5,6 @@ use Rattle.json.specs.Token.{begin_array}
 use Rattle.json.specs.Tree.{items_tokens}
 use Rattle.std.proofs.Common.{◌≡◌, ◌∷◌, ◌++◌, drop}
 
--- The loops of put_parts (src/origins_json.rt). Writes the parts of a word as an array.
-
 abbrev pub invariant-loop-number : goal.invariant-loop-number
 invariant-loop-number l =
     l.out ++ items_tokens (items_json (number_part l.marking.sources l.marking.parts) (drop l.number-index l.numbers))

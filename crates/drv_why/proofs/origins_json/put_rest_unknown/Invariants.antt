@@ -4,8 +4,6 @@ use Rattle.drv_why.specs.Origins.{unknown_json}
 use Rattle.json.specs.Tree.{items_tokens}
 use Rattle.std.proofs.Common.{◌≡◌, ◌++◌, drop}
 
--- The loops of put_rest_unknown (src/origins_json.rt). Writes words whose parts are not known, one after another.
-
 abbrev pub invariant-loop-word : goal.invariant-loop-word
 invariant-loop-word l =
     l.out ++ items_tokens (items_json unknown_json (drop l.word-index l.words))

@@ -1,13 +1,11 @@
-use Rattle.drv_forms.proofs.Databases.{named_then}
 use Rattle.drv_forms.specs.PlanJson.{list_json, words_json}
+use Rattle.drv_why.proofs.Members.{named_then}
 use Rattle.drv_why.proofs.origins_json.put_told.Goals as goal
 use Rattle.drv_why.specs.Origins.{number_part}
 use Rattle.json.specs.Json.{member, no_members}
 use Rattle.json.specs.Token.{key}
 use Rattle.json.specs.Tree.{json_tokens, members_tokens}
 use Rattle.std.proofs.Common.{codes}
-
--- put_told (src/origins_json.rt). Writes the parts of a word and what it is for as members, and ends the object.
 
 -- Names: `named_then`: a member's name, its value, and the rest of the object make the object. `list_json`: a list as an array.
 

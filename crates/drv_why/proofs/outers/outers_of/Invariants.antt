@@ -2,8 +2,6 @@ use Rattle.drv_why.proofs.outers.outers_of.Given as goal
 use Rattle.drv_why.specs.Causes.{outers_from, outers_of}
 use Rattle.std.proofs.Common.{◌≡◌, ◌-◌, ◌++◌, drop, length}
 
--- The loops of outers_of (src/outers.rt). For each part the number of the outermost one that it is in.
-
 abbrev pub invariant-loop-number : goal.invariant-loop-number
 invariant-loop-number l = l.outers.items ++ outers_from l.number l.outer (drop l.number l.parts) ≡ outers_of l.parts
 

@@ -3,8 +3,6 @@ use Rattle.drv_why.specs.Taken.{has_switch}
 use Rattle.std.proofs.Common.{◌≡◌, ◌-◌, drop, length}
 use Rattle.std.specs.Option.{option_map}
 
--- The loops of find_switch (src/repeating.rt). The place of the first switch from a place on that is looked for, if there is one.
-
 abbrev pub invariant-loop-place : goal.invariant-loop-place
 invariant-loop-place l =
     has_switch l.pattern l.name (option_map (λ bytes. bytes.now) l.arg) (drop l.place l.switches)

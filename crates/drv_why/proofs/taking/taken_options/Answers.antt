@@ -4,8 +4,6 @@ use Rattle.drv_why.proofs.taking.taken_options.Goals.{else-is_taken, then-is_tak
 use Rattle.drv_why.specs.Taken.{with_option}
 use Rattle.std.proofs.Common.{◌<◌, ◌∙◌, ap, arith, length, sym}
 
--- taken_options (src/taking.rt). The options of the switches that a pattern takes.
-
 -- the switch at the place is taken, and its option is added, or it isn't
 pub loop-place-preserved : goal.loop-place-preserved
 loop-place-preserved c =

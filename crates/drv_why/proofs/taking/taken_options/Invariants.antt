@@ -2,8 +2,6 @@ use Rattle.drv_why.proofs.taking.taken_options.Given as goal
 use Rattle.drv_why.specs.Taken.{taken_options, with_switches}
 use Rattle.std.proofs.Common.{◌≡◌, ◌-◌, drop, length}
 
--- The loops of taken_options (src/taking.rt). The options of the switches that a pattern takes.
-
 abbrev pub invariant-loop-place : goal.invariant-loop-place
 invariant-loop-place l = with_switches l.pattern l.names (drop l.place l.switches) ≡ taken_options l.pattern l.switches
 

@@ -3,8 +3,6 @@ use Rattle.drv_why.specs.Code.Halts.{IsOn}
 use Rattle.drv_why.specs.Code.Takers.{last_takers, parts_taken}
 use Rattle.std.proofs.Common.{◌≡◌, [], drop}
 
--- The loops of causes_of (src/telling.rt). What a word is for that has bytes of the parts with these numbers.
-
 abbrev pub invariant-loop-number : goal.invariant-loop-number
 invariant-loop-number l =
     (parts_taken l.case l.names (drop l.number-index l.numbers) ≡ parts_taken l.case [] l.numbers)

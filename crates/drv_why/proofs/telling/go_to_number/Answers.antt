@@ -6,8 +6,6 @@ use Rattle.drv_why.specs.Code.Halts.{IsFollowed}
 use Rattle.drv_why.specs.Code.Takers.{takers_at}
 use Rattle.std.proofs.Common.{◌≡◌, ◌∙◌, ap, rules, subst, sym}
 
--- go_to_number (src/telling.rt). Goes on to the part with this number.
-
 -- without a part the trail stays that of its outer one
 pub returns-in_default-clause-on : goal.returns-in_default-clause-on
 returns-in_default-clause-on c = c.clear.ensures.on c.args.case.now.line.switches c.args.case.now.parts c.requires

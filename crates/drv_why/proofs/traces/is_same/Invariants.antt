@@ -3,8 +3,6 @@ use Rattle.std.proofs.Common.{◌≡◌, length}
 use Rattle.std.specs.Cmp.Lexicographic.{pointwise}
 use Rattle.std.specs.Prelude.{nat_eq}
 
--- The loops of is_same (src/traces.rt). Whether bytes are the same.
-
 -- the bytes that are left are the same exactly if all are
 abbrev pub invariant-loop-left : goal.invariant-loop-left
 invariant-loop-left l = pointwise nat_eq l.left l.others_left ≡ pointwise nat_eq l.bytes l.others

@@ -2,8 +2,6 @@ use Rattle.drv_why.proofs.traces.mark_number.Given as goal
 use Rattle.drv_why.specs.Traces.{at_word, read}
 use Rattle.std.proofs.Common.{◌≡◌, ◌<◌, Option, Some, length, ℕ}
 
--- The loops of mark_number (src/traces.rt). The number of the mark that a word is, if it is one mark and nothing else.
-
 -- what is left is read inside the mark with the number so far
 abbrev pub invariant-loop-left : goal.invariant-loop-left
 invariant-loop-left l =

@@ -4,8 +4,6 @@ use Rattle.drv_why.proofs.traces.set_words.Given as goal
 use Rattle.drv_why.specs.Traces.{all_worded, are_words}
 use Rattle.std.proofs.Common.{◌≡◌, drop, true}
 
--- The loops of set_words (src/traces.rt). Gives each word its bytes in the plan: a file that was found has its path there.
-
 abbrev pub invariant-loop-n : goal.invariant-loop-n
 invariant-loop-n l =
     (half_worded (words_of l.command) l.n l.traces ≡ all_worded (words_of l.command) 0 l.fn.traces)

@@ -6,8 +6,6 @@ use Rattle.drv_why.specs.Code.Takers.{last_takers}
 use Rattle.std.proofs.Common.{◌∙◌, ap, refl, rules, sym}
 use Rattle.std.specs.Option.{option_map}
 
--- set_causes (src/tracing.rt). Says for each word of the command at a place what it is for.
-
 -- no part is kept at first
 pub loop-n-init : goal.loop-n-init
 loop-n-init c = (

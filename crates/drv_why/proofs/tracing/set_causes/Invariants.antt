@@ -5,8 +5,6 @@ use Rattle.drv_why.specs.Code.Halts.{IsOn}
 use Rattle.drv_why.specs.Code.Takers.{last_takers}
 use Rattle.std.proofs.Common.{◌≡◌, []}
 
--- The loops of set_causes (src/tracing.rt). Says for each word of the command at a place what it is for.
-
 abbrev pub invariant-loop-n : goal.invariant-loop-n
 invariant-loop-n l =
     (half_caused l.marking.line l.marking.plan.jobs l.marking.parts l.place l.n l.traces

@@ -1,12 +1,10 @@
-use Rattle.drv_forms.proofs.Databases.{named_then}
+use Rattle.drv_why.proofs.Members.{named_then}
 use Rattle.drv_why.proofs.whole.put_halves.Goals as goal
 use Rattle.drv_why.specs.Origins.{origins_value}
 use Rattle.drv_why.specs.Whole.{switches_member}
 use Rattle.json.specs.Token.{key}
 use Rattle.json.specs.Tree.{json_tokens, members_tokens}
 use Rattle.std.proofs.Common.{codes}
-
--- put_halves (src/whole.rt). Writes both halves as members, and ends the object.
 
 -- Names: `named_then`: a member's name, its value, and the rest of the object make the object. `origins_value`: an array for each command,
 -- in an array.

@@ -1,8 +1,6 @@
 use Rattle.drv_system.proofs.Asking.{asks_extends, extends_then}
 use Rattle.gdrv_specs.proofs.noting.line_note.Goals as goal
 
--- line_note (src/noting.rt). Where the spec files of a line of the driver are refused, as a note: the place of the fault in its file.
-
 -- Names: `F`: what is known of the outside. `e`: that `F` extends the facts of this call. `asks_extends`: the facts after a call extend
 -- those before it. `extends_then`: what extends further facts extends these.
 

@@ -3,7 +3,5 @@ use Rattle.gdrv_specs.specs.Notes.{file_found}
 use Rattle.std.proofs.Common.{◌≡◌, ◌++◌, drop}
 use Rattle.std.specs.List.{flat_map}
 
--- The loops of push_plain (src/noting.rt). Adds the files that were found.
-
 abbrev pub invariant-loop-event : goal.invariant-loop-event
 invariant-loop-event l = l.files ++ flat_map file_found (drop l.event-index l.journal) ≡ l.fn.files ++ flat_map file_found l.journal

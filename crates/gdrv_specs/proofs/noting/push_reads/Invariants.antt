@@ -3,7 +3,5 @@ use Rattle.gdrv_specs.specs.Notes.{file_read}
 use Rattle.std.proofs.Common.{◌≡◌, ◌++◌, drop}
 use Rattle.std.specs.List.{flat_map}
 
--- The loops of push_reads (src/noting.rt). Adds the files that were read: those that could not be read have no bytes.
-
 abbrev pub invariant-loop-event : goal.invariant-loop-event
 invariant-loop-event l = l.files ++ flat_map file_read (drop l.event-index l.journal) ≡ l.fn.files ++ flat_map file_read l.journal

@@ -1,8 +1,6 @@
 use Rattle.gdrv_specs.proofs.Noted.{note_builtin}
 use Rattle.gdrv_specs.proofs.noting.settings_note.Goals as goal
 
--- settings_note (src/noting.rt). Where the spec files of these settings are refused, as a note.
-
 -- Names: `F`: what is known of the outside. `e`: that `F` extends the facts of this call. `note_builtin`: the note over the built-in set is
 -- that over the set at hand.
 

@@ -2,7 +2,5 @@ use Rattle.gdrv_specs.proofs.noting.variables_in.Given as goal
 use Rattle.gdrv_specs.specs.Notes.{variables_in}
 use Rattle.std.proofs.Common.{◌≡◌, ◌++◌, drop}
 
--- The loops of variables_in (src/noting.rt). The variables that were set, with their values.
-
 abbrev pub invariant-loop-event : goal.invariant-loop-event
 invariant-loop-event l = l.variables ++ variables_in (drop l.event-index l.journal) ≡ variables_in l.journal

@@ -2,8 +2,6 @@ use Rattle.drv_check.proofs.FaultsCounted.{fault_counted, warning_counted}
 use Rattle.drv_check.proofs.findings.Findings.push.Goals as goal
 use Rattle.std.proofs.Common.{◌≡◌, ◌∙◌, ◌+◌, rules, sym}
 
--- push (src/findings.rt). Adds one thing that was found.
-
 -- one fault more
 pub invariant_of-self-then-is_fault : goal.invariant_of-self-then-is_fault
 invariant_of-self-then-is_fault c =

@@ -1,7 +1,5 @@
 use Rattle.drv_check.proofs.known_trees.PairPlaces.new.Given as goal
 use Rattle.std.proofs.Common.{◌-◌, length}
 
--- The loops of new (src/known_trees.rt). Notes where the pairs of a set are, if they are many.
-
 abbrev pub decreases-loop-place : goal.decreases-loop-place
 decreases-loop-place l = length l.pairs - l.place

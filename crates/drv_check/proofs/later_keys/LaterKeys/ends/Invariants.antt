@@ -2,8 +2,6 @@ use Rattle.drv_check.proofs.later_keys.LaterKeys.ends.Given as goal
 use Rattle.drv_check.specs.Code.LaterKeys.{ends_seen, has_key}
 use Rattle.std.proofs.Common.{◌≡◌, length}
 
--- The loops of ends (src/later_keys.rt). Whether one of them is the key of a suffix that ends this one.
-
 abbrev pub invariant-loop-left : goal.invariant-loop-left
 invariant-loop-left l = ends_seen (has_key l.self) l.left ≡ ends_seen (has_key l.self) l.key
 

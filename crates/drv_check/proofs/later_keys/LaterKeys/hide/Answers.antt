@@ -5,8 +5,6 @@ use Rattle.drv_check.specs.HiddenPairs.{key_in}
 use Rattle.std.proofs.Common.{◌∙◌, ap, sym}
 use Rattle.std.specs.Option.{option_map}
 
--- hide (src/later_keys.rt). Whether one of these later pieces, which are all that were read, hides a piece.
-
 -- a short key is looked up among those that were read
 pub returns-in-Some : goal.returns-in-Some
 returns-in-Some c =

@@ -2,8 +2,6 @@ use Rattle.drv_syntax.specs.Parsed.{tree_of}
 use Rattle.drv_why.proofs.Halting.{approach_next}
 use Rattle.drv_why.proofs.halts.Course.approach.Goals as goal
 
--- approach (src/halts.rt). Reads the tokens before the part.
-
 -- after one token more the halts still lead to the part
 pub loop-self-preserved : goal.loop-self-preserved
 loop-self-preserved c =

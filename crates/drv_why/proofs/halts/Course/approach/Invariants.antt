@@ -4,8 +4,6 @@ use Rattle.drv_why.proofs.halts.Course.approach.Given as goal
 use Rattle.drv_why.specs.Code.Halts.{Approaches}
 use Rattle.std.proofs.Common.{◌≡◌, ◌-◌, length}
 
--- The loops of approach (src/halts.rt). Reads the tokens before the part.
-
 abbrev pub invariant-loop-self : goal.invariant-loop-self
 invariant-loop-self l = (Approaches l.switches (tree_of l.tree) l.self) × (l.self.at ≡ l.fn.self.at)
 

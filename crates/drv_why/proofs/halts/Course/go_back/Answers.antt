@@ -1,8 +1,6 @@
 use Rattle.drv_why.proofs.Halting.{gone_back}
 use Rattle.drv_why.proofs.halts.Course.go_back.Goals as goal
 
--- go_back (src/halts.rt). Goes back before a part that begins here.
-
 pub returns-clause-approaches : goal.returns-clause-approaches
 returns-clause-approaches c switches items followed =
     gone_back switches items c.leave.new.self c.shorten.new.takers c.shorten.ensures c.leave.ensures.within

@@ -2,8 +2,6 @@ use Rattle.drv_why.proofs.Halting.{left_one}
 use Rattle.drv_why.proofs.halts.Course.leave.Goals as goal
 use Rattle.std.proofs.Common.{rules}
 
--- leave (src/halts.rt). Goes back to the last halt on the way to the part.
-
 -- the halt before the last one is followed too
 pub loop-self-preserved : goal.loop-self-preserved
 loop-self-preserved c = (

@@ -4,8 +4,6 @@ use Rattle.drv_why.proofs.halts.Course.leave.Given as goal
 use Rattle.drv_why.specs.Code.Halts.{IsFollowed}
 use Rattle.std.proofs.Common.{◌≡◌, List, length}
 
--- The loops of leave (src/halts.rt). Goes back to the last halt on the way to the part.
-
 abbrev pub invariant-loop-self : goal.invariant-loop-self
 invariant-loop-self l =
     ((switches : List Switch) (items : Items) → IsFollowed switches items l.fn.self → IsFollowed switches items l.self)

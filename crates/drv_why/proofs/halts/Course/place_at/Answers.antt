@@ -2,8 +2,6 @@ use Rattle.drv_why.proofs.Halting.{followed_later}
 use Rattle.drv_why.proofs.halts.Course.place_at.Goals as goal
 use Rattle.std.proofs.Common.{arith}
 
--- place_at (src/halts.rt). Makes this the place where the part begins.
-
 -- anew
 pub returns-clause-followed : goal.returns-clause-followed
 returns-clause-followed c switches items followed =

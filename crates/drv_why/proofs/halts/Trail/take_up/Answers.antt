@@ -4,8 +4,6 @@ use Rattle.std.proofs.Common.{rules}
 use Rattle.std.proofs.Common.{◌∙◌, ap}
 use Rattle.std.specs.Option.{option_map}
 
--- take_up (src/halts.rt). Takes up the outermost part with this number, unless its text has no tree.
-
 -- the text has a tree
 pub returns-in-Ok-clause-on : goal.returns-in-Ok-clause-on
 returns-in-Ok-clause-on c switches parts here on = (

@@ -3,8 +3,6 @@ use Rattle.drv_why.proofs.WayEnds.{all_met, token_idle}
 use Rattle.drv_why.proofs.takers.Way.take_from.Goals as goal
 use Rattle.std.proofs.Common.{◌∙◌, refl, sym}
 
--- take_from (src/takers.rt). Takes the tokens of a tree from a place on.
-
 -- the way goes on to no token
 pub returns-then-is_over : goal.returns-then-is_over
 returns-then-is_over c =

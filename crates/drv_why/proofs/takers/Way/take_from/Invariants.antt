@@ -4,8 +4,6 @@ use Rattle.drv_why.proofs.takers.Way.take_from.Given as goal
 use Rattle.drv_why.specs.Code.Takers.{tokens_met}
 use Rattle.std.proofs.Common.{◌≡◌, ◌-◌, drop, length}
 
--- The loops of take_from (src/takers.rt). Takes the tokens of a tree from a place on.
-
 abbrev pub invariant-loop-place : goal.invariant-loop-place
 invariant-loop-place l =
     tokens_met l.switches (tree_of l.tree) l.place l.self (drop l.place (tokens_of (tree_of l.tree)))
