@@ -1,6 +1,6 @@
-//! How answers to the steps of a run are written: claimed, taken, unclaimed; started, refused;
-//! signal, lost; removed, missing, kept, unremoved. A script writes an exit status as its number,
-//! and each started child gets the next number.
+//! How answers to the steps of a run are written: claimed, taken, unclaimed; started, refused; closed;
+//! signal, lost; removed, missing, kept, unremoved; told, untold. A script writes an exit status as
+//! its number, and each started child gets the next number.
 
 use crate::names::look_up;
 use crate::transcript::Transcript;
@@ -9,7 +9,7 @@ use std::alloc::AllocError;
 use std::str::from_utf8;
 
 /// The words for answers other than an exit status.
-const ANSWERS: [(&[u8], Answer); 11] = [
+const ANSWERS: [(&[u8], Answer); 14] = [
     (b"claimed", Answer::Claim(ClaimAnswer::Claimed)),
     (b"taken", Answer::Claim(ClaimAnswer::Taken)),
     (b"unclaimed", Answer::Claim(ClaimAnswer::Failed)),
@@ -18,12 +18,15 @@ const ANSWERS: [(&[u8], Answer); 11] = [
         b"refused",
         Answer::Start(StartAnswer::NotStarted(NotStarted::NotFound)),
     ),
+    (b"closed", Answer::Closed),
     (b"signal", Answer::Wait(WaitAnswer::Signal)),
     (b"lost", Answer::Wait(WaitAnswer::Lost)),
     (b"removed", Answer::Remove(RemoveAnswer::Removed)),
     (b"missing", Answer::Remove(RemoveAnswer::Missing)),
     (b"kept", Answer::Remove(RemoveAnswer::NotPlain)),
     (b"unremoved", Answer::Remove(RemoveAnswer::Failed)),
+    (b"told", Answer::Reported(true)),
+    (b"untold", Answer::Reported(false)),
 ];
 
 /// The exit status of a decimal word.

@@ -14,16 +14,20 @@
 //! in-link SWITCHES OUTPUTS NAME ARG..    the same in the link's text, with these outputs
 //! versions ONE OTHER                     how two versions compare
 //! lines TEXT                             how many lines the text of a plan shows
+//! tokens TEXT                            where the tokens of a spec text begin, and the place after those inside each
+//! beginnings TEXT                        the lengths of its beginnings that are refused otherwise than as unclosed
+//! order SWITCHES PATTERN HIDING..        the order of switches, the block of a pattern, its hits and what is live
+//! respond WORD..                         the text of a file of arguments, and the words that it is read as
 //! pieces TEXT                            the pieces of a spec text of gcc
 //! ours TEXT                              such a text in this driver's spec language
 //! dump PATH                              the texts of a gcc's dump in it, and which of them are refused
-//! kept PATH                              whether the texts of a gcc's dump are written as that dump
 //! ```
 
 mod c99;
 mod dumps;
 mod expanding;
 mod functions;
+mod inside;
 mod outside;
 mod reading_back;
 mod searching;
@@ -34,11 +38,12 @@ use crate::script::read_system;
 use crate::transcript::Transcript;
 use c99::try_front;
 use drv_funcs::Site;
-use drv_system::{HostSystem, Reporter, System};
+use drv_system::{HostSystem, System};
 use drv_words::Word;
 use dumps::{Reading, try_reading};
 use expanding::try_expand;
 use functions::{try_called, try_versions};
+use inside::{Inside, try_inside};
 use outside::{Question, try_questions, try_questions_twice};
 use reading_back::try_read_back;
 use searching::{Wanted, try_folders, try_search};
@@ -59,11 +64,12 @@ enum Call {
     Function(Site),
     Versions,
     ReadBack,
+    Inside(Inside),
     Dumps(Reading),
 }
 
 /// The names of calls.
-const CALLS: [(&[u8], Call); 21] = [
+const CALLS: [(&[u8], Call); 24] = [
     (b"read", Call::Ask(Question::Read)),
     (b"kind", Call::Ask(Question::Kind)),
     (b"variable", Call::Ask(Question::Variable)),
@@ -81,10 +87,13 @@ const CALLS: [(&[u8], Call); 21] = [
     (b"in-link", Call::Function(Site::Link)),
     (b"versions", Call::Versions),
     (b"lines", Call::ReadBack),
+    (b"tokens", Call::Inside(Inside::Tokens)),
+    (b"beginnings", Call::Inside(Inside::Beginnings)),
+    (b"order", Call::Inside(Inside::Order)),
+    (b"respond", Call::Inside(Inside::Respond)),
     (b"pieces", Call::Dumps(Reading::Pieces)),
     (b"ours", Call::Dumps(Reading::Ours)),
     (b"dump", Call::Dumps(Reading::Dump)),
-    (b"kept", Call::Dumps(Reading::Kept)),
 ];
 
 /// The message for words that are not a call.
@@ -100,7 +109,7 @@ pub fn try_call(rt: &HostRuntime, call: &[Word], out: &mut Transcript) -> io::Re
 
 /// Makes a call that asks the machine.
 fn on_host(rt: &HostRuntime, call: &[Word], out: &mut Transcript) -> io::Result<()> {
-    let mut sys = HostSystem::new(rt.clone()?, Reporter::Gdrv);
+    let mut sys = HostSystem::new(rt.clone()?);
     Ok(answer(rt.alloc(), &mut sys, call, out)?)
 }
 
@@ -158,6 +167,7 @@ fn make<S: System>(
         Call::Function(site) => try_called(alloc, sys, site, words, out),
         Call::Versions => try_versions(words, out),
         Call::ReadBack => try_read_back(alloc, words, out),
+        Call::Inside(inside) => try_inside(alloc, inside, words, out),
         Call::Dumps(reading) => try_reading(alloc, sys, reading, words, out),
     }
 }

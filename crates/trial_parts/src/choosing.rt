@@ -17,7 +17,7 @@ use crate::running::{NO_WINDOW, Running, running_of};
 use crate::script::read_lines;
 use crate::showing::add_made;
 use crate::transcript::Transcript;
-use drv_core::{Action, FailureStatus, Run};
+use drv_core::{Action, Run};
 use drv_words::{Answer, Listing, Plan, RunEvent, StartAnswer, Step, Word};
 use std::alloc::{AllocError, Global};
 use std::io;
@@ -160,7 +160,7 @@ fn choose_blocks(
 pub fn try_choices(
     rt: &HostRuntime,
     window: &Word,
-    pass_codes: FailureStatus,
+    pass_codes: bool,
     out: &mut Transcript,
 ) -> io::Result<()> {
     let Some(running) = running_of(window, pass_codes) else {

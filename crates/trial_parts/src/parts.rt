@@ -14,7 +14,6 @@ use crate::measuring::try_measured;
 use crate::names::look_up;
 use crate::steps::try_file;
 use crate::transcript::Transcript;
-use drv_core::FailureStatus;
 use drv_words::Word;
 use std::io;
 
@@ -45,10 +44,8 @@ fn try_with(
     match (part, words) {
         (Part::Call, call) => try_call(rt, call, out)?,
         (Part::Steps, [path]) => try_file(rt, path, out)?,
-        (Part::Choose, [window]) => try_choices(rt, window, FailureStatus::One, out)?,
-        (Part::Choose, [window, _, ..]) => {
-            try_choices(rt, window, FailureStatus::GreatestCode, out)?
-        }
+        (Part::Choose, [window]) => try_choices(rt, window, false, out)?,
+        (Part::Choose, [window, _, ..]) => { try_choices(rt, window, true, out)? }
         (Part::Measure, job) => return Ok(try_measured(rt.alloc(), job, out)?),
         _ => return Ok(false),
     }

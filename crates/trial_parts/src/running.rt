@@ -2,7 +2,7 @@
 
 ghost use Rattle.std.specs.Prelude.{◌≡◌, IfSome};
 
-use drv_core::{FailureStatus, Window};
+use drv_core::Window;
 use drv_words::Word;
 use std::str::from_utf8;
 
@@ -11,15 +11,15 @@ use std::str::from_utf8;
 pub struct Running {
     /// How many sources are under way at once, at most.
     pub window: Window,
-    /// The exit status where a command failed.
-    pub pass_codes: FailureStatus,
+    /// Whether the exit status is the greatest code where a command failed, otherwise 1.
+    pub pass_codes: bool,
 }
 
 /// What is printed in the place of a run whose window is no number from 1 to 64.
 pub const NO_WINDOW: &[u8] = b"a window is 1 to 64\n";
 
 /// A run with the window that a word says, if it says one, and with this status.
-pub fn running_of(window: &Word, pass_codes: FailureStatus) -> Option<Running>
+pub fn running_of(window: &Word, pass_codes: bool) -> Option<Running>
     ensures { IfSome result (λ running. running.pass_codes ≡ pass_codes) }
 {
     let sources: usize = from_utf8(window.as_bytes()).ok()?.parse().ok()?;

@@ -19,7 +19,7 @@ mod plans;
 
 use crate::answers::add_answer;
 use crate::transcript::Transcript;
-use drv_system::{HostSystem, ReadAnswer, Reporter, System};
+use drv_system::{HostSystem, ReadAnswer, System};
 use drv_words::{Word, split};
 use making::{Made, make};
 use std::alloc::{AllocError, Global};
@@ -79,6 +79,6 @@ fn try_steps(
 
 /// Makes the steps of a file.
 pub fn try_file(rt: &HostRuntime, path: &Word, out: &mut Transcript) -> io::Result<()> {
-    let mut sys = HostSystem::new(rt.clone()?, Reporter::Gdrv);
+    let mut sys = HostSystem::new(rt.clone()?);
     Ok(try_steps(rt.alloc(), &mut sys, path, out)?)
 }

@@ -20,7 +20,6 @@ mod compiling;
 mod runs;
 
 use compiling::try_compile;
-use drv_core::FailureStatus;
 use drv_system::arguments;
 use drv_words::Word;
 use runs::{try_drive, try_plan};
@@ -39,12 +38,8 @@ fn is_named(word: &Word, name: &[u8]) -> bool {
 /// Carries out a plan or makes a whole call, as these words say. Returns whether they say one.
 fn try_whole(rt: &HostRuntime, words: &[Word], out: &mut Transcript) -> io::Result<bool> {
     match words {
-        [part, window] if is_named(part, b"plan") => {
-            try_plan(rt, window, FailureStatus::One, out)?
-        }
-        [part, window, _, ..] if is_named(part, b"plan") => {
-            try_plan(rt, window, FailureStatus::GreatestCode, out)?
-        }
+        [part, window] if is_named(part, b"plan") => { try_plan(rt, window, false, out)? }
+        [part, window, _, ..] if is_named(part, b"plan") => { try_plan(rt, window, true, out)? }
         [part, args @ ..] if is_named(part, b"drive") => try_drive(rt, args, out)?,
         [part, name, args @ ..] if is_named(part, b"compile") => {
             try_compile(rt, name, args, out)?

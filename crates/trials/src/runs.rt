@@ -4,7 +4,7 @@
 
 ghost use Rattle.std.specs.Prelude.{◌≡◌, []};
 
-use drv_core::{FailureStatus, events_needed};
+use drv_core::events_needed;
 use drv_run::{Ending, Refusal, drive, execute, fault_line};
 use drv_system::{Event, ScriptSystem, System};
 use drv_words::{Listing, Plan, Word, copy_words};
@@ -50,7 +50,7 @@ fn carry_out(
 pub fn try_plan(
     rt: &HostRuntime,
     window: &Word,
-    pass_codes: FailureStatus,
+    pass_codes: bool,
     out: &mut Transcript,
 ) -> io::Result<()> {
     let Some(running) = running_of(window, pass_codes) else {

@@ -3,8 +3,7 @@
 use super::NO_CALL;
 use crate::transcript::Transcript;
 use drv_dump::{
-    DumpFault, DumpedText, Misfit, OursFault, TextFault, read_dump, read_text, translate_dump,
-    translate_text, write_dump,
+    DumpFault, Misfit, OursFault, TextFault, read_text, translate_dump, translate_text,
 };
 use drv_system::{ReadAnswer, System};
 use drv_words::Word;
@@ -19,8 +18,6 @@ pub enum Reading {
     Ours,
     /// The same of a file that a gcc dumped.
     Dump,
-    /// Whether the texts of such a file are written as that file.
-    Kept,
 }
 
 /// The name of what doesn't fit.
@@ -78,11 +75,6 @@ fn add_dump_refusal(fault: &DumpFault, out: &mut Transcript) -> Result<(), Alloc
             out.add(b"Misplaced ")?;
             out.add_count(*at)
         }
-        DumpFault::InText(name, misfit, at) => {
-            out.add(name.as_bytes())?;
-            out.add(b" ")?;
-            add_misfit(*misfit, *at, out)
-        }
     }
 }
 
@@ -95,31 +87,6 @@ fn try_dump(alloc: Global, dump: &[u8], out: &mut Transcript) -> Result<(), Allo
             out.add(b"refused: ")?;
             out.add_list(ours.refused.as_slice())
         }
-        Err(fault) => add_dump_refusal(&fault, out),
-    }
-}
-
-/// How many texts a dump has, and whether they are written as that dump.
-fn add_kept(
-    alloc: Global,
-    dump: &[u8],
-    texts: &[DumpedText],
-    out: &mut Transcript,
-) -> Result<(), AllocError> {
-    let mut written = Word::empty(alloc);
-    write_dump(texts, &mut written)?;
-    out.add_count(texts.len())?;
-    if written.as_bytes() == dump {
-        out.add(b" texts, kept")
-    } else {
-        out.add(b" texts, changed")
-    }
-}
-
-/// Reads a dump, and says whether its texts are written as the dump.
-fn try_kept(alloc: Global, dump: &[u8], out: &mut Transcript) -> Result<(), AllocError> {
-    match read_dump(alloc, dump) {
-        Ok(texts) => add_kept(alloc, dump, texts.as_slice(), out),
         Err(fault) => add_dump_refusal(&fault, out),
     }
 }
@@ -138,7 +105,7 @@ pub fn try_reading<S: System>(
     match reading {
         Reading::Pieces => try_pieces(alloc, word, out),
         Reading::Ours => try_ours(alloc, word, out),
-        Reading::Dump | Reading::Kept => try_file(alloc, sys, reading, word, out),
+        Reading::Dump => try_file(alloc, sys, word, out),
     }
 }
 
@@ -146,13 +113,11 @@ pub fn try_reading<S: System>(
 fn try_file<S: System>(
     alloc: Global,
     sys: &mut S,
-    reading: Reading,
     path: &Word,
     out: &mut Transcript,
 ) -> Result<(), AllocError> {
-    match (sys.read_file(path)?, reading) {
-        (ReadAnswer::Read(dump), Reading::Kept) => try_kept(alloc, dump.as_bytes(), out),
-        (ReadAnswer::Read(dump), _) => try_dump(alloc, dump.as_bytes(), out),
-        (_, _) => out.add(b"no file"),
+    match sys.read_file(path)? {
+        ReadAnswer::Read(dump) => try_dump(alloc, dump.as_bytes(), out),
+        _ => out.add(b"no file"),
     }
 }

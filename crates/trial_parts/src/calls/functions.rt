@@ -33,7 +33,7 @@ fn switches_named(alloc: Global, names: &[Word]) -> Result<Vec<Switch>, AllocErr
 }
 
 /// The switches that a text names.
-fn switches_of(alloc: Global, names: &Word) -> Result<Vec<Switch>, AllocError> {
+pub(crate) fn switches_of(alloc: Global, names: &Word) -> Result<Vec<Switch>, AllocError> {
     let names = split(alloc, names.as_bytes())?;
     switches_named(alloc, names.as_slice())
 }

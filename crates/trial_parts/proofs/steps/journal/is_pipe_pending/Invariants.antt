@@ -3,8 +3,6 @@ use Rattle.drv_system.specs.Running.{run_of}
 use Rattle.drv_words.specs.Stepping.{pending_from, pipe_pending}
 use Rattle.std.proofs.Common.{◌≡◌, drop}
 
--- The loops of is_pipe_pending (src/steps/journal.rt). Whether a pipe is pending.
-
 -- a pipe is pending so far as `pending` says, and the events that are left decide
 abbrev pub invariant-loop-event : goal.invariant-loop-event
 invariant-loop-event l = pending_from l.pending (run_of (drop l.event-index l.journal)) ≡ pipe_pending (run_of l.fn.journal)
