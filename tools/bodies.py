@@ -4,10 +4,9 @@ A proof of a function cites the contracts of what it calls, and nothing of their
 folder with the crate's texts, where all functions but those that edits change have an empty body, and a hole in place of a proof. Such a
 check takes seconds, however large the crate, and edits in different functions share one.
 
-Why a refusal is due to the edit: the crate was proved just before from the same texts over the same libraries. The room has all of these but
-the bodies of other functions and their Answers, Invariants and Proof files; `unlike` finds what of these a judged proof could see. Each check
-also judges a witness, a function that no edit changes, and counts only if that is accepted. A refusal says that no proof was found, or that
-the written one doesn't fit. The layout of `rt fmt` says where a function ends.
+Why a refusal is due to the edit: the same room without an edit is checked first, and an edit is judged only if all functions that it
+changes are accepted there. A written proof can refuse any other text; so where there is one, a neutral edit of the same function has to be
+accepted too. The layout of `rt fmt` says where a function ends.
 """
 
 import itertools
@@ -31,17 +30,16 @@ use Rattle.{crate}.proofs.{file}.{{hole}}
 pub {name}_spec : {{M : Type 1}} → statement M
 {name}_spec = hole
 """
-# What is written of a function's proof. Of what the prover makes beside it, these two modules rest on the contract alone.
-WRITTEN, OF_CONTRACT = ("Answers", "Invariants", "Proof"), ("Met", "Statement")
+# What is written of a function's proof, and what of it can fit one text of the function alone.
+WRITTEN, FITTING = ("Answers", "Invariants", "Proof"), ("Answers", "Proof")
+# An input, what the definition says of it, and what the edited code says.
+DIFFERS = re.compile(r"\S.* => (.+), not (.+)", re.S)
 TYPE = re.compile(r"^(?:pub(?:\([^)]*\))? )?(?:struct|enum) (\w+)", re.M)
 HEAD = re.compile(r"( *)(?:pub(?:\([^)]*\))? )?(?:const )?(?:unsafe )?fn (\w+)")
 # A goal of a function's, by the place in the text, precedes the line of that function.
 GOAL = re.compile(r"note: (?:\./)?src/\S+?:\d+:\d+: it is not proved (.*)")
 # A goal of an operator in the body itself, which says nothing of a contract: that a sum fits, or that an index is below the length.
 SAFETY = re.compile(r"\(`(overflow_|bounds-)[^`]*`\)")
-# An error in what was written of a function's proof; one that only names what an edit took away says nothing.
-ERROR = re.compile(r"(?:\./)?proofs/(\S+)/\w+\.antt:\d+:\d+: error: (.*)")
-OF_NAMES = re.compile(r"has no field|is not in scope|has no `|was not admitted")
 ENDED = re.compile(r"fn (\S+): (?:not proved|no proof)")
 # A goal that is in the line of its function alone, if the search for it broke off.
 BROKEN = re.compile(r"fn \S+: no proof: .*(`search` did not prove .*)")
@@ -134,43 +132,40 @@ class Texts:
         found = [it for file, text in self.files.items() if CYCLE not in text for it in self.functions(file, text)]
         return [it for it in found if it.path not in kept and not it.path.endswith("::drop")]
 
-    def witness(self, edited):
-        """A function that is not edited: of those with a contract and a body (a law has none), if one can be, without files in proofs/, the one
-        with the fewest calls."""
-        found = [(os.path.isdir(f"{self.folder}/proofs/{it.proof()}"), self.calls(it), it.path) for it in self.hollow(edited)]
-        return min((it for it in found if it[1]), default=(0, 0, ""))[-1]
-
-    def calls(self, function):
-        """How many calls the body of a function has, and one more; none of one that is no witness."""
-        lines = self.files[function.file].split("\n")
-        is_full = re.match(r"(pub )?fn ", lines[function.head]) and function.head + 1 < function.opens < function.closes - 1
-        return is_full and 1 + sum(it.count("(") for it in lines[function.opens : function.closes])
+    def has_written_proof(self, path):
+        above, _, name = path.replace("::", "/").rpartition("/")
+        return any(os.path.isfile(f"{self.folder}/proofs/{above}/{mark}{name}/{it}.antt") for mark in ("", "+") for it in FITTING)
 
 
 class Edit:
-    """The public calls whose meaning an edit turns, pairs of texts, each with its file, and the functions whose bodies it changes. `why` says what
-    is wrong with it, if anything is. Edits of one key are never in one check."""
+    """What an edit says of itself, pairs of texts, each with its file, and the functions whose bodies it changes. `why` says what is wrong with
+    it, if anything is. Edits of one key are never in one check."""
 
     def __init__(self, path, texts):
-        self.name, self.crate, self.calls, self.pairs, self.functions, self.keys = os.path.basename(path), texts, [], [], set(), set()
+        self.name, self.crate, self.said, self.pairs, self.functions, self.keys = os.path.basename(path), texts, {}, [], set(), set()
         self.read(text_of(path))
+        self.calls, self.is_neutral = re.findall(r"[^,\s]+", self.said.get("of", "")), "neutral" in self.said
         unknown = [it for it in self.calls if it.split("::")[-1] not in texts.names]
-        self.why = f"there is no call {unknown[0]}" if unknown else "" if self.calls else "it doesn't say of which public call it is"
-        self.why = self.why or self.applied({})[1] or ("" if self.is_of_bodies() else "it changes nothing, or more than bodies of functions")
+        self.why = f"BAD EDIT: there is no call {unknown[0]}" if unknown else "" if self.calls else "BAD EDIT: it doesn't say of which public call it is"
+        bad = self.why or self.applied({})[1] or ("" if self.is_of_bodies() else "it changes nothing, or more than bodies of functions")
+        self.why = bad if not bad or self.why else f"BAD EDIT: {bad}"
+        answers = DIFFERS.fullmatch(self.said.get("differs", ""))
+        if not self.why and not self.is_neutral and (not answers or answers[1] == answers[2]):
+            self.why = "NOT JUDGED: no line `differs: INPUT => ANSWER, not ANSWER` says what it turns"
 
     def read(self, text):
-        """Takes the lines of its file; those of one key that follow each other are the lines of one text. Other keys are for readers."""
+        """Takes the lines of its file; those of one key that follow each other are the lines of one text."""
         file, lines = "", (it.partition(":") for it in text.split("\n"))
         for key, group in itertools.groupby(lines, lambda it: it[0]):
             value = "\n".join(rest.removeprefix(" ") for _, _, rest in group)
-            if key == "of":
-                self.calls += re.split(r"[,\s]+", value.strip())
-            elif key == "file":
+            if key == "file":
                 file = value.strip()
             elif key == "old":
                 self.pairs.append((file, value, ""))
             elif key == "new" and self.pairs:
                 self.pairs[-1] = *self.pairs[-1][:2], value
+            else:
+                self.said[key] = value
 
     def applied(self, texts):
         """The texts with the edit, beside those that are given; or why it can't be applied."""
@@ -200,18 +195,14 @@ class Edit:
 
 
 def lost_goals(said, function):
-    """The goals of a function that a check says are not proved."""
-    found, goals, errors = [], [], {}
+    """The goals of a function that a check says are not proved. What it says of the text of a written proof is no goal."""
+    found, goals = [], []
     for line in said.split("\n"):
-        goal, error, ended, broken = (it.match(line) for it in (GOAL, ERROR, ENDED, BROKEN))
+        goal, ended, broken = (it.match(line) for it in (GOAL, ENDED, BROKEN))
         if goal:
             goals.append(goal[1])
-        elif error and not OF_NAMES.search(error[2]):
-            # (the folder of a function that calls itself begins with +)
-            errors.setdefault(error[1].replace("+", "").replace("/", "::"), error[2])
         elif re.match(r"(fn|struct|enum|impl) ", line):
             if ended and f"{ended[1]}::".partition("::")[2].startswith(f"{function}::"):
-                goals += [errors[function]] if function in errors else []
                 found += [f"{ended[1]}: {it}" for it in goals or ([broken[1]] if broken else [])]
             goals = []
     return found
@@ -222,37 +213,33 @@ class EditRoom:
     they were last built. It is gone when it is left."""
 
     def __init__(self, crates, name, edits):
-        self.crates, self.name, self.seconds, self.crate, self.holes = crates, name, 0, edits[0].crate, []
-        self.witness = self.crate.witness(set().union(*(it.functions for it in edits)))
+        self.crates, self.name, self.seconds, self.crate = crates, name, 0, edits[0].crate
+        self.functions = set().union(*(it.functions for it in edits))
+        self.holes = self.crate.hollow(self.functions)
         os.makedirs(crates.rooms, exist_ok=True)
         self.room = tempfile.mkdtemp(prefix=f"{name}-", dir=crates.rooms)
         os.mkdir(f"{self.room}/kept")
 
     def __enter__(self):
+        self.accepted = self.accepts(self.check({}, self.functions), self.functions)
         return self
 
     def __exit__(self, *_):
         shutil.rmtree(self.room)
 
-    def fill(self, texts, judged):
-        """Puts the crate's texts into the room, with holes for all but the judged functions, and these texts in place of its own."""
+    def fill(self, texts):
+        """Puts the crate's texts into the room, with holes for all but the functions of edits, and these texts in place of its own."""
         folder = self.crates.folder(self.name)
         for part in TEXTS:
             shutil.rmtree(f"{self.room}/{part}", ignore_errors=True)
             if os.path.isdir(f"{folder}/{part}"):
                 shutil.copytree(f"{folder}/{part}", f"{self.room}/{part}", copy_function=link_or_copy)
-        self.holes = self.crate.hollow(judged)
         root = f"{folder}/proofs/Lib.antt"
         self.write("proofs/Lib.antt", f"{text_of(root) if os.path.isfile(root) else ''}\nmod {THE_HOLE}\n")
         self.write(f"proofs/{THE_HOLE}.antt", HOLE_OF_ALL)
         for it in self.holes:
             self.put_hole(it.proof())
-        for file, text in self.crate.files.items():
-            self.put(file, text)
-        why = self.unlike(judged)
-        if why:
-            raise ValueError(why)
-        for file, text in texts.items():
+        for file, text in {**self.crate.files, **texts}.items():
             self.put(file, text)
 
     def put_hole(self, proof):
@@ -272,21 +259,6 @@ class EditRoom:
                 lines[first : it.closes] = ["loop {}"] + [""] * (it.closes - first - 1)
         self.write(file, "\n".join(lines))
 
-    def unlike(self, judged):
-        """What a proof of a judged function could see here that is not as it is in the crate; nothing if there is no such thing."""
-        for it in (it for file, text in self.crate.files.items() for it in self.crate.functions(file, text) if it.path in judged):
-            here, there = (text.split("\n")[it.head : it.closes + 1] for text in (text_of(f"{self.room}/{it.file}"), self.crate.files[it.file]))
-            if here != there:
-                return f"the room has other lines of {it.path}"
-        holes = {it.path.replace("::", "."): f"{self.room}/proofs/{it.proof()}" for it in self.holes}
-        for path in files_in(f"{self.room}/proofs"):
-            for named in re.findall(rf"\bRattle\.{self.name}\.proofs\.([\w.+]+)", text_of(path)):
-                of, _, part = named.replace("+", "").rstrip(".").rpartition(".")
-                is_there = part in OF_CONTRACT or part not in WRITTEN and os.path.isfile(f"{holes.get(of)}/{part}.antt")
-                if of in holes and not is_there:
-                    return f"{os.path.relpath(path, self.room)} names what is of the proof of {of}"
-        return ""
-
     def write(self, path, text):
         """Writes a file in the place of a link to one."""
         os.makedirs(os.path.dirname(f"{self.room}/{path}"), exist_ok=True)
@@ -296,9 +268,9 @@ class EditRoom:
             file.write(text)
 
     def check(self, texts, functions):
-        """What the prover says of the witness and of these functions, with these texts in place of the crate's."""
-        self.fill(texts, {self.witness, *functions})
-        words = [*self.words(), *(word for path in sorted({self.witness, *functions}) for word in ("--only", path))]
+        """What the prover says of these functions, with these texts in place of the crate's."""
+        self.fill(texts)
+        words = [*self.words(), *(word for path in sorted(functions) for word in ("--only", path))]
         # A check that was killed, as where memory is short, goes on from what it kept.
         for _ in range(TURNS):
             status, said, seconds = run_in(self.room, words)
@@ -321,28 +293,33 @@ class EditRoom:
             *(word for it in folders for word in ("-L", f"dependency={it}")),
         ]
 
+    def accepts(self, said, functions):
+        """Those of the functions that a check accepts: each has a line, and none a goal that is lost."""
+        lines = {it: re.findall(rf"^fn {self.name}::{re.escape(it)}: (.*)", said, re.M) for it in functions}
+        return {it for it, found in lines.items() if found and all(map(ACCEPTED.match, found)) and not lost_goals(said, it)}
+
     def judged(self, edits):
-        """What one check of several edits says of those that it refuses, and of an edit that is alone in any case."""
+        """What one check of several edits says of those that it judges, and of an edit that is alone in any case."""
         texts, functions = {}, set().union(*(it.functions for it in edits))
         for it in edits:
             texts, _ = it.applied(texts)
         said = self.check(texts, functions)
         errors = [it for it in map(UNREAD.match, said.split("\n")) if it and it[1].startswith(("src/", "specs/"))]
         is_read = re.search(r"^(logic|only)=", said, re.M) and not any(OF_TEXT.search(re.sub(r"`[^`]*`", "", it[2])) for it in errors)
-        verdicts = re.findall(rf"^fn {self.name}::{re.escape(self.witness)}: (.*)", said, re.M)
-        if not is_read or not verdicts or not all(map(ACCEPTED.match, verdicts)):
-            why = "NOT JUDGED: the prover doesn't accept a function that no edit changes" if is_read else "BAD EDIT: it can't be read"
-            return {edits[0]: why} if len(edits) == 1 else {}
+        if not is_read:
+            return {edits[0]: "BAD EDIT: it can't be read"} if len(edits) == 1 else {}
         found = {}
         for it in edits:
             lost = [goal for function in sorted(it.functions) for goal in lost_goals(said, function)]
-            of_clauses = [goal for goal in lost if not SAFETY.search(goal)]
-            if of_clauses:
-                found[it] = f"refused beside {len(edits) - 1}: {of_clauses[0]}"[:200]
+            of_clauses = [goal for goal in lost if not SAFETY.search(goal) and it.said.get("refused for", "") in goal]
+            if not it.functions <= self.accepted:
+                found[it] = f"NOT JUDGED: without the edit the prover doesn't accept {min(it.functions - self.accepted)} here"
+            elif it.is_neutral and it.functions <= self.accepts(said, it.functions):
+                found[it] = "let through, as it has to be"
+            elif it.is_neutral:
+                found[it] = f"REFUSED, and it is neutral: {(lost or ['the prover does not say for which goal'])[0]}"[:200]
+            elif of_clauses:
+                found[it] = f"refused: {of_clauses[0]}"[:300]
             elif len(edits) == 1:
-                errors = filter(None, map(ERROR.match, said.split("\n")))
-                outdated = next((error[1] for error in errors if OF_NAMES.search(error[2])), "")
-                found[it] = "NOT REFUSED: no clause lost a goal" + (f", and an operator did: {lost[0]}" if lost else "")
-                if outdated and not lost:
-                    found[it] = f"NOT JUDGED: proofs/{outdated} names a call or a branch that the edit took away"
+                found[it] = f"NOT REFUSED: no such clause lost a goal{f', and another goal is lost: {lost[0]}' if lost else ''}"[:200]
         return found

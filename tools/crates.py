@@ -27,7 +27,6 @@ MOST_JOBS = 4
 # The processor seconds of a crate that was never measured.
 UNKNOWN_COST = 60
 SECONDS_TO_END = 5
-SECONDS_TO_LOOK = 1
 TEXTS = ("src", "specs", "proofs")
 # The names of libraries begin so. The program of the tests and benchmarks is no part of the product.
 INNER, TRIALS = "drv_", "trials"
@@ -101,15 +100,12 @@ class Crates:
 
 
 class Runs:
-    """The runs of rt that go on, each in a process group of its own, so that a signal to this process ends all of them. A run begins once so
-    many bytes of memory are free."""
+    """The runs of rt that go on, each in a process group of its own, so that a signal to this process ends all of them."""
 
-    lock, processes, is_stopped, memory = threading.Lock(), set(), False, 0
+    lock, processes, is_stopped = threading.Lock(), set(), False
 
     @classmethod
     def begin(cls, words, **how):
-        while not cls.is_stopped and free_memory() < cls.memory:
-            time.sleep(SECONDS_TO_LOOK)
         with cls.lock:
             if cls.is_stopped:
                 raise InterruptedError("a signal ended it")
