@@ -1,4 +1,4 @@
-use Rattle.drv_machine.proofs.WorkedTexts.{alone, linking}
+use Rattle.drv_machine.proofs.Examples.Lines.{alone, linking}
 use Rattle.drv_machine.specs.Atoms as a
 use Rattle.drv_machine.specs.Atoms.{atoms, items_step, levels_left, named, start}
 use Rattle.drv_machine.specs.Context.{Context}

@@ -1,4 +1,4 @@
-use Rattle.drv_machine.proofs.WorkedTexts.{linking}
+use Rattle.drv_machine.proofs.Examples.Lines.{linking}
 use Rattle.drv_machine.specs.Cuts.{Bare, Filed, each, failure_files, has_stray_pipe, if_any, lines, output, path, path_of, removed}
 use Rattle.drv_machine.specs.Cuts.{without_file, words}
 use Rattle.drv_machine.specs.Cutting.{NamedLine}

@@ -1,0 +1,4 @@
+-- Examples, which the prover computes.
+pub mod CutRows
+pub mod Lines
+pub mod Marks
