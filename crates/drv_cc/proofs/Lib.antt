@@ -19,7 +19,3 @@ mod Prefixes
 mod Staying
 mod Unasked
 pub mod LevelLaws
-pub mod WorkedChildren
-pub mod WorkedGiven
-pub mod WorkedItems
-pub mod WorkedLines
