@@ -1,7 +1,7 @@
 use Rattle.drv_check.proofs.RefusedFirst.{until_agrees}
 use Rattle.drv_check.specs.Agreement.{Agrees, all_loaded, fault_in, faults_of}
 use Rattle.drv_check.specs.Checked.{is_fault}
-use Rattle.drv_check.specs.Checks.{all_called, is_full}
+use Rattle.drv_check.specs.Checks.{all_called, is_full, most_faults}
 use Rattle.drv_check.specs.FaultNotes.{IsFirst, fault_note, first_fault, note_of, noted_along, unchecked_over}
 use Rattle.drv_check.specs.declared.findings.Checking.{Checking}
 use Rattle.drv_check.specs.declared.findings.Finding.{Finding}
@@ -27,11 +27,11 @@ use Rattle.std.proofs.Common.{◌≡◌, ◌∙◌, ◌++◌, ◌∷◌, Err, If
 module _ (F : Facts) (prefixes : Prefixes) (set : Set) (names : List (List ℕ)) where
   -- The note is that of the check which starts over the set: so it is the one that the definition names.
   pub notes_along : {E : Type 0} (start c : Checking) (result : Result (List ℕ) E) → start ≡ unchecked_over set
-      → all_called F prefixes (is_full 1) start names ≡ Is c → IfOk result (λ note. note ≡ note_of c)
+      → all_called F prefixes (is_full most_faults) start names ≡ Is c → IfOk result (λ note. note ≡ note_of c)
       → IfOk result (λ note. noted_along F prefixes set names ≡ Is note)
   notes_along start c (Err e) starts goes notes = notes
   notes_along start c (Ok note) starts goes notes =
-      ap (λ s. all_called F prefixes (is_full 1) s names >>= λ d. Is (note_of d)) (sym starts) ∙ ap (λ k. k >>= λ d. Is (note_of d)) goes
+      ap (λ s. all_called F prefixes (is_full most_faults) s names >>= λ d. Is (note_of d)) (sym starts) ∙ ap (λ k. k >>= λ d. Is (note_of d)) goes
       ∙ ap Is (sym notes)
 
   -- The folders of the call give the prefixes, and along these the files are checked.
@@ -110,8 +110,8 @@ first_is findings Unasked agrees = agrees
 first_is findings (Is (Ok set)) agrees = none_first findings agrees
 first_is findings (Is (Err fault)) agrees = some_first findings fault agrees.0 agrees.1
 
--- The law for a whole call: the files are checked up to the first fault.
+-- The law for a whole call.
 pub noted_first : (F : Facts) (prefixes : Prefixes) (set : Set) (names : List (List ℕ)) (c : Checking)
-    → all_called F prefixes (is_full 1) (unchecked_over set) names ≡ Is c
+    → all_called F prefixes (is_full most_faults) (unchecked_over set) names ≡ Is c
     → IsFirst (first_fault c.findings) (all_loaded F prefixes set names)
 noted_first F prefixes set names c is = first_is c.findings _ (until_agrees F prefixes (unchecked_over set) c names refl is)

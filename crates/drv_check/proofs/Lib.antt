@@ -6,7 +6,6 @@ mod FaultNotes
 mod FaultsAlone
 mod FaultsCounted
 mod FilesOpened
-mod FilesSought
 mod IncludesRead
 mod Inclusions
 mod Judged

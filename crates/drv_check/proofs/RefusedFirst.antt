@@ -6,7 +6,7 @@ use Rattle.drv_check.proofs.PiecesRead.{checked_read}
 use Rattle.drv_check.proofs.UntilBad.{carried_alike}
 use Rattle.drv_check.proofs.PiecesChecked.{begins, names_kept, names_next, pieces_kept, pieces_next}
 use Rattle.drv_check.specs.Agreement.{Agrees, all_loaded, faults_of}
-use Rattle.drv_check.specs.Checks.{Limit, all_called, by_text, called, entered, enters_at, file_checked, is_full, open_file, opened_of}
+use Rattle.drv_check.specs.Checks.{Limit, all_called, by_text, called, entered, enters_at, file_checked, is_full, most_faults, open_file, opened_of}
 use Rattle.drv_check.specs.Checks.{pieces_checked, step, was_read}
 use Rattle.drv_check.specs.Includes.{read_text}
 use Rattle.drv_check.specs.Numbers.{AreRead}
@@ -286,8 +286,9 @@ module _ (F : Facts) (prefixes : Prefixes) (limit : Limit) (alike : IsByFaults l
 
 -- So the whole call agrees: this is what the law of the noted fault needs.
 pub until_agrees : (F : Facts) (prefixes : Prefixes) (c c' : Checking) (names : List (List ℕ)) → c.findings ≡ []
-    → all_called F prefixes (is_full 1) c names ≡ Is c' → Agrees (faults_of c'.findings) (all_loaded F prefixes c.set names)
+    → all_called F prefixes (is_full most_faults) c names ≡ Is c' → Agrees (faults_of c'.findings) (all_loaded F prefixes c.set names)
 until_agrees F prefixes c c' names none is =
     agrees F prefixes c' (all_loaded F prefixes c.set names)
     (subst (λ fs. Loads F prefixes (faults_of fs) c' (all_loaded F prefixes c.set names)) none
-    (all_load F prefixes (is_full 1) (by_number 1) c c' names (ap (λ fs. nat_le 1 (length (faults_of fs))) none) is))
+    (all_load F prefixes (is_full most_faults) (by_number most_faults) c c' names
+    (ap (λ fs. nat_le most_faults (length (faults_of fs))) none) is))

@@ -1,25 +1,34 @@
+use Rattle.drv_check.specs.Checks.{all_called, empty_check, is_full, most_faults}
 use Rattle.drv_check.specs.Origins.{agree, byte_at, if_agreed, last_spots, old_head, own_spots, puts_head, sources_found}
 use Rattle.drv_check.specs.Origins.{sources_of, spots_after, spots_at, text_spots}
+use Rattle.drv_check.specs.declared.findings.Checking.{Checking}
 use Rattle.drv_check.specs.declared.findings.Source.{Source}
 use Rattle.drv_check.specs.declared.findings.Spot.{Spot}
 use Rattle.drv_check.specs.declared.loading_order.LoadedPiece.{LoadedPiece}
 use Rattle.drv_place.specs.BytesAt.{is_byte}
+use Rattle.drv_check.specs.declared.unused_text.Names.TheVariants.{Driver}
 use Rattle.drv_search.specs.Search.{prefixes_of}
 use Rattle.drv_search.specs.declared.prefixes.Prefixes.{Prefixes}
 use Rattle.drv_system.specs.Facts.{Facts}
 use Rattle.drv_system.specs.Known.{◌>>=◌, Is}
 use Rattle.std.proofs.Common.{◌≡◌, ◌∙◌, ◌<◌, ◌≤◌, ◌+◌, ◌-◌, ◌++◌, ◌∷◌, Err, IfOk, List, Ok, Result, [], ap, append-nil}
-use Rattle.std.proofs.Common.{append_assoc, arith, false, get_or, length, refl}
+use Rattle.std.proofs.Common.{append_assoc, arith, false, get_or, length, refl, sym}
 use Rattle.std.proofs.Common.{reverse, suc, sym, take, true, zero, ℕ}
 use Rattle.std.proofs.lemmas.List.{drop_all, map-append, reverse-append, reverse-reverse, take_all, take_more}
 
--- For sources_of (src/seeking.rt): the prefixes are found first.
+-- For sources_of (src/checking.rt): the prefixes are found first.
 -- Names: A spot is a place in a file. `F` is what is known of the outside. `names` is the files of the line, and `sources` those that were
 -- read. `pieces` is their directives in the order in which they are loaded. `left` is those of them that are left, `piece` the last of these,
 -- and `earlier` the others. `head` is what precedes the colon of a text, and `head'` before the directive. `spots` is the spots of the
 -- text's bytes so far, the last one first, and `spots'` after one step more. `before`, `after` and `whole` are a list before a step, after
 -- it, and at the end. `n` is the number of a source. `k` is how
 -- many places are left, and `k'` after one step more. `at` is a place, and `d` what is read where there is none. `result` is what the code's call gives. `spots_after` and `agree` are in specs/Origins.
+
+-- A check over the built-in set opens the files of the definition.
+pub sources_opened : (F : Facts) (found : Prefixes) (names : List (List ℕ)) (start c : Checking) → start ≡ empty_check Driver
+    → all_called F found (is_full most_faults) start names ≡ Is c → sources_found F found names ≡ Is c.sources
+sources_opened F found names start c starts is =
+    ap (λ s. all_called F found (is_full most_faults) s names >>= λ d. Is d.sources) (sym starts) ∙ ap (λ k. k >>= λ d. Is d.sources) is
 
 -- The prefixes that the call finds are those of the definition.
 pub opens_sources : {E : Type 0} (F : Facts) (found : Prefixes) (prefixes names : List (List ℕ)) (result : Result (List Source) E)

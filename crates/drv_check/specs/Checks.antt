@@ -133,10 +133,6 @@ step F prefixes levels c file piece = stepped F prefixes levels c file piece (in
 abbrev pub Limit : Type 0
 Limit = Checking → Bool
 
--- it goes on to its end
-abbrev pub never : Limit
-never c = false
-
 -- it ends at so many faults
 abbrev pub is_full : ℕ → Limit
 is_full most c = nat_le most (length (faults_of c.findings))

@@ -6,4 +6,3 @@ pub mod LaterKeys
 pub mod OwnTrees
 pub mod PlainRuns
 pub mod Recovering
-pub mod Seeking

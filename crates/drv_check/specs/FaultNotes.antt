@@ -1,6 +1,6 @@
 use Rattle.drv_check.specs.declared.unused_text.Names.TheVariants.{Driver}
 use Rattle.drv_check.specs.Checked.{tells_fault}
-use Rattle.drv_check.specs.Checks.{all_called, is_full}
+use Rattle.drv_check.specs.Checks.{all_called, is_full, most_faults}
 use Rattle.drv_check.specs.Spots.{place_in}
 use Rattle.drv_check.specs.Told.{place_text}
 use Rattle.drv_check.specs.declared.findings.Checking.{Checking}
@@ -49,9 +49,9 @@ note_of c = note_for c.sources (first_fault c.findings)
 abbrev pub unchecked_over : Set → Checking
 unchecked_over set = record { whose = Driver; set = set; files = most_files; sources = []; findings = [] }
 
--- the note on these files, loaded over a set along prefixes, up to the first fault
+-- the note on these files, loaded over a set along prefixes
 abbrev pub noted_along : Facts → Prefixes → Set → List (List ℕ) → Known (List ℕ)
-noted_along F prefixes set names = all_called F prefixes (is_full 1) (unchecked_over set) names >>= λ c. Is (note_of c)
+noted_along F prefixes set names = all_called F prefixes (is_full most_faults) (unchecked_over set) names >>= λ c. Is (note_of c)
 
 -- with the folders of -B, along which files are found
 unfoldable pub fault_note : Facts → Set → List (List ℕ) → List (List ℕ) → Known (List ℕ)

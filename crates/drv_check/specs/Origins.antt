@@ -1,5 +1,5 @@
 use Rattle.drv_check.specs.declared.unused_text.Names.TheVariants.{Driver}
-use Rattle.drv_check.specs.Checks.{all_called, empty_check, never}
+use Rattle.drv_check.specs.Checks.{all_called, empty_check, is_full, most_faults}
 use Rattle.drv_check.specs.HiddenPairs.{is_key}
 use Rattle.drv_check.specs.declared.findings.Source.{Source}
 use Rattle.drv_check.specs.declared.findings.Spot.{Spot}
@@ -17,13 +17,13 @@ use Rattle.std.specs.Prelude.{nat_eq, nat_lt, reverse, slice_get, true, ℕ}
 
 -- Where in files the bytes of a set's texts are (GCC manual, "Spec Files"). A text has a head, as *cc1 or .c: what precedes its colon where
 -- a file puts it. The last directive of a head puts its text, one with a + adds to it, and %rename gives it another head.
--- For clauses of src/origins.rt and src/seeking.rt, and the law of spots in src/laws.rt. gdrv_specs cites it too.
+-- For clauses of src/origins.rt and src/checking.rt, and the law of spots in src/laws.rt. gdrv_specs cites it too.
 
 -- the files of a line, along these prefixes
 
--- the files of a line and those that they include, found along prefixes, in the order in which they were opened
+-- the files of a line and those that they include, found along prefixes, in the order in which they were opened, up to `most_faults` faults
 abbrev pub sources_found : Facts → Prefixes → List (List ℕ) → Known (List Source)
-sources_found F prefixes names = all_called F prefixes never (empty_check Driver) names >>= λ c. Is c.sources
+sources_found F prefixes names = all_called F prefixes (is_full most_faults) (empty_check Driver) names >>= λ c. Is c.sources
 
 -- the files of a line and those that they include, found along the line's folders and the usual ones
 abbrev pub sources_of : Facts → List (List ℕ) → List (List ℕ) → Known (List Source)

@@ -1,9 +1,10 @@
-//! All faults of spec files, up to a number of them.
+//! The walk over spec files: their faults, up to a number of them, and the files that they include.
 
 // In clauses: `Extends F G` says that G has every answer of F. `Asked` says that a call only asked,
 // and that the table has the answers.
 ghost use Rattle.drv_check.specs.Checked.{based, checked, checked_over, faults_alone};
-ghost use Rattle.drv_check.specs.Checks.{all_called, called, file_checked, is_full};
+ghost use Rattle.drv_check.specs.Checks.{all_called, called, file_checked, is_full, most_faults};
+ghost use Rattle.drv_check.specs.Origins.{sources_found, sources_of};
 ghost use Rattle.drv_system.specs.Asking.{Asks, Extends};
 ghost use Rattle.drv_system.specs.Code.Asked.{Asked};
 ghost use Rattle.drv_system.specs.Facts.{Facts};
@@ -11,7 +12,7 @@ ghost use Rattle.drv_system.specs.Known.{Is};
 ghost use Rattle.std.specs.Prelude.{◌≡◌, IfOk};
 
 use crate::findings::{
-    Checking, Findings, MOST_FAULTS, MOST_FILES, empty_check, is_fault, is_full,
+    Checking, Findings, MOST_FAULTS, MOST_FILES, Source, empty_check, is_fault, is_full,
 };
 use crate::including::Inclusion;
 use crate::judging::judge;
@@ -20,22 +21,15 @@ use crate::stepping::step;
 use crate::unused_text::Names;
 use drv_search::Prefixes;
 use drv_system::{FactTable, Outside, System};
-use drv_words::Word;
+use drv_words::{Listing, Word};
 use std::alloc::{AllocError, Global};
 
 /// The most files that include one another.
-pub(crate) const MOST_LEVELS: usize = 16;
-
-/// How files are checked: how they are found, and up to how many faults.
-#[derive(Clone, Copy)]
-pub(crate) struct Check<'a> {
-    pub(crate) search: Search<'a>,
-    pub(crate) most: usize,
-}
+const MOST_LEVELS: usize = 16;
 
 /// Checks an open file, within which `levels` more files may be nested.
 fn check_file<S: System>(
-    check: &Check<'_>,
+    search: &Search<'_>,
     checking: &mut Checking,
     levels: usize,
     file: &OpenFile,
@@ -43,19 +37,19 @@ fn check_file<S: System>(
 ) -> Result<(), AllocError>
     ensures asks { Asked S.events outside.old outside.new }
     ensures checks { (F : Facts) → Extends outside.new.facts.now F
-        → IfOk result (λ _. file_checked F check.now.search.prefixes.now (is_full check.now.most)
+        → IfOk result (λ _. file_checked F search.now.prefixes.now (is_full most_faults)
         levels checking.old file.now ≡ Is checking.new) }
 {
     for piece in file.pieces.as_slice() {
-        if is_full(checking, check.most) {
+        if is_full(checking, MOST_FAULTS) {
             return Ok(());
         }
         let here = FilePiece { file, piece };
-        let next = step(&check.search, checking, levels, &here, outside)?;
+        let next = step(search, checking, levels, &here, outside)?;
         let Some(inner) = next else {
             continue;
         };
-        check_file(check, checking, levels - 1, &inner, outside)?;
+        check_file(search, checking, levels - 1, &inner, outside)?;
     }
     Ok(())
 }
@@ -63,14 +57,14 @@ fn check_file<S: System>(
 /// Checks a file of the call.
 #[tactic(auto, using(drv_system::proofs::AskedCalls::asked_further))]
 fn check_called<S: System>(
-    check: &Check<'_>,
+    search: &Search<'_>,
     checking: &mut Checking,
     name: &Word,
     outside: &mut Outside<'_, S>,
 ) -> Result<(), AllocError>
     ensures asks { Asked S.events outside.old outside.new }
     ensures checks { (F : Facts) → Extends outside.new.facts.now F
-        → IfOk result (λ _. called F check.now.search.prefixes.now (is_full check.now.most) checking.old
+        → IfOk result (λ _. called F search.now.prefixes.now (is_full most_faults) checking.old
         name.now ≡ Is checking.new) }
 {
     checking.files = MOST_FILES;
@@ -82,8 +76,8 @@ fn check_called<S: System>(
         from: None,
         levels: MOST_LEVELS,
     };
-    match open(&check.search, checking, nesting, &inclusion, outside)? {
-        Some(file) => check_file(check, checking, MOST_LEVELS - 1, &file, outside),
+    match open(search, checking, nesting, &inclusion, outside)? {
+        Some(file) => check_file(search, checking, MOST_LEVELS - 1, &file, outside),
         None => Ok(()),
     }
 }
@@ -91,21 +85,21 @@ fn check_called<S: System>(
 /// Checks the files of the call. After the last fault nothing more is asked.
 #[tactic(auto, using(drv_system::proofs::AskedCalls::asked_further))]
 pub(crate) fn check_all<S: System>(
-    check: &Check<'_>,
+    search: &Search<'_>,
     checking: &mut Checking,
     names: &[Word],
     outside: &mut Outside<'_, S>,
 ) -> Result<(), AllocError>
     ensures asks { Asked S.events outside.old outside.new }
     ensures checks { (F : Facts) → Extends outside.new.facts.now F
-        → IfOk result (λ _. all_called F check.now.search.prefixes.now (is_full check.now.most) checking.old
+        → IfOk result (λ _. all_called F search.now.prefixes.now (is_full most_faults) checking.old
         names.now ≡ Is checking.new) }
 {
     for name in names {
-        if is_full(checking, check.most) {
+        if is_full(checking, MOST_FAULTS) {
             return Ok(());
         }
-        check_called(check, checking, name, outside)?;
+        check_called(search, checking, name, outside)?;
     }
     Ok(())
 }
@@ -142,12 +136,8 @@ fn check_base<S: System>(
     ensures checks { (F : Facts) → Extends outside.new.facts.now F
         → IfOk result (λ checking. based F search.now.prefixes.now whose over.now ≡ Is checking) }
 {
-    let check = Check {
-        search: *search,
-        most: MOST_FAULTS,
-    };
     let mut checking = empty_check(search.alloc, whose)?;
-    check_all(&check, &mut checking, over, outside)?;
+    check_all(search, &mut checking, over, outside)?;
     faults_alone(search.alloc, checking)
 }
 
@@ -176,11 +166,7 @@ fn check_over<S: System>(
 {
     let mut checking = check_base(search, files.whose, files.over, outside)?;
     let first = checking.sources.len();
-    let check = Check {
-        search: *search,
-        most: MOST_FAULTS,
-    };
-    check_all(&check, &mut checking, files.names, outside)?;
+    check_all(search, &mut checking, files.names, outside)?;
     judge(search.alloc, files.whose, &mut checking, first)?;
     Ok(checking)
 }
@@ -211,4 +197,44 @@ pub fn check_files<S: System>(
         prefixes: &prefixes,
     };
     check_over(&search, check, &mut Outside { sys, facts })
+}
+
+/// The files that a line loads into the built-in set, along prefixes that were found.
+fn sources_found<S: System>(
+    search: &Search<'_>,
+    names: &[Word],
+    outside: &mut Outside<'_, S>,
+) -> Result<Listing<Source>, AllocError>
+    ensures asks { Asked S.events outside.old outside.new }
+    ensures opens { (F : Facts) → Extends outside.new.facts.now F
+        → IfOk result (λ sources. sources_found F search.now.prefixes.now names.now ≡ Is sources) }
+{
+    let mut checking = empty_check(search.alloc, Names::Driver)?;
+    check_all(search, &mut checking, names, outside)?;
+    Ok(checking.sources)
+}
+
+/// The files that a line loads into the built-in set, in the order in which they are opened: each of
+/// these names, found along these prefixes, and those that it includes. Behind `MOST_FAULTS` faults
+/// no more are opened. It asks the system only where the table has no answer.
+///
+/// # Errors
+/// Lack of memory; nothing is refused.
+pub fn sources_of<S: System>(
+    alloc: Global,
+    prefixes: &[Word],
+    names: &[Word],
+    sys: &mut S,
+    facts: &mut FactTable,
+) -> Result<Listing<Source>, AllocError>
+    ensures asks { Asks (S.events sys.old) (S.events sys.new) facts.old facts.new }
+    ensures opens { (F : Facts) → Extends facts.new F
+        → IfOk result (λ sources. sources_of F prefixes.now names.now ≡ Is sources) }
+{
+    let found = Prefixes::new(alloc, prefixes, sys, facts)?;
+    let search = Search {
+        alloc,
+        prefixes: &found,
+    };
+    sources_found(&search, names, &mut Outside { sys, facts })
 }

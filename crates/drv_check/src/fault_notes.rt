@@ -11,7 +11,7 @@ ghost use Rattle.drv_system.specs.Known.{Is};
 ghost use Rattle.std.specs.Option.{option_map};
 ghost use Rattle.std.specs.Prelude.{◌≡◌, IfOk, Some};
 
-use crate::checking::{Check, check_all};
+use crate::checking::check_all;
 use crate::findings::{Checking, Finding, Findings, MOST_FILES, Source, Spot, is_fault};
 use crate::opening::Search;
 use crate::spots::place_in;
@@ -94,11 +94,7 @@ fn note_along<S: System>(
         → IfOk result (λ note. noted_along F search.now.prefixes.now set names.now ≡ Is note) }
 {
     let mut checking = unchecked_over(search.alloc, set);
-    let check = Check {
-        search: *search,
-        most: 1,
-    };
-    check_all(&check, &mut checking, names, outside)?;
+    check_all(search, &mut checking, names, outside)?;
     note_of(search.alloc, &checking)
 }
 
@@ -112,8 +108,7 @@ pub struct SpecFiles<'a> {
 
 /// Where the driver refuses files that are loaded over a set, in their order, as a note: the place
 /// of the first fault in its file. There is no note where none of them is refused, or where the
-/// fault is in no file. It asks the system only where the table has no answer, and nothing after
-/// that fault.
+/// fault is in no file. It asks the system only where the table has no answer.
 ///
 /// # Errors
 /// Lack of memory; nothing else is refused.

@@ -3,7 +3,7 @@
 ghost use Rattle.drv_check.specs.Agreement.{Agrees, all_loaded, faults_of};
 ghost use Rattle.drv_check.specs.Branches.{covers, names_all};
 ghost use Rattle.drv_check.specs.Checked.{checked};
-ghost use Rattle.drv_check.specs.Checks.{all_called, is_full};
+ghost use Rattle.drv_check.specs.Checks.{all_called, is_full, most_faults};
 ghost use Rattle.drv_check.specs.Coverage.{is_true, pattern_of};
 ghost use Rattle.drv_check.specs.FaultNotes.{IsFirst, first_fault, unchecked_over};
 ghost use Rattle.drv_check.specs.LoadingOrder.{loaded_pieces};
@@ -53,7 +53,7 @@ pub fn first_fault_is_refusal()
 #[tactic(auto, using(crate::proofs::FaultNotes::noted_first))]
 pub fn noted_fault_is_refusal()
     ensures { (F : Facts) (prefixes : Prefixes) (set : Set) (names : List (List ℕ)) (c : Checking)
-        → all_called F prefixes (is_full 1) (unchecked_over set) names ≡ Is c
+        → all_called F prefixes (is_full most_faults) (unchecked_over set) names ≡ Is c
         → IsFirst (first_fault c.findings) (all_loaded F prefixes set names) }
 {}
 

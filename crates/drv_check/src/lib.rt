@@ -14,7 +14,6 @@ mod origins;
 mod own_text;
 mod pieces;
 mod pointing;
-mod seeking;
 mod spots;
 
 pub use findings::{
@@ -22,7 +21,6 @@ pub use findings::{
 };
 pub use loading_order::LoadedFiles;
 pub use pieces::{Piece, pieces_of};
-pub use seeking::sources_of;
 pub use spots::place_in;
 
 // What the driver refuses in them, and what is surely not meant.
@@ -38,7 +36,7 @@ mod token_warning;
 mod unused_text;
 mod warning;
 
-pub use checking::{FileCheck, check_files};
+pub use checking::{FileCheck, check_files, sources_of};
 pub use fault_notes::{SpecFiles, fault_note};
 pub use unused_text::Names;
 
