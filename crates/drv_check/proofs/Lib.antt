@@ -9,8 +9,6 @@ mod FilesOpened
 mod IncludesRead
 mod Inclusions
 mod Judged
-mod KeyEnds
-mod LastEnds
 mod LinesNumbered
 mod LoadedInOrder
 mod Lost
@@ -18,12 +16,10 @@ mod MarkLaws
 mod MarkSteps
 mod Marks
 mod Namings
-mod OwnSpots
 mod OwnTrees
 mod PieceSteps
 mod PiecesChecked
 mod PiecesRead
-mod PlainRuns
 mod RefusedFirst
 mod SpotLaws
 mod TextOrigins

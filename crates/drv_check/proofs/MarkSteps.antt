@@ -1,14 +1,11 @@
 use Rattle.drv_check.specs.Code.OwnTrees.{tree_or_none}
-use Rattle.drv_check.specs.MarkedParts.{after_role, before_at, ends_starred, goes_on, has_left, inside_until, is_entered, is_item}
-use Rattle.drv_check.specs.MarkedParts.{is_passed, joint_after}
-use Rattle.drv_check.specs.MarkedParts.{joint_of, part_end, part_if, parts_from, read_by, read_token, role_of}
+use Rattle.drv_check.specs.MarkedParts.{goes_on, joint_of, part_end, part_if, parts_from, read_by, role_of}
 use Rattle.drv_check.specs.Markings.{headed_parts, tree_parts}
 use Rattle.drv_check.specs.Origins.{text_spots}
 use Rattle.drv_check.specs.OwnTexts.{own_text, own_tree, tree_after}
 use Rattle.drv_check.specs.declared.findings.Source.{Source}
 use Rattle.drv_check.specs.declared.findings.Spot.{Spot}
 use Rattle.drv_check.specs.declared.loading_order.LoadedPiece.{LoadedPiece}
-use Rattle.drv_check.specs.declared.mark_reading.Before.TheVariants.{Follows, Returns}
 use Rattle.drv_check.specs.declared.marking.Extent.{Extent}
 use Rattle.drv_check.specs.declared.marking.Joint.{Joint}
 use Rattle.drv_check.specs.declared.marking.MarkedPart.{MarkedPart}
@@ -17,14 +14,13 @@ use Rattle.drv_check.specs.declared.mark_reading.Role.{Role}
 use Rattle.drv_specs.specs.Directives.{is_colon}
 use Rattle.drv_syntax.specs.Parsed.{tree_of}
 use Rattle.drv_syntax.specs.declared.token.Token.{Token}
-use Rattle.drv_syntax.specs.declared.token.TokenKind.TheVariants as kinds
-use Rattle.std.proofs.Common.{◌≡◌, ◌∙◌, ◌<◌, ◌≤◌, ◌++◌, ◌∷◌, ◌&&◌, ◌||◌, Bool, Err, List, None, Ok, OnOk, Option, Result, Some, ap}
+use Rattle.std.proofs.Common.{◌≡◌, ◌∙◌, ◌<◌, ◌≤◌, ◌++◌, ◌∷◌, Err, List, None, Ok, OnOk, Option, Result, Some, ap}
 use Rattle.std.proofs.Common.{append_assoc, arith}
 use Rattle.std.proofs.Common.{false, refl, sym, true, ℕ}
 use Rattle.std.proofs.lemmas.Bool.Decides.{nat_tests}
 use Rattle.std.proofs.lemmas.List.{append-nil}
 use Rattle.std.specs.List.{position}
-use Rattle.std.specs.Prelude.{◌==◌, if◌then◌else◌, nat_le, nat_lt, not}
+use Rattle.std.specs.Prelude.{nat_lt}
 
 -- For marked_parts (src/marking.rt): the parts of a text that have a mark, one after another.
 -- Names: A mark is a number between two bytes of 1, before a part of a text. `text` is the text, and `head` what precedes its colon. `left`
@@ -47,55 +43,6 @@ extent_next text reading next token left rest joint before after whole cut judge
     ∙ ap (λ r. (before ++ part_if (joint_of reading token) token rest) ++ parts_from text r rest) reads
     ∙ append_assoc before (part_if (joint_of reading token) token rest) (parts_from text (read_by text reading token) rest)
     ∙ ap (λ ts. before ++ parts_from text reading ts) (sym cut) ∙ is
-
--- a plain token right behind an item without marks inside
-
--- it isn't passed over
-further_read : (reading : Reading) (token : Token) → token.start ≡ reading.until → is_passed reading token ≡ false
-further_read reading token at = grind (arith, nat_tests, at)
-
--- no choice ends before it
-further_before : (reading : Reading) (token : Token) → token.start ≡ reading.until → before_at reading token.start ≡ reading.before
-further_before reading token at = ap (λ left. if left then Returns else reading.before) not_left
-  where
-    same : (token.start == reading.until) ≡ true
-    same = grind (arith, nat_tests, at)
-
-    by : (t : Bool) → (t && false) ≡ false
-    by true = refl
-    by false = refl
-
-    not_left : has_left reading token.start ≡ false
-    not_left = ap (λ t. nat_le reading.inside token.start && not t) same ∙ by (nat_le reading.inside token.start)
-
--- it begins no part with a mark
-further_joint : (reading : Reading) (token : Token) → reading.before ≡ Follows → token.start ≡ reading.until → token.kind ≡ kinds.Plain
-    → None ≡ joint_of reading token
-further_joint reading token follows at plain =
-    sym (ap (λ p. if p || not (is_item (role_of token.kind)) then None else joint_after (before_at reading token.start))
-    (further_read reading token at)
-    ∙ ap (λ k. if not (is_item (role_of k)) then None else joint_after (before_at reading token.start)) plain
-    ∙ ap joint_after (further_before reading token at ∙ follows))
-
--- behind it tokens are passed over that begin before its end
-further_by : (text : List ℕ) (reading : Reading) (token : Token) → reading.before ≡ Follows → token.start ≡ reading.until
-    → token.kind ≡ kinds.Plain → record reading { until = token.end } ≡ read_by text reading token
-further_by text reading token follows at plain =
-    sym (ap (λ p. if p then reading else read_token text reading token) (further_read reading token at)
-    ∙ ap (λ k. record reading {
-      before = after_role (before_at reading token.start) (role_of k) (ends_starred text token.end);
-      until = if is_entered k then token.start else token.end;
-      inside = inside_until k token.end reading.inside;
-    }) plain
-    ∙ ap (λ b. record reading { before = b; until = token.end }) (sym follows))
-
--- If the parts so far and those of the tokens left are all, then they still are after one such token more.
-pub extent_further : (text : List ℕ) (reading : Reading) (token : Token) (left rest : List Token) (before whole : List Extent)
-    → left ≡ token ∷ rest → reading.before ≡ Follows → token.start ≡ reading.until → token.kind ≡ kinds.Plain
-    → before ++ parts_from text reading left ≡ whole → before ++ parts_from text (record reading { until = token.end }) rest ≡ whole
-extent_further text reading token left rest before whole cut follows at plain is =
-    extent_next text reading (record reading { until = token.end }) token left rest None before before whole cut
-    (further_joint reading token follows at plain) (further_by text reading token follows at plain) (sym (append-nil before)) is
 
 -- a part goes on behind the tokens inside its items, with each item that begins where the last one ends
 

@@ -1,7 +1,5 @@
 use Rattle.drv_check.specs.Code.OwnTrees.{tree_or_none}
 use Rattle.drv_check.specs.Code.Deeds.{may_name}
-use Rattle.drv_check.specs.Code.LaterKeys.{flags_of, namings_if}
-use Rattle.drv_check.specs.HiddenPairs.{is_hidden, key_in}
 use Rattle.drv_check.specs.Namings.{deed_of, headed_namings, naming_if, pieces_namings, token_namings, tokens_namings, tree_namings}
 use Rattle.drv_check.specs.Namings.{used_namings}
 use Rattle.drv_check.specs.Origins.{text_spots}
@@ -19,8 +17,8 @@ use Rattle.drv_syntax.specs.declared.token.TestKind.{TestKind}
 use Rattle.drv_syntax.specs.declared.token.Token.{Token}
 use Rattle.drv_syntax.specs.declared.token.TokenKind.TheVariants as kinds
 use Rattle.drv_syntax.specs.declared.token.TokenKind.{TokenKind}
-use Rattle.std.proofs.Common.{◌≡◌, ◌∙◌, ◌<◌, ◌+◌, ◌++◌, ◌∷◌, Err, List, None, Ok, OnOk, Option, Result, Some, [], ap, arith}
-use Rattle.std.proofs.Common.{Bool, append_assoc, drop, false, length, refl, suc, sym, zero, ℕ}
+use Rattle.std.proofs.Common.{◌≡◌, ◌∙◌, ◌<◌, ◌+◌, ◌++◌, ◌∷◌, Err, List, None, Ok, OnOk, Option, Result, Some, ap}
+use Rattle.std.proofs.Common.{append_assoc, drop, false, length, refl, sym, ℕ}
 use Rattle.std.proofs.lemmas.List.{append-nil, drop_more}
 use Rattle.std.specs.List.{position}
 use Rattle.std.specs.Prelude.{get_or}
@@ -29,7 +27,7 @@ use Rattle.std.specs.Prelude.{get_or}
 -- Names: A naming is a part of a text that names a switch. `head` is what precedes the colon of a text, `text` the text or its piece, and
 -- `own` the text as the code reads it. `spots` is the spots of its bytes in files. `items` is its tree. `token` is the one at place `n` of
 -- `tokens`. `before` and `after` are the namings before a step and after it, and `whole` is all of them. `sources` is the files that were
--- read, and `loaded` their directives. `pieces` is those of the dump, `piece` the one at a place, and `later` those after it. `colon` is the
+-- read, and `loaded` their directives. `left` is the pieces of the dump that are left: `piece` and those after it, `later`. `colon` is the
 -- place of the colon. `result` is what the code's call gives. `tree_of` is the tree of a text (drv_syntax), and `own_tree` that of a
 -- piece's text. `tree_namings` and `headed_namings` are the namings of a tree and of a text with a head (specs/Namings).
 
@@ -119,29 +117,11 @@ of_none sources loaded head text colon before is found =
     sym (append-nil before)
     ∙ ap (λ c. before ++ headed_namings sources loaded (Some head) (own_text text) (tree_after c text)) (sym is ∙ found)
 
--- whether a later piece hides the one at a place
-pub flag_there : (pieces : List Piece) (n : ℕ) (piece : Piece) → n < length pieces → piece ≡ get_or pieces n piece
-    → get_or (flags_of pieces) n false ≡ is_hidden (key_in piece.text) (drop (n + 1) pieces)
-flag_there pieces n piece below here = at pieces n below (sym here)
-  where
-    at : (pieces : List Piece) (n : ℕ) → n < length pieces → get_or pieces n piece ≡ piece
-        → get_or (flags_of pieces) n false ≡ is_hidden (key_in piece.text) (drop (n + 1) pieces)
-    at [] n below here = absurd (omega (arith, below))
-    at (p ∷ later) zero below here = ap (λ it. is_hidden (key_in it.text) later) here
-    at (p ∷ later) (suc n) below here =
-        let next : suc n + 1 ≡ suc (n + 1) = omega arith in
-        at later n (omega (arith, below)) here ∙ ap (λ m. is_hidden (key_in piece.text) (drop m (p ∷ later))) (sym next)
-
--- If the namings so far and those of the pieces left are all, then they still are after one piece more, which a later one may hide.
-pub pieces_next : (sources : List Source) (loaded : List LoadedPiece) (pieces : List Piece) (n : ℕ) (piece : Piece) (hidden : Bool)
-    (before after whole : List Naming) → n < length pieces → piece ≡ get_or pieces n piece → hidden ≡ get_or (flags_of pieces) n false
-    → after ≡ before ++ namings_if sources loaded hidden piece
-    → before ++ pieces_namings sources loaded (drop n pieces) ≡ whole
-    → after ++ pieces_namings sources loaded (drop (n + 1) pieces) ≡ whole
-pieces_next sources loaded pieces n piece hidden before after whole below here says grows is =
-    let later : List Piece = drop (n + 1) pieces in
-    ap (λ ns. ns ++ pieces_namings sources loaded later)
-    (grows ∙ ap (λ t. before ++ namings_if sources loaded t piece) (says ∙ flag_there pieces n piece below here))
+-- If the namings so far and those of the pieces left are all, then they still are after one piece more.
+pub pieces_next : (sources : List Source) (loaded : List LoadedPiece) (left later : List Piece) (piece : Piece)
+    (before after whole : List Naming) → left ≡ piece ∷ later → after ≡ before ++ used_namings sources loaded later piece
+    → before ++ pieces_namings sources loaded left ≡ whole → after ++ pieces_namings sources loaded later ≡ whole
+pieces_next sources loaded left later piece before after whole cut grows is =
+    ap (λ ns. ns ++ pieces_namings sources loaded later) grows
     ∙ append_assoc before (used_namings sources loaded later piece) (pieces_namings sources loaded later)
-    ∙ ap (λ p. before ++ pieces_namings sources loaded (p ∷ later)) here
-    ∙ ap (λ ps. before ++ pieces_namings sources loaded ps) (sym (drop_more pieces n piece below)) ∙ is
+    ∙ ap (λ ps. before ++ pieces_namings sources loaded ps) (sym cut) ∙ is

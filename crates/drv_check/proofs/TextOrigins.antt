@@ -1,6 +1,6 @@
 use Rattle.drv_check.specs.Checks.{all_called, empty_check, is_full, most_faults}
-use Rattle.drv_check.specs.Origins.{agree, byte_at, if_agreed, last_spots, old_head, own_spots, puts_head, sources_found}
-use Rattle.drv_check.specs.Origins.{sources_of, spots_after, spots_at, text_spots}
+use Rattle.drv_check.specs.Origins.{agree, byte_at, old_head, own_spots, puts_head, sources_found}
+use Rattle.drv_check.specs.Origins.{sources_of, spots_after, spots_at}
 use Rattle.drv_check.specs.declared.findings.Checking.{Checking}
 use Rattle.drv_check.specs.declared.findings.Source.{Source}
 use Rattle.drv_check.specs.declared.findings.Spot.{Spot}
@@ -14,7 +14,7 @@ use Rattle.drv_system.specs.Known.{◌>>=◌, Is}
 use Rattle.std.proofs.Common.{◌≡◌, ◌∙◌, ◌<◌, ◌≤◌, ◌+◌, ◌-◌, ◌++◌, ◌∷◌, Err, IfOk, List, Ok, Result, [], ap, append-nil}
 use Rattle.std.proofs.Common.{append_assoc, arith, false, get_or, length, refl, sym}
 use Rattle.std.proofs.Common.{reverse, suc, sym, take, true, zero, ℕ}
-use Rattle.std.proofs.lemmas.List.{drop_all, map-append, reverse-append, reverse-reverse, take_all, take_more}
+use Rattle.std.proofs.lemmas.List.{map-append, reverse-append, reverse-reverse, take_all, take_more}
 
 -- For sources_of (src/checking.rt): the prefixes are found first.
 -- Names: A spot is a place in a file. `F` is what is known of the outside. `names` is the files of the line, and `sources` those that were
@@ -116,10 +116,3 @@ pub agree_next : (sources : List Source) (spot : Spot) (spots spots' : List Spot
     → agree sources spots bytes ≡ agree sources spots' bytes'
 agree_next sources spot spots spots' byte bytes bytes' cut cut' is =
     ap (λ ss. agree sources ss bytes) cut ∙ ap (λ bs. agree sources (spot ∷ spots') bs) cut' ∙ rw is refl
-
--- Without directives no byte has a spot.
-pub no_pieces : (sources : List Source) (pieces : List LoadedPiece) (head text : List ℕ) → pieces ≡ []
-    → [] ≡ text_spots sources pieces head text
-no_pieces sources pieces head text is =
-    let none : last_spots [] text ≡ [] = drop_all (0 - length text) [] (omega arith) in
-    sym (ap (λ ps. text_spots sources ps head text) is ∙ ap (if_agreed sources text) none)

@@ -7,7 +7,7 @@ ghost use Rattle.std.specs.Prelude.{◌≡◌, ◌++◌, IfOk, OnOk, drop, map};
 
 use crate::bytes::blanks_before;
 use crate::findings::{Checking, Findings, MOST_FAULTS, Source, Warning, is_full};
-use crate::later_keys::HiddenPieces;
+use crate::hidden_pair::{is_hidden, key_in};
 use crate::opening::{FilePiece, OpenFile, open_file};
 use crate::stepping::push_warnings;
 use crate::token_warning::push_own;
@@ -65,6 +65,7 @@ fn judge_piece(
 }
 
 /// Adds what the whole of the files shows of one.
+#[tactic(auto, using(crate::proofs::Judged::pieces_next))]
 fn judge_file(
     alloc: Global,
     findings: &mut Findings,
@@ -74,17 +75,11 @@ fn judge_file(
     ensures { OnOk result (findings.new ≡ findings.old
         ++ file_judged whole.now.whose whole.now.set.now whole.now.worked.now file.now) }
 {
-    let pieces = file.pieces.as_slice();
-    let hidden = HiddenPieces::new(alloc, pieces)?;
-    let mut place = 0;
-    while place < pieces.len() {
-        let is_hidden = hidden.has(place);
-        let here = FilePiece {
-            file,
-            piece: &pieces[place],
-        };
-        judge_piece(alloc, findings, whole, &here, is_hidden)?;
-        place += 1;
+    let mut left = file.pieces.as_slice();
+    while let [piece, later @ ..] = left {
+        let hidden = is_hidden(key_in(piece.text.as_bytes()), later);
+        judge_piece(alloc, findings, whole, &FilePiece { file, piece }, hidden)?;
+        left = later;
     }
     Ok(())
 }

@@ -4,10 +4,7 @@
 // Spec files: their directives, what they include, and where in them each byte of a text is.
 mod bytes;
 mod findings;
-mod heads;
 mod including;
-mod known_trees;
-mod later_keys;
 mod loading_order;
 mod opening;
 mod origins;

@@ -9,7 +9,6 @@ ghost use Rattle.std.specs.Prelude.{◌≡◌, ◌++◌, IfOk, OnOk};
 
 use crate::bytes::blanks_before;
 use crate::findings::{Source, Spot};
-use crate::heads::HeadedPieces;
 use crate::opening::{OpenFile, open_file};
 use crate::own_text::own_start;
 use crate::pieces::Piece;
@@ -221,7 +220,7 @@ pub struct LoadedFiles<'a> {
     /// The files.
     sources: &'a [Source],
     /// Their directives, in the order in which they are loaded.
-    pieces: HeadedPieces,
+    pieces: Vec<LoadedPiece>,
 }
 
 impl<'a> Model for LoadedFiles<'a> {
@@ -233,7 +232,7 @@ impl<'a> Model for LoadedFiles<'a> {
 
     ghost view = { λ f. f.sources.now };
 
-    ghost invariant = { λ f. f.pieces ≡ loaded_pieces f.sources.now };
+    ghost invariant = { λ f. f.pieces.items ≡ loaded_pieces f.sources.now };
 }
 
 impl<'a> LoadedFiles<'a> {
@@ -242,7 +241,6 @@ impl<'a> LoadedFiles<'a> {
         ensures { IfOk result (λ files. files ≡ sources.now) }
     {
         let pieces = loaded_pieces(alloc, sources)?;
-        let pieces = HeadedPieces::new(alloc, pieces)?;
         Ok(LoadedFiles { sources, pieces })
     }
 
@@ -254,9 +252,9 @@ impl<'a> LoadedFiles<'a> {
     }
 
     /// Their directives, in the order in which they are loaded.
-    pub(crate) fn pieces(&self) -> &HeadedPieces
+    pub(crate) fn pieces(&self) -> &[LoadedPiece]
         ensures { result.now ≡ loaded_pieces self.now }
     {
-        &self.pieces
+        self.pieces.as_slice()
     }
 }

@@ -3,32 +3,26 @@
 //! A mark is a number between two bytes 1. It is put before a part of a text, so that the plan's
 //! words show which part gave them (`drv_why`).
 
-ghost use Rattle.drv_check.specs.Code.PlainRuns.{extent_if, follows, read_to};
 ghost use Rattle.drv_check.specs.MarkedParts.{before_at, first_in, goes_on, heads_named_text, is_item};
-ghost use Rattle.drv_check.specs.MarkedParts.{is_nested, is_passed, joint_after, joint_of, part_end};
-ghost use Rattle.drv_check.specs.MarkedParts.{parts_from, parts_of, read_by, role_of};
+ghost use Rattle.drv_check.specs.MarkedParts.{is_nested, joint_after, joint_of, part_end, part_if};
+ghost use Rattle.drv_check.specs.MarkedParts.{parts_from, parts_of, role_of};
 ghost use Rattle.drv_check.specs.Markings.{headed_parts, marked_part, marked_parts, piece_parts, tree_parts};
 ghost use Rattle.drv_check.specs.OwnTexts.{own_start, own_text, own_tree};
-ghost use Rattle.drv_check.specs.declared.mark_reading.Before.TheVariants.{Follows};
-ghost use Rattle.drv_check.specs.declared.mark_reading.Reading.{Reading};
-ghost use Rattle.drv_check.specs.declared.mark_reading.Role.TheVariants.{Item};
 ghost use Rattle.drv_syntax.specs.Parsed.{tree_of};
 ghost use Rattle.drv_syntax.specs.Tokens.{tokens_of};
 ghost use Rattle.std.specs.List.{flat_map};
 ghost use Rattle.std.specs.Prelude.{◌≡◌, ◌∷◌, ◌++◌, ◌+◌, ◌-◌, ◌<◌, ◌≤◌, ◌^◌, IfOk, List, OnOk, Some, drop, length, map, take, ℕ};
 
 use crate::findings::{Source, Spot};
-use crate::known_trees::{PairPlaces, known_tree};
 use crate::loading_order::{LoadedFiles, head_in};
 use crate::mark_reading::{
     Before, Reading, Role, before_at, is_item, is_nested, is_passed, read_by, role_of,
 };
-use crate::origins::{Files, Spots, spot_at};
+use crate::origins::{Files, spot_at};
 use crate::own_text::{own_bytes, own_start, tree_of};
 use crate::pieces::{Piece, pieces_of};
 use crate::pointing::colon_in;
-use drv_specs::SpecSet;
-use drv_syntax::{Token, TokenKind};
+use drv_syntax::Token;
 use drv_words::{Listing, Word};
 use std::alloc::{AllocError, Global};
 
@@ -134,97 +128,27 @@ fn first_in(head: &[u8]) -> Before
     }
 }
 
-/// Whether this is behind an item without marks inside.
-fn follows(before: Before) -> bool
-    ensures { result ≡ follows before }
-{
-    matches!(before, Before::Follows)
-}
-
-/// Where the plain tokens end that are right behind an item without marks inside, which ends here,
-/// and the tokens behind them.
-#[tactic(auto, using(crate::proofs::PlainRuns::run_ends, crate::proofs::PlainRuns::run_reads))]
-fn plain_run(end: u32, tokens: &[Token]) -> (u32, &[Token])
-    ensures within { length result.1.now ≤ length tokens.now }
-    ensures ends { part_end Item end tokens.now ≡ part_end Item result.0 result.1.now }
-    ensures reads { (text : List ℕ) (reading : Reading) → reading.before ≡ Follows → reading.until ≡ end
-        → parts_from text reading tokens.now ≡ parts_from text (read_to result.0 reading) result.1.now }
-{
-    let mut at = end;
-    let mut left = tokens;
-    while let [token, rest @ ..] = left {
-        if token.start != at || !matches!(token.kind, TokenKind::Plain) {
-            return (at, left);
-        }
-        at = token.end;
-        left = rest;
-    }
-    (at, left)
-}
-
-/// Adds the part from this place up to another, if it has a mark.
-#[inline(always)]
-fn push_extent(
+/// Adds the part that begins with a token, if it has a mark.
+fn push_part(
     parts: &mut Vec<Extent>,
     joint: Option<Joint>,
-    start: u32,
-    end: u32,
+    token: Token,
+    rest: &[Token],
 ) -> Result<(), AllocError>
-    ensures { OnOk result (parts.new.items ≡ parts.old.items ++ extent_if joint start end) }
+    ensures { OnOk result (parts.new.items ≡ parts.old.items ++ part_if joint token rest.now) }
 {
     if let Some(joint) = joint {
-        parts.push(Extent { start, end, joint })?;
+        parts.push(Extent {
+            start: token.start,
+            end: part_end(role_of(token.kind), token.end, rest),
+            joint,
+        })?;
     }
     Ok(())
 }
 
-/// Adds the part from this place on, if it has a mark. It has reached another place, behind an
-/// item without marks inside.
-fn push_part(
-    parts: &mut Vec<Extent>,
-    joint: Option<Joint>,
-    start: u32,
-    until: u32,
-    tokens: &[Token],
-) -> Result<(), AllocError>
-    ensures { OnOk result
-        (parts.new.items ≡ parts.old.items ++ extent_if joint start (part_end Item until tokens.now)) }
-{
-    if joint.is_none() {
-        return Ok(());
-    }
-    push_extent(parts, joint, start, part_end(Role::Item, until, tokens))
-}
-
-/// Reads a token, and the plain ones right behind it if it is an item without marks inside. Adds the
-/// part that begins with it, if that has a mark, and gives the tokens that are left.
-#[inline(always)]
-#[tactic(auto, using(crate::proofs::PlainRuns::item_next, crate::proofs::PlainRuns::other_next))]
-fn read_part<'a>(
-    parts: &mut Vec<Extent>,
-    text: &[u8],
-    reading: &mut Reading,
-    token: Token,
-    rest: &'a [Token],
-) -> Result<&'a [Token], AllocError>
-    ensures within { IfOk result (λ left. length left.now ≤ length rest.now) }
-    ensures parts { IfOk result (λ left. parts.new.items ++ parts_from text.now reading.new left.now
-        ≡ parts.old.items ++ parts_from text.now reading.old (token ∷ rest.now)) }
-{
-    let joint = joint_of(*reading, token);
-    let next = read_by(text, *reading, token);
-    if !follows(next.before) {
-        push_extent(parts, joint, token.start, token.end)?;
-        *reading = next;
-        return Ok(rest);
-    }
-    let (until, left) = plain_run(next.until, rest);
-    push_part(parts, joint, token.start, until, left)?;
-    *reading = Reading { until, ..next };
-    Ok(left)
-}
-
 /// The marked parts of a text with these tokens, the first of which this precedes.
+#[tactic(auto, using(crate::proofs::MarkSteps::extent_next))]
 fn parts_of(
     alloc: Global,
     first: Before,
@@ -241,7 +165,9 @@ fn parts_of(
     };
     let mut left = tokens;
     while let [token, rest @ ..] = left {
-        left = read_part(&mut parts, text, &mut reading, *token, rest)?;
+        push_part(&mut parts, joint_of(reading, *token), *token, rest)?;
+        reading = read_by(text, reading, *token);
+        left = rest;
     }
     Ok(parts)
 }
@@ -252,7 +178,7 @@ struct MarkedText<'a> {
     head: &'a [u8],
     text: &'a [u8],
     at: usize,
-    spots: &'a Spots<'a>,
+    spots: &'a [Spot],
 }
 
 /// The bytes of a part.
@@ -311,12 +237,11 @@ fn text_start(piece: &Piece) -> Result<usize, AllocError>
     }
 }
 
-/// Adds the marked parts of a text. The set may have its tree.
+/// Adds the marked parts of a text, if it has a tree.
 #[tactic(auto, using(crate::proofs::MarkSteps::none_marked))]
 fn push_text(
     alloc: Global,
     parts: &mut Listing<MarkedPart>,
-    files: &Files<'_>,
     text: &MarkedText<'_>,
 ) -> Result<(), AllocError>
     requires { text.now.at < 2 ^ 63 }
@@ -325,9 +250,6 @@ fn push_text(
         ++ tree_parts text.now.head.now text.now.text.now text.now.spots.now text.now.at
         (tree_of text.now.text.now)) }
 {
-    if let Some(tree) = known_tree(alloc, files.set, &files.places, text.head, text.text)? {
-        return push_parts(alloc, parts, text, tree.tokens());
-    }
     match tree_of(alloc, text.text)? {
         Some(tree) => push_parts(alloc, parts, text, tree.tokens()),
         None => Ok(()),
@@ -355,9 +277,9 @@ fn push_own(
         head,
         text,
         at: text_start(piece)?,
-        spots: &spots,
+        spots: spots.as_slice(),
     };
-    push_text(alloc, parts, files, &text)
+    push_text(alloc, parts, &text)
 }
 
 /// Adds the marked parts of the text of a piece, if it has a colon, and this head before it.
@@ -399,11 +321,9 @@ fn push_piece(
 }
 
 /// The parts of the texts of a set that have a mark, by its dump, in their order. The files that
-/// were loaded into the set say where a part is. Where the set has a text of the dump, its tree is
-/// read from there.
+/// were loaded into the set say where a part is.
 pub fn marked_parts(
     alloc: Global,
-    set: &SpecSet,
     loaded: &LoadedFiles<'_>,
     dump: &[u8],
 ) -> Result<Listing<MarkedPart>, AllocError>
@@ -412,8 +332,6 @@ pub fn marked_parts(
     let files = Files {
         sources: loaded.sources(),
         pieces: loaded.pieces(),
-        set,
-        places: PairPlaces::new(alloc, set)?,
     };
     let pieces = pieces_of(alloc, dump)?;
     let mut parts = Listing::new(alloc);

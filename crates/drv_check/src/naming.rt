@@ -1,10 +1,9 @@
 //! The parts of a set's texts that name switches.
 
 ghost use Rattle.drv_check.specs.LoadingOrder.{head_in};
-ghost use Rattle.drv_check.specs.Namings.{call_deed, deed_of, headed_namings, is_headed_run};
+ghost use Rattle.drv_check.specs.Namings.{call_deed, deed_of, headed_namings, is_headed_run, is_used};
 ghost use Rattle.drv_check.specs.Code.Deeds.{may_name};
-ghost use Rattle.drv_check.specs.Code.LaterKeys.{is_used_if, namings_if};
-ghost use Rattle.drv_check.specs.Namings.{naming_if, naming_word, namings_of};
+ghost use Rattle.drv_check.specs.Namings.{naming_if, naming_word, namings_of, used_namings};
 ghost use Rattle.drv_check.specs.Namings.{piece_namings, test_deed, token_namings, tree_namings, written_part};
 ghost use Rattle.drv_check.specs.Origins.{text_spots};
 ghost use Rattle.drv_check.specs.OwnTexts.{own_text, own_tree};
@@ -15,15 +14,13 @@ ghost use Rattle.std.specs.Prelude.{◌≡◌, ◌<◌, ◌++◌, IfOk, OnOk, So
 
 use crate::compared::{asks_switch, is_call, prefix_of};
 use crate::findings::{Source, Spot};
-use crate::known_trees::{PairPlaces, known_tree};
-use crate::later_keys::HiddenPieces;
+use crate::hidden_pair::{is_hidden, key_in};
 use crate::loading_order::{LoadedFiles, head_in};
-use crate::origins::{Files, Spots, spot_at};
+use crate::origins::{Files, spot_at};
 use crate::own_text::{own_bytes, tree_of as read_tree};
 use crate::pieces::{Piece, pieces_of};
 use crate::pointing::colon_in;
 use crate::run_texts::is_run;
-use drv_specs::SpecSet;
 use drv_syntax::{SpecTree, TestKind, Token, TokenKind};
 use drv_words::{Listing, Word};
 use std::alloc::{AllocError, Global};
@@ -115,7 +112,7 @@ fn naming_word(alloc: Global, calls: bool, written: &[u8], word: &[u8]) -> Resul
 struct Headed<'a> {
     head: &'a [u8],
     tree: &'a SpecTree,
-    spots: &'a Spots<'a>,
+    spots: &'a [Spot],
 }
 
 /// A part of a text that does something with switches.
@@ -214,12 +211,12 @@ fn push_tree(
     Ok(())
 }
 
-/// A text that a set may have the tree of, with the spots of its last bytes.
+/// A text, with the spots of its last bytes.
 #[derive(Drop)]
 struct Spotted<'a> {
     head: &'a [u8],
     text: &'a [u8],
-    spots: &'a Spots<'a>,
+    spots: &'a [Spot],
 }
 
 /// Adds the parts of a text with this tree that name switches.
@@ -241,12 +238,11 @@ fn push_read(
     push_tree(alloc, namings, &headed)
 }
 
-/// Adds the parts of a text that name switches. The set may have its tree.
+/// Adds the parts of a text that name switches, if it has a tree.
 #[tactic(auto, using(crate::proofs::Namings::none_named))]
 fn push_text(
     alloc: Global,
     namings: &mut Listing<Naming>,
-    files: &Files<'_>,
     text: &Spotted<'_>,
 ) -> Result<(), AllocError>
     ensures { OnOk result
@@ -254,9 +250,6 @@ fn push_text(
         ++ tree_namings text.now.head.now text.now.text.now text.now.spots.now
         (tree_of text.now.text.now)) }
 {
-    if let Some(tree) = known_tree(alloc, files.set, &files.places, text.head, text.text)? {
-        return push_read(alloc, namings, text, tree);
-    }
     match read_tree(alloc, text.text)? {
         Some(tree) => push_read(alloc, namings, text, &tree),
         None => Ok(()),
@@ -282,9 +275,9 @@ fn push_run(
     let text = Spotted {
         head,
         text,
-        spots: &spots,
+        spots: spots.as_slice(),
     };
-    push_text(alloc, namings, files, &text)
+    push_text(alloc, namings, &text)
 }
 
 /// Adds the parts of the text of a piece that name switches, where it has this head.
@@ -360,10 +353,10 @@ fn is_headed_run(piece: &Piece) -> bool
 }
 
 /// Whether a piece is used: its text is run, and no later piece hides it.
-fn is_used(piece: &Piece, hidden: bool) -> bool
-    ensures { result ≡ is_used_if hidden piece.now }
+fn is_used(piece: &Piece, later: &[Piece]) -> bool
+    ensures { result ≡ is_used later.now piece.now }
 {
-    is_headed_run(piece) && !hidden
+    is_headed_run(piece) && !is_hidden(key_in(piece.text.as_bytes()), later)
 }
 
 /// Adds the parts of the text of a piece that name switches, if it is used.
@@ -372,13 +365,13 @@ fn push_used(
     namings: &mut Listing<Naming>,
     files: &Files<'_>,
     piece: &Piece,
-    hidden: bool,
+    later: &[Piece],
 ) -> Result<(), AllocError>
     ensures { OnOk result
         (namings.new ≡ namings.old
-        ++ namings_if files.now.sources.now files.now.pieces.now hidden piece.now) }
+        ++ used_namings files.now.sources.now files.now.pieces.now later.now piece.now) }
 {
-    if !is_used(piece, hidden) {
+    if !is_used(piece, later) {
         return Ok(());
     }
     push_piece(alloc, namings, files, piece)
@@ -386,11 +379,10 @@ fn push_used(
 
 /// The parts of the texts of a set that name switches, by its dump, in their order. A pair that a
 /// later one hides is never run, and has none. The files that were loaded into the set say
-/// where a part is. Where the set has a text of the dump, its tree is read from there.
+/// where a part is.
 #[tactic(auto, using(crate::proofs::Namings::pieces_next))]
 pub fn namings_of(
     alloc: Global,
-    set: &SpecSet,
     loaded: &LoadedFiles<'_>,
     dump: &[u8],
 ) -> Result<Listing<Naming>, AllocError>
@@ -399,18 +391,13 @@ pub fn namings_of(
     let files = Files {
         sources: loaded.sources(),
         pieces: loaded.pieces(),
-        set,
-        places: PairPlaces::new(alloc, set)?,
     };
-    let read = pieces_of(alloc, dump)?;
-    let pieces = read.as_slice();
-    let hidden = HiddenPieces::new(alloc, pieces)?;
+    let pieces = pieces_of(alloc, dump)?;
     let mut namings = Listing::new(alloc);
-    let mut place = 0;
-    while place < pieces.len() {
-        let is_hidden = hidden.has(place);
-        push_used(alloc, &mut namings, &files, &pieces[place], is_hidden)?;
-        place += 1;
+    let mut left = pieces.as_slice();
+    while let [piece, later @ ..] = left {
+        push_used(alloc, &mut namings, &files, piece, later)?;
+        left = later;
     }
     Ok(namings)
 }

@@ -138,7 +138,7 @@ fn marks_of(
     };
     let texts = source_texts(alloc, line, set)?;
     let dump = reached_dump(alloc, set, roots, texts.as_slice())?;
-    let parts = marked_parts(alloc, set, files, dump.as_bytes())?;
+    let parts = marked_parts(alloc, files, dump.as_bytes())?;
     let text = marked_text(alloc, dump.as_bytes(), parts.as_slice())?;
     Ok(Marks { parts, text })
 }
@@ -161,7 +161,7 @@ fn switch_parts(
     files: &LoadedFiles<'_>,
 ) -> Result<Listing<Naming>, AllocError> {
     let dump = set.dump()?;
-    namings_of(alloc, set, files, dump.as_bytes())
+    namings_of(alloc, files, dump.as_bytes())
 }
 
 /// The text about the words of a plan, and about the line's switches if the answer has them. The

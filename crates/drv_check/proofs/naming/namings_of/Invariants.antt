@@ -1,11 +1,10 @@
 use Rattle.drv_check.proofs.naming.namings_of.Given as goal
 use Rattle.drv_check.specs.LoadingOrder.{loaded_pieces}
 use Rattle.drv_check.specs.Namings.{namings_of, pieces_namings}
-use Rattle.std.proofs.Common.{◌≡◌, ◌++◌, ◌-◌, drop, length}
+use Rattle.std.proofs.Common.{◌≡◌, ◌++◌, length}
 
-abbrev pub invariant-loop-place : goal.invariant-loop-place
-invariant-loop-place l =
-    l.namings ++ pieces_namings l.loaded (loaded_pieces l.loaded) (drop l.place l.pieces) ≡ namings_of l.loaded l.dump
+abbrev pub invariant-loop-left : goal.invariant-loop-left
+invariant-loop-left l = l.namings ++ pieces_namings l.loaded (loaded_pieces l.loaded) l.left ≡ namings_of l.loaded l.dump
 
-abbrev pub decreases-loop-place : goal.decreases-loop-place
-decreases-loop-place l = length l.pieces - l.place
+abbrev pub decreases-loop-left : goal.decreases-loop-left
+decreases-loop-left l = length l.left
