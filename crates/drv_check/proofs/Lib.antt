@@ -2,7 +2,6 @@ mod Agreeing
 mod CheckAgrees
 mod Covering
 mod Cutting
-mod FaultNotes
 mod FaultsAlone
 mod FaultsCounted
 mod FilesOpened

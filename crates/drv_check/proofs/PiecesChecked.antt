@@ -11,7 +11,7 @@ use Rattle.std.proofs.Common.{false, if◌then◌else◌, length, refl, subst, s
 use Rattle.std.proofs.lemmas.List.{drop_more}
 use Rattle.std.specs.Prelude.{get_or}
 
--- For check_files (src/checking.rt) and fault_note (src/fault_notes.rt): pieces and files are checked one after another.
+-- For check_files (src/checking.rt): pieces and files are checked one after another.
 -- Names: `F` is what is known of the outside. `prefixes` is where files are searched for. `levels` is how deep files may still be within
 -- one another. `enters` is how an open file is checked. `c` is the check before a step, `new` or `d` after the file or piece is opened, and
 -- `after` after what it opened was checked. `file` is the open file, `piece` the one at place `n` of its `pieces`, and `next` the file that

@@ -1,12 +1,12 @@
-use Rattle.drv_check.proofs.Agreeing.{Follows, Loads, One, OpensFrom, agrees, carried_of, joins, loads_join, loads_set}
+use Rattle.drv_check.proofs.Agreeing.{Follows, Loads, One, OpensFrom, carried_of, joins, loads_join, loads_set}
 use Rattle.drv_check.proofs.Agreeing.{noted_faults, one_as}
 use Rattle.drv_check.proofs.Agreeing.{same_in}
 use Rattle.drv_check.proofs.IncludesRead.{answers_alike, refusing}
 use Rattle.drv_check.proofs.PiecesRead.{checked_read}
 use Rattle.drv_check.proofs.UntilBad.{carried_alike}
 use Rattle.drv_check.proofs.PiecesChecked.{begins, names_kept, names_next, pieces_kept, pieces_next}
-use Rattle.drv_check.specs.Agreement.{Agrees, all_loaded, faults_of}
-use Rattle.drv_check.specs.Checks.{Limit, all_called, by_text, called, entered, enters_at, file_checked, is_full, most_faults, open_file, opened_of}
+use Rattle.drv_check.specs.Agreement.{all_loaded, faults_of}
+use Rattle.drv_check.specs.Checks.{Limit, all_called, by_text, called, entered, enters_at, file_checked, is_full, open_file, opened_of}
 use Rattle.drv_check.specs.Checks.{pieces_checked, step, was_read}
 use Rattle.drv_check.specs.Includes.{read_text}
 use Rattle.drv_check.specs.Numbers.{AreRead}
@@ -31,9 +31,8 @@ use Rattle.std.proofs.Common.{suc, sym, true, zero, ℕ}
 use Rattle.std.proofs.lemmas.Bool.{false≢true}
 use Rattle.std.specs.Prelude.{nat_le}
 
--- For first_fault_is_refusal and noted_fault_is_refusal (src/laws.rt): a check, wherever it ends after a fault, finds none exactly where
--- the
--- driver loads the files, and else its refusal first.
+-- For first_fault_is_refusal (src/laws.rt): a check, wherever it ends after a fault, finds none exactly where the driver loads the files,
+-- and else its refusal first.
 -- Names: `F` is what is known of the outside. `prefixes` is where files are searched for. `c` is a check before a step, `c'` at the end,
 -- and `d` or `c''` after the step. `file` is the open file, and `pieces` its pieces. `from` is where a file is included. `levels` is how
 -- deep files may still be within one another, and `left` how many may still be read. `known` is what the driver makes of a step. `missing`
@@ -283,12 +282,3 @@ module _ (F : Facts) (prefixes : Prefixes) (limit : Limit) (alike : IsByFaults l
           → Loads F prefixes (faults_of c.findings) c' (all_loaded F prefixes c.set (name ∷ names))
       by later Unasked calls more = absurd cc
       by later (Is c'') calls more = by_end later c'' calls more (limit c'') refl
-
--- So the whole call agrees: this is what the law of the noted fault needs.
-pub until_agrees : (F : Facts) (prefixes : Prefixes) (c c' : Checking) (names : List (List ℕ)) → c.findings ≡ []
-    → all_called F prefixes (is_full most_faults) c names ≡ Is c' → Agrees (faults_of c'.findings) (all_loaded F prefixes c.set names)
-until_agrees F prefixes c c' names none is =
-    agrees F prefixes c' (all_loaded F prefixes c.set names)
-    (subst (λ fs. Loads F prefixes (faults_of fs) c' (all_loaded F prefixes c.set names)) none
-    (all_load F prefixes (is_full most_faults) (by_number most_faults) c c' names
-    (ap (λ fs. nat_le most_faults (length (faults_of fs))) none) is))

@@ -4,7 +4,7 @@ use Rattle.drv_specs.specs.declared.fault.SpecsFault.{SpecsFault}
 use Rattle.drv_system.specs.Known.{Is, Known, Unasked}
 use Rattle.std.proofs.Common.{◌≡◌, ◌∙◌, ◌∷◌, Bool, Err, List, Ok, Result, [], ap, false, if◌then◌else◌, refl, sym, true}
 
--- For first_fault_is_refusal and noted_fault_is_refusal (src/laws.rt): the driver ends at the first line that is no directive, so it makes
+-- For first_fault_is_refusal (src/laws.rt): the driver ends at the first line that is no directive, so it makes
 -- the same of directives as of those up to there.
 -- Names: `including` is how the driver includes a file, and `c` what it carries along. `directive` is one of its `directives`, and `known`
 -- what it makes of that one. `all_carried` is what it makes of several (drv_specs).

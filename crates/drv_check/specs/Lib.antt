@@ -5,7 +5,6 @@ pub mod Checks
 pub mod Code
 pub mod Compared
 pub mod Coverage
-pub mod FaultNotes
 pub mod GccNames
 pub mod HiddenPairs
 pub mod Includes
@@ -22,10 +21,8 @@ pub mod OwnTexts
 pub mod Pieces
 pub mod Points
 pub mod Reached
-pub mod Shown
 pub mod Spots
 pub mod TokenWarnings
-pub mod Told
 pub mod UnusedTexts
 pub mod Warnings
 pub mod Whole

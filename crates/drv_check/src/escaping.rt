@@ -1,22 +1,16 @@
 //! Texts of others for a reader: no byte of theirs steers a terminal.
 
-ghost use Rattle.drv_check.specs.Shown.{hex_digit, is_control, visible, visible_byte};
-ghost use Rattle.std.specs.Prelude.{◌≡◌, ◌<◌, ◌++◌, IfOk, OnOk};
-
 use drv_words::Word;
 use std::alloc::{AllocError, Global};
 
 /// Whether a byte may steer a terminal.
-pub(crate) fn is_control(byte: u8) -> bool
-    ensures { result ≡ is_control byte }
-{
+pub(crate) fn is_control(byte: u8) -> bool {
     byte < b' ' && byte != b'\t' && byte != b'\n'
 }
 
 /// A digit in base 16.
 fn hex_digit(digit: u8) -> u8
     requires { digit < 16 }
-    ensures { result ≡ hex_digit digit }
 {
     if digit < 10 {
         b'0' + digit
@@ -26,9 +20,7 @@ fn hex_digit(digit: u8) -> u8
 }
 
 /// Adds a byte, or of a control byte its number.
-fn push_visible(text: &mut Word, byte: u8) -> Result<(), AllocError>
-    ensures { OnOk result (text.new ≡ text.old ++ visible_byte byte) }
-{
+fn push_visible(text: &mut Word, byte: u8) -> Result<(), AllocError> {
     if !is_control(byte) {
         return text.push(byte);
     }
@@ -38,9 +30,7 @@ fn push_visible(text: &mut Word, byte: u8) -> Result<(), AllocError>
 }
 
 /// A text in which each control byte but tabs and newlines is its number, as `\x1b`.
-pub fn visible(alloc: Global, text: &Word) -> Result<Word, AllocError>
-    ensures { IfOk result (λ shown. shown ≡ visible text.now) }
-{
+pub fn visible(alloc: Global, text: &Word) -> Result<Word, AllocError> {
     let mut shown = Word::empty(alloc);
     for &byte in text.as_bytes() {
         push_visible(&mut shown, byte)?;

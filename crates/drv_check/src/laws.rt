@@ -3,9 +3,7 @@
 ghost use Rattle.drv_check.specs.Agreement.{Agrees, all_loaded, faults_of};
 ghost use Rattle.drv_check.specs.Branches.{covers, names_all};
 ghost use Rattle.drv_check.specs.Checked.{checked};
-ghost use Rattle.drv_check.specs.Checks.{all_called, is_full, most_faults};
 ghost use Rattle.drv_check.specs.Coverage.{is_true, pattern_of};
-ghost use Rattle.drv_check.specs.FaultNotes.{IsFirst, first_fault, unchecked_over};
 ghost use Rattle.drv_check.specs.LoadingOrder.{loaded_pieces};
 ghost use Rattle.drv_check.specs.MarkWords.{Marked, marked_text};
 ghost use Rattle.drv_check.specs.Numbers.{AreRead};
@@ -22,7 +20,6 @@ ghost use Rattle.drv_search.specs.declared.prefixes.Prefixes.{Prefixes};
 ghost use Rattle.drv_specs.specs.Builtin.{builtin_specs};
 ghost use Rattle.drv_specs.specs.Directives.{directives_of};
 ghost use Rattle.drv_specs.specs.Lines.{settle};
-ghost use Rattle.drv_specs.specs.Sets.{Set};
 ghost use Rattle.drv_syntax.specs.Labels.{Label};
 ghost use Rattle.drv_syntax.specs.declared.token.TestKind.TheVariants as asking;
 ghost use Rattle.drv_system.specs.Facts.{Facts};
@@ -46,15 +43,6 @@ pub fn first_fault_is_refusal()
         (c : Checking)
         → prefixes_of F [] ≡ Is prefixes → checked F whose over names ≡ Is c
         → Agrees (faults_of c.findings) (all_loaded F prefixes builtin_specs (over ++ names)) }
-{}
-
-/// The law that the fault whose place is noted is the driver's refusal of these files, loaded over
-/// this set, and that there is none where it loads them. It takes and gives nothing.
-#[tactic(auto, using(crate::proofs::FaultNotes::noted_first))]
-pub fn noted_fault_is_refusal()
-    ensures { (F : Facts) (prefixes : Prefixes) (set : Set) (names : List (List ℕ)) (c : Checking)
-        → all_called F prefixes (is_full most_faults) (unchecked_over set) names ≡ Is c
-        → IsFirst (first_fault c.findings) (all_loaded F prefixes set names) }
 {}
 
 /// The law that a test of a switch is true on every line on which a test is true that it covers,

@@ -69,6 +69,6 @@ pub use differing::texts_difference;
 mod laws;
 
 pub use laws::{
-    covered_tests_are_true, first_fault_is_refusal, marks_are_in_order, noted_fault_is_refusal,
-    pieces_are_directives, spots_have_bytes,
+    covered_tests_are_true, first_fault_is_refusal, marks_are_in_order, pieces_are_directives,
+    spots_have_bytes,
 };

@@ -1,9 +1,5 @@
 //! What a check prints of findings, as text.
 
-ghost use Rattle.drv_check.specs.Shown.{line_back, line_front};
-ghost use Rattle.drv_check.specs.Told.{place_text};
-ghost use Rattle.std.specs.Prelude.{◌≡◌, ◌≤◌, ◌++◌, OnOk, decimal, length, take};
-
 use crate::escaping::is_control;
 use drv_words::{Listing, Word};
 use itoa::Buffer;
@@ -52,9 +48,7 @@ const MOST_BEFORE: usize = 60;
 const MOST_AFTER: usize = 40;
 
 /// Adds what is shown of a line before a place.
-pub fn push_front(text: &mut Word, line: &[u8]) -> Result<(), AllocError>
-    ensures { OnOk result (text.new ≡ text.old ++ line_front line.now) }
-{
+pub fn push_front(text: &mut Word, line: &[u8]) -> Result<(), AllocError> {
     if line.len() <= MOST_BEFORE {
         return text.extend_from_slice(line);
     }
@@ -62,36 +56,22 @@ pub fn push_front(text: &mut Word, line: &[u8]) -> Result<(), AllocError>
     text.extend_from_slice(&line[line.len() - MOST_BEFORE..])
 }
 
-/// The first bytes of a line.
-fn first_bytes(line: &[u8], most: usize) -> &[u8]
-    requires { most ≤ length line.now }
-    ensures { result.now ≡ take most line.now }
-{
-    &line[..most]
-}
-
 /// Adds what is shown of a line from a place on.
-pub fn push_back(text: &mut Word, line: &[u8]) -> Result<(), AllocError>
-    ensures { OnOk result (text.new ≡ text.old ++ line_back line.now) }
-{
+pub fn push_back(text: &mut Word, line: &[u8]) -> Result<(), AllocError> {
     if line.len() <= MOST_AFTER {
         return text.extend_from_slice(line);
     }
-    text.extend_from_slice(first_bytes(line, MOST_AFTER))?;
+    text.extend_from_slice(&line[..MOST_AFTER])?;
     text.extend_from_slice(b"..")
 }
 
 /// Adds a number in decimal digits.
-fn push_number(text: &mut Word, number: usize) -> Result<(), AllocError>
-    ensures { OnOk result (text.new ≡ text.old ++ decimal number) }
-{
+fn push_number(text: &mut Word, number: usize) -> Result<(), AllocError> {
     text.extend_from_slice(Buffer::new().format(number).as_bytes())
 }
 
 /// Adds a place: the file, its line and its column.
-pub(crate) fn push_place(text: &mut Word, place: &Place) -> Result<(), AllocError>
-    ensures { OnOk result (text.new ≡ text.old ++ place_text place.now) }
-{
+pub(crate) fn push_place(text: &mut Word, place: &Place) -> Result<(), AllocError> {
     text.extend_from_slice(place.file.as_bytes())?;
     text.extend_from_slice(b":")?;
     push_number(text, place.line)?;

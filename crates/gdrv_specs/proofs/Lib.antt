@@ -1,4 +1,3 @@
 mod Calls
-mod Noted
 mod Plans
 mod Told

@@ -1,6 +1,5 @@
 pub mod Calls
 pub mod Forms
-pub mod Notes
 pub mod Plans
 pub mod Requests
 pub mod Told

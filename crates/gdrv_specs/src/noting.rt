@@ -1,14 +1,5 @@
 //! What is said after a refusal: where in a spec file its fault is.
 
-// In clauses: `Extends F G` says that G has every answer of F. `Asks` says that a call only asked,
-// and that the table has the answers.
-ghost use Rattle.drv_system.specs.Asking.{Asks, Extends};
-ghost use Rattle.drv_system.specs.Facts.{Facts};
-ghost use Rattle.gdrv_specs.specs.Notes.{NotesLine, NotesPlace, file_found, file_read};
-ghost use Rattle.gdrv_specs.specs.Notes.{folders_in, script_in, variables_in};
-ghost use Rattle.std.specs.List.{flat_map};
-ghost use Rattle.std.specs.Prelude.{◌≡◌, ◌++◌, IfOk, OnOk};
-
 use crate::calling::Call;
 use crate::differing::with_specs;
 use drv_args::Settings;
@@ -25,11 +16,7 @@ fn settings_note<S: System>(
     settings: &Settings,
     sys: &mut S,
     facts: &mut FactTable,
-) -> Result<Word, AllocError>
-    ensures asks { Asks (S.events sys.old) (S.events sys.new) facts.old facts.new }
-    ensures note { (F : Facts) → Extends facts.new F
-        → IfOk result (λ note. NotesPlace F settings.now note) }
-{
+) -> Result<Word, AllocError> {
     let set = builtin(alloc)?;
     let folders = settings.prefixes.as_slice();
     let names = settings.specs.as_slice();
@@ -41,17 +28,12 @@ fn settings_note<S: System>(
 ///
 /// # Errors
 /// Why the words are no line, or lack of memory.
-#[tactic(auto, using(drv_system::proofs::Asking::asks_then))]
 pub fn line_note<S: System>(
     alloc: Global,
     args: Listing<Word>,
     sys: &mut S,
     facts: &mut FactTable,
-) -> Result<Word, Ending>
-    ensures asks { Asks (S.events sys.old) (S.events sys.new) facts.old facts.new }
-    ensures note { (F : Facts) → Extends facts.new F
-        → IfOk result (λ note. NotesLine F args note) }
-{
+) -> Result<Word, Ending> {
     let line = line_of_call(alloc, args, sys, facts)?;
     let note = settings_note(alloc, &line.settings, sys, facts)?;
     Ok(note)
@@ -61,9 +43,7 @@ pub fn line_note<S: System>(
 fn push_reads(
     files: &mut Listing<(Word, Option<Word>)>,
     journal: &[Event],
-) -> Result<(), AllocError>
-    ensures { OnOk result (files.new ≡ files.old ++ flat_map file_read journal.now) }
-{
+) -> Result<(), AllocError> {
     for event in journal {
         match event {
             Event::Read(path, ReadAnswer::Read(bytes)) => {
@@ -82,9 +62,7 @@ fn push_reads(
 fn push_plain(
     files: &mut Listing<(Word, Option<Word>)>,
     journal: &[Event],
-) -> Result<(), AllocError>
-    ensures { OnOk result (files.new ≡ files.old ++ flat_map file_found journal.now) }
-{
+) -> Result<(), AllocError> {
     for event in journal {
         if let Event::Kind(path, PathKind::Plain) = event {
             files.push((path.clone()?, None))?;
@@ -94,9 +72,7 @@ fn push_plain(
 }
 
 /// The folders that were found.
-fn folders_in(alloc: Global, journal: &[Event]) -> Result<Listing<Word>, AllocError>
-    ensures { IfOk result (λ folders. folders ≡ folders_in journal.now) }
-{
+fn folders_in(alloc: Global, journal: &[Event]) -> Result<Listing<Word>, AllocError> {
     let mut folders = Listing::new(alloc);
     for event in journal {
         if let Event::Kind(path, PathKind::Dir) = event {
@@ -107,9 +83,7 @@ fn folders_in(alloc: Global, journal: &[Event]) -> Result<Listing<Word>, AllocEr
 }
 
 /// The variables that were set, with their values.
-fn variables_in(alloc: Global, journal: &[Event]) -> Result<Listing<(Word, Word)>, AllocError>
-    ensures { IfOk result (λ variables. variables ≡ variables_in journal.now) }
-{
+fn variables_in(alloc: Global, journal: &[Event]) -> Result<Listing<(Word, Word)>, AllocError> {
     let mut variables = Listing::new(alloc);
     for event in journal {
         if let Event::Variable(name, Some(value)) = event {
@@ -120,9 +94,7 @@ fn variables_in(alloc: Global, journal: &[Event]) -> Result<Listing<(Word, Word)
 }
 
 /// A system that answers as these events say.
-fn system_of(alloc: Global, journal: &[Event]) -> Result<ScriptSystem, AllocError>
-    ensures { IfOk result (λ sys. sys.script ≡ script_in journal.now) }
-{
+fn system_of(alloc: Global, journal: &[Event]) -> Result<ScriptSystem, AllocError> {
     let mut files = Listing::new(alloc);
     push_reads(&mut files, journal)?;
     push_plain(&mut files, journal)?;
