@@ -24,7 +24,6 @@ mod SpotLaws
 mod TextOrigins
 mod TextsReached
 mod TokenMarks
-mod TreeBranches
 mod Unreached
 mod UntilBad
 mod Unused

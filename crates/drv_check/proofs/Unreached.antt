@@ -1,9 +1,10 @@
 use Rattle.drv_check.specs.Branches.{is_unreachable, mark_if}
-use Rattle.drv_check.specs.Code.Branching.{beyond, branch_in, branches_from, branches_of, here, listed_marks, parts_from, parts_marks}
-use Rattle.drv_check.specs.Code.Branching.{test_in, tests_from, tests_of}
+use Rattle.drv_check.specs.Branches.{beyond, branch_in, branches_from, branches_of, here, listed_marks, parts_from, parts_marks}
+use Rattle.drv_check.specs.Branches.{test_in, tests_from, tests_of, unreached}
 use Rattle.drv_check.specs.declared.branches.Branch.{Branch}
 use Rattle.drv_check.specs.declared.warning.Mark.{Mark}
 use Rattle.drv_syntax.specs.Labels.{Label}
+use Rattle.drv_syntax.specs.Tokens.{tokens_of}
 use Rattle.drv_syntax.specs.Tree.{Items}
 use Rattle.drv_syntax.specs.declared.token.Token.{Token}
 use Rattle.std.proofs.Common.{◌≡◌, ◌∙◌, ◌<◌, ◌≤◌, ◌+◌, ◌++◌, ◌∷◌, Bool, List, [], ap, append-nil, append_assoc, drop, false, if◌then◌else◌}
@@ -12,12 +13,12 @@ use Rattle.std.proofs.lemmas.Bool.{le-ltb}
 use Rattle.std.proofs.lemmas.List.{drop_all, drop_more}
 use Rattle.std.specs.Prelude.{get_or, nat_lt}
 
--- Branches that no line reaches, one after another, as the code finds them. For the loops of src/branches.rt.
+-- Branches that no line reaches, one after another. For the loops of src/branches.rt.
 -- Names: `items` is the tree of a text. `tokens` is its tokens, and `token` the one at place `n`. `end` is the place behind the part, and
 -- `next` the one before which tokens are inside another part. `f` gives something of a part. `branches` is the branches of a choice, and
 -- `branch` the one at place `n`. `earlier` is the tests of the branches before it, and `earlier'` those with its own `tests`. `start` is
 -- where the text begins in its piece. `before` and `after` are what was gathered before a step and after it, and `whole` is all. `here`,
--- `beyond`, `parts_from` and their like are in specs/Code/Branching.
+-- `beyond`, `parts_from` and their like are in specs/Branches.
 
 -- what the parts inside a part give
 
@@ -114,3 +115,11 @@ choices_next items start n tokens token branches before after whole below is_her
     (parts_marks items start (n + 1) (drop (n + 1) tokens))
     ∙ ap (λ t. before ++ parts_marks items start n (t ∷ drop (n + 1) tokens)) is_here
     ∙ ap (λ ts. before ++ parts_marks items start n ts) (sym (drop_more tokens n token below)) ∙ is
+
+-- For `push_choices`: the warnings of all parts are those of the text.
+pub choices_done : (items : Items) (start n : ℕ) (all : List Token) (before marks : List Mark) → all ≡ tokens_of items → length all ≤ n
+    → marks ++ parts_marks items start n (drop n (tokens_of items)) ≡ before ++ parts_marks items start 0 (tokens_of items)
+    → marks ≡ before ++ unreached start items
+choices_done items start n all before marks are past so_far =
+    sym (append-nil marks)
+    ∙ ap (λ ts. marks ++ parts_marks items start n ts) (sym (ap (drop n) (sym are) ∙ drop_all n all past)) ∙ so_far

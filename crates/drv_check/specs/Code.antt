@@ -1,5 +1,4 @@
 -- How the code reads and keeps what it checks. No public contract rests on these.
-pub mod Branching
 pub mod Deeds
 pub mod OwnTrees
 pub mod Recovering

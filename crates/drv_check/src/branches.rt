@@ -2,8 +2,8 @@
 
 ghost use Rattle.drv_check.specs.Branches.{asks_all, covers, is_covered, is_default, is_unreachable, mark_if};
 ghost use Rattle.drv_check.specs.Branches.{names_all, unreached};
-ghost use Rattle.drv_check.specs.Code.Branching.{beyond, branch_in, branches_of, here, listed_marks, test_at, test_in};
-ghost use Rattle.drv_check.specs.Code.Branching.{tests_of};
+ghost use Rattle.drv_check.specs.Branches.{beyond, branch_in, branches_of, here, listed_marks, test_at, test_in};
+ghost use Rattle.drv_check.specs.Branches.{tests_of};
 ghost use Rattle.drv_syntax.specs.Parsed.{tree_of};
 ghost use Rattle.drv_syntax.specs.Tokens.{tokens_of};
 ghost use Rattle.std.specs.List.{list_all};
@@ -268,7 +268,7 @@ fn push_branches(
 }
 
 /// Adds the warnings of the choices of a tree, whose text begins at this byte of the piece.
-#[tactic(auto, using(crate::proofs::Unreached::choices_next, crate::proofs::TreeBranches::choices_done))]
+#[tactic(auto, using(crate::proofs::Unreached::choices_next, crate::proofs::Unreached::choices_done))]
 pub(crate) fn push_choices(
     alloc: Global,
     marks: &mut Vec<Mark>,

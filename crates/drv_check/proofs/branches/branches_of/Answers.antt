@@ -1,7 +1,7 @@
 use Rattle.drv_check.proofs.Unreached.{parts_over, parts_past}
 use Rattle.drv_check.proofs.branches.branches_of.Goals as goal
 use Rattle.drv_check.proofs.branches.branches_of.Goals.{then-loop-place-test+else-place-tokens, else-loop-place-test}
-use Rattle.drv_check.specs.Code.Branching.{branch_in, branches_of}
+use Rattle.drv_check.specs.Branches.{branch_in, branches_of}
 use Rattle.drv_syntax.specs.Parsed.{tree_of}
 use Rattle.drv_syntax.specs.Tokens.{tokens_of}
 

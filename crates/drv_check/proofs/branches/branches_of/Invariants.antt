@@ -1,5 +1,5 @@
 use Rattle.drv_check.proofs.branches.branches_of.Given as goal
-use Rattle.drv_check.specs.Code.Branching.{branches_from, branches_of}
+use Rattle.drv_check.specs.Branches.{branches_from, branches_of}
 use Rattle.drv_syntax.specs.Parsed.{tree_of}
 use Rattle.drv_syntax.specs.Tokens.{tokens_of}
 use Rattle.std.proofs.Common.{◌≡◌, ◌-◌, ◌++◌, drop, length}

@@ -1,5 +1,5 @@
 use Rattle.drv_check.proofs.branches.push_branches.Given as goal
-use Rattle.drv_check.specs.Code.Branching.{listed_marks}
+use Rattle.drv_check.specs.Branches.{listed_marks}
 use Rattle.drv_syntax.specs.Parsed.{tree_of}
 use Rattle.std.proofs.Common.{◌≡◌, ◌++◌, [], drop}
 

@@ -1,5 +1,5 @@
 use Rattle.drv_check.proofs.branches.push_choices.Given as goal
-use Rattle.drv_check.specs.Code.Branching.{parts_marks}
+use Rattle.drv_check.specs.Branches.{parts_marks}
 use Rattle.drv_syntax.specs.Parsed.{tree_of}
 use Rattle.drv_syntax.specs.Tokens.{tokens_of}
 use Rattle.std.proofs.Common.{◌≡◌, ◌-◌, ◌++◌, drop, length}

@@ -1,7 +1,7 @@
 use Rattle.drv_check.proofs.Unreached.{parts_over, parts_past}
 use Rattle.drv_check.proofs.branches.tests_of.Goals as goal
 use Rattle.drv_check.proofs.branches.tests_of.Goals.{then-loop-place-test+else-place-tokens, else-loop-place-test}
-use Rattle.drv_check.specs.Code.Branching.{test_in, tests_of}
+use Rattle.drv_check.specs.Branches.{test_in, tests_of}
 use Rattle.drv_syntax.specs.Parsed.{tree_of}
 use Rattle.drv_syntax.specs.Tokens.{tokens_of}
 
