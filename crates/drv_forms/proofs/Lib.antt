@@ -1,6 +1,4 @@
 mod Documents
-mod Edited
 mod Reading
-pub mod Sameness
-mod Shells
+pub mod Shells
 mod Words

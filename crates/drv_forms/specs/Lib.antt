@@ -1,6 +1,4 @@
 pub mod Difference
-pub mod Edits
-pub mod Entries
 pub mod Fits
 pub mod Pieces
 pub mod PlanJson

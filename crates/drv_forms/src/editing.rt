@@ -1,8 +1,5 @@
 //! How the words of one command become those of another.
 
-ghost use Rattle.drv_forms.specs.Edits.{command_edits, edits, goes_first, place_of};
-ghost use Rattle.std.specs.Prelude.{◌≡◌, ◌++◌, [], IfOk, OnOk};
-
 use drv_words::{Command, Listing, Word, quote};
 use std::alloc::{AllocError, Global};
 
@@ -15,20 +12,8 @@ pub enum Edit {
     Comes(Word),
 }
 
-/// Adds that words go.
-fn push_going(found: &mut Listing<Edit>, words: &[Word]) -> Result<(), AllocError>
-    ensures { OnOk result (found.new ≡ found.old ++ edits words.now []) }
-{
-    for word in words {
-        found.push(Edit::Goes(word.clone()?))?;
-    }
-    Ok(())
-}
-
 /// Adds that words come.
-fn push_coming(found: &mut Listing<Edit>, words: &[Word]) -> Result<(), AllocError>
-    ensures { OnOk result (found.new ≡ found.old ++ edits [] words.now) }
-{
+fn push_coming(found: &mut Listing<Edit>, words: &[Word]) -> Result<(), AllocError> {
     for word in words {
         found.push(Edit::Comes(word.clone()?))?;
     }
@@ -36,17 +21,13 @@ fn push_coming(found: &mut Listing<Edit>, words: &[Word]) -> Result<(), AllocErr
 }
 
 /// The place of the first word like this one.
-fn place_of(word: &Word, words: &[Word]) -> Option<usize>
-    ensures { result ≡ place_of word.now words.now }
-{
+fn place_of(word: &Word, words: &[Word]) -> Option<usize> {
     words.iter().position(|other| word == other)
 }
 
 /// Whether the first of two words goes, by the place of the second behind the first, and of the
 /// first behind the second.
-fn goes_first(here: Option<usize>, there: Option<usize>) -> bool
-    ensures { result ≡ goes_first here there }
-{
+fn goes_first(here: Option<usize>, there: Option<usize>) -> bool {
     match (here, there) {
         (None, Some(_)) => false,
         (Some(here), Some(there)) => here <= there,
@@ -59,14 +40,14 @@ fn push_word_edits(
     found: &mut Listing<Edit>,
     words: &[Word],
     others: &[Word],
-) -> Result<(), AllocError>
-    ensures { OnOk result (found.new ≡ found.old ++ edits words.now others.now) }
-{
+) -> Result<(), AllocError> {
     let mut left = words;
     let mut coming = others;
     while let [word, behind @ ..] = left {
         let [other, rest @ ..] = coming else {
-            return push_going(found, left);
+            found.push(Edit::Goes(word.clone()?))?;
+            left = behind;
+            continue;
         };
         if word == other {
             left = behind;
@@ -84,9 +65,7 @@ fn push_word_edits(
 
 /// The words of the first list that go and those of the second that come, in their order. They make
 /// the first list the second, but may not be the fewest that do.
-pub fn edits(alloc: Global, words: &[Word], others: &[Word]) -> Result<Listing<Edit>, AllocError>
-    ensures { IfOk result (λ found. found ≡ edits words.now others.now) }
-{
+pub fn edits(alloc: Global, words: &[Word], others: &[Word]) -> Result<Listing<Edit>, AllocError> {
     let mut found = Listing::new(alloc);
     push_word_edits(&mut found, words, others)?;
     Ok(found)
@@ -97,9 +76,7 @@ pub(crate) fn command_edits(
     alloc: Global,
     command: &Command,
     other: &Command,
-) -> Result<Listing<Edit>, AllocError>
-    ensures { IfOk result (λ found. found ≡ command_edits command.now other.now) }
-{
+) -> Result<Listing<Edit>, AllocError> {
     let mut found = Listing::new(alloc);
     if command.program != other.program {
         found.push(Edit::Goes(command.program.clone()?))?;

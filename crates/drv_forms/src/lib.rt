@@ -12,8 +12,8 @@ mod scripting;
 mod shell;
 mod stems;
 
-pub use comparing::{Detail, LineChange, PlanChanges, difference, difference_text};
+pub use comparing::{Detail, difference_text};
 pub use editing::{Edit, edits};
 pub use json_form::{plan_json, put_number, put_word, put_words};
-pub use laws::{edits_make_the_words, no_difference_is_same, words_are_read_back};
+pub use laws::words_are_read_back;
 pub use scripting::script;

@@ -4,7 +4,7 @@ use crate::outcome::Outcome;
 use crate::planning::plan_of;
 use crate::printing::put_visible;
 use drv_check::texts_difference;
-use drv_forms::{Detail, difference, difference_text};
+use drv_forms::{Detail, difference_text};
 use drv_run::{Ending, Refusal, Work, work_of_call};
 use drv_system::{FactTable, Outside, System};
 use drv_words::{Listing, Word};
@@ -85,10 +85,7 @@ fn difference_in(
         return Ok(Some(found));
     }
     match (plan_of(work), plan_of(other)) {
-        (Some(plan), Some(other)) => {
-            let found = difference(alloc, plan, other)?;
-            Ok(Some(difference_text(alloc, &found, detail)?))
-        }
+        (Some(plan), Some(other)) => Ok(Some(difference_text(alloc, plan, other, detail)?)),
         _ => Ok(None),
     }
 }
