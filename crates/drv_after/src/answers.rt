@@ -1,11 +1,11 @@
-//! Answers that are given ahead, and what the steps of a run are answered by them.
+//! What the steps of a run are answered, by answers that are given ahead.
 
-ghost use Rattle.drv_after.specs.Answered.{answer_to, claim_at, is_same, removal_at, start_answer, start_at};
-ghost use Rattle.drv_after.specs.Answered.{wait_at};
-ghost use Rattle.std.specs.Prelude.{◌≡◌};
+ghost use Rattle.drv_words.specs.Stepping.{fits, fits_start, is_child, is_new};
+ghost use Rattle.drv_words.specs.declared.steps.RunEvent.{RunEvent};
+ghost use Rattle.std.specs.Prelude.{◌≡◌, IfSome, List, true};
 
 use drv_words::{
-    Answer, ClaimAnswer, NotStarted, Place, RemoveAnswer, StartAnswer, Step, WaitAnswer,
+    Answer, ClaimAnswer, NotStarted, Place, RemoveAnswer, RunEvent, StartAnswer, Step, WaitAnswer,
 };
 
 /// An answer that a step at a place gets, if it is one of that step's kind.
@@ -17,107 +17,78 @@ pub struct Given {
     pub answer: Answer,
 }
 
-/// Whether two places are one.
-fn is_same(place: Place, other: Place) -> bool
-    ensures { result ≡ is_same place other }
+/// Whether an answer says that the child of this number was started.
+fn is_child(id: u64, answer: Answer) -> bool
+    ensures { result ≡ is_child id answer }
 {
-    match place {
-        Place::Command { job, group, index } => match other {
-            Place::Command {
-                job: j,
-                group: g,
-                index: i,
-            } => job == j && group == g && index == i,
-            _ => false,
-        },
-        Place::Temp { job, index } => match other {
-            Place::Temp { job: j, index: i } => job == j && index == i,
-            _ => false,
-        },
-        Place::Marked { job, index } => match other {
-            Place::Marked { job: j, index: i } => job == j && index == i,
-            _ => false,
-        },
-        Place::OnFailure { job, index } => match other {
-            Place::OnFailure { job: j, index: i } => job == j && index == i,
-            _ => false,
-        },
+    match answer {
+        Answer::Start(StartAnswer::Started(new)) => id == new,
+        _ => false,
     }
 }
 
-/// What a claim is answered: all is well unless another answer is given.
-fn claim_at(given: &[Given], place: Place) -> ClaimAnswer
-    ensures { result ≡ claim_at given.now place }
+/// Whether no child has this number yet.
+fn is_new(id: u64, events: &[RunEvent]) -> bool
+    ensures { result ≡ is_new id events.now }
 {
-    match given {
-        [] => ClaimAnswer::Claimed,
-        [first, rest @ ..] => match first.answer {
-            Answer::Claim(claimed) if is_same(place, first.place) => claimed,
-            _ => claim_at(rest, place),
-        },
+    for event in events {
+        if is_child(id, event.answer) {
+            return false;
+        }
+    }
+    true
+}
+
+/// A child is started: its number is that of the events before it.
+fn started(events: &[RunEvent]) -> StartAnswer
+    ensures { fits_start events.now result ≡ true }
+{
+    let number = events.len() as u64;
+    if is_new(number, events) {
+        StartAnswer::Started(number)
+    } else {
+        StartAnswer::NotStarted(NotStarted::NoMemory)
     }
 }
 
-/// Why a command is not started, if that is given.
-fn start_at(given: &[Given], place: Place) -> Option<NotStarted>
-    ensures { result ≡ start_at given.now place }
-{
-    match given {
-        [] => None,
-        [first, rest @ ..] => match first.answer {
-            Answer::Start(StartAnswer::NotStarted(why)) if is_same(place, first.place) => Some(why),
-            _ => start_at(rest, place),
-        },
-    }
-}
-
-/// How a child ends: well unless another end is given.
-fn wait_at(given: &[Given], place: Place) -> WaitAnswer
-    ensures { result ≡ wait_at given.now place }
-{
-    match given {
-        [] => WaitAnswer::Exit(0),
-        [first, rest @ ..] => match first.answer {
-            Answer::Wait(ended) if is_same(place, first.place) => ended,
-            _ => wait_at(rest, place),
-        },
-    }
-}
-
-/// Whether a file is removed: it is unless another answer is given.
-fn removal_at(given: &[Given], place: Place) -> RemoveAnswer
-    ensures { result ≡ removal_at given.now place }
-{
-    match given {
-        [] => RemoveAnswer::Removed,
-        [first, rest @ ..] => match first.answer {
-            Answer::Remove(removed) if is_same(place, first.place) => removed,
-            _ => removal_at(rest, place),
-        },
-    }
-}
-
-/// What a start is answered: the child's number is this one.
-fn start_answer(number: u64, refused: Option<NotStarted>) -> StartAnswer
-    ensures { result ≡ start_answer number refused }
-{
-    match refused {
-        Some(why) => StartAnswer::NotStarted(why),
-        None => StartAnswer::Started(number),
-    }
-}
-
-/// What a step is answered: by the first answer that is given for its place and of its kind, or else
-/// that all is well. A child that is started gets this number.
-pub(crate) fn answer_to(given: &[Given], number: u64, step: Step) -> Answer
-    ensures { result ≡ answer_to given.now number step }
+/// The answer that a step gets where all is well.
+fn well(events: &[RunEvent], step: Step) -> Answer
+    ensures { fits events.now step result ≡ true }
 {
     match step {
-        Step::Claim(place) => Answer::Claim(claim_at(given, place)),
-        Step::Start { place, .. } => Answer::Start(start_answer(number, start_at(given, place))),
+        Step::Claim(_) => Answer::Claim(ClaimAnswer::Claimed),
+        Step::Start { .. } => Answer::Start(started(events)),
         Step::ClosePipe => Answer::Closed,
-        Step::Wait { place, .. } => Answer::Wait(wait_at(given, place)),
-        Step::Remove(place) => Answer::Remove(removal_at(given, place)),
+        Step::Wait { .. } => Answer::Wait(WaitAnswer::Exit(0)),
+        Step::Remove(_) => Answer::Remove(RemoveAnswer::Removed),
         Step::Report(_) => Answer::Reported(true),
     }
+}
+
+/// The place of a step that an answer of this kind answers. No answer but this program's own starts a
+/// child.
+fn place_for(step: Step, answer: Answer) -> Option<Place>
+    ensures { (events : List RunEvent) → IfSome result (λ place. fits events step answer ≡ true) }
+{
+    match (step, answer) {
+        (Step::Claim(place), Answer::Claim(_)) => Some(place),
+        (Step::Start { place, .. }, Answer::Start(StartAnswer::NotStarted(_))) => Some(place),
+        (Step::Wait { place, .. }, Answer::Wait(_)) => Some(place),
+        (Step::Remove(place), Answer::Remove(_)) => Some(place),
+        _ => None,
+    }
+}
+
+/// What a step is answered after these events: by the first answer that is given for its place and
+/// of its kind, or else that all is well.
+pub(crate) fn answer_to(given: &[Given], events: &[RunEvent], step: Step) -> Answer
+    ensures { fits events.now step result ≡ true }
+{
+    for one in given {
+        match place_for(step, one.answer) {
+            Some(place) if place == one.place => return one.answer,
+            _ => {}
+        }
+    }
+    well(events, step)
 }

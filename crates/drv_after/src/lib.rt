@@ -2,7 +2,6 @@
 #![tactic(auto)]
 
 mod answers;
-mod law;
 mod leaving;
 mod places;
 mod running;
@@ -10,9 +9,5 @@ mod telling;
 mod worded;
 
 pub use answers::Given;
-pub use law::one_place_law;
-pub use leaving::left_files;
-pub use places::{command_at, name_at};
-pub use running::after;
-pub use telling::story;
+pub use running::story_over;
 pub use worded::{GivenFault, given_of};

@@ -99,7 +99,7 @@ fn push_event(
 /// A run of these events and this status as text. There is a line for each step that makes, starts
 /// or removes something, and for each command that ended otherwise than well, with what went wrong
 /// after a colon. Then come the status, and the files that are left.
-pub fn story(
+pub(crate) fn story(
     alloc: Global,
     plan: &Plan,
     events: &[RunEvent],

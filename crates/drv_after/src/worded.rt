@@ -1,16 +1,12 @@
 //! An answer that is given in words: `PLACE=ANSWER`.
 
-ghost use Rattle.drv_after.specs.Worded.{answer_named, command_answer, digit_of, file_answer};
-ghost use Rattle.drv_after.specs.Worded.{given_of, job_named, number_from, number_of, place_named};
-ghost use Rattle.drv_after.specs.Worded.{listed_place, temp_answer, with_digit};
-ghost use Rattle.std.specs.Prelude.{◌≡◌, ◌≤◌, IfSome, Some};
-
 use crate::answers::Given;
 use crate::places::name_at;
 use drv_words::{
     Answer, ClaimAnswer, NotStarted, Place, Plan, RemoveAnswer, StartAnswer, WaitAnswer,
     split_at_last,
 };
+use std::str::from_utf8;
 
 /// Why a word gives no answer.
 #[derive(Clone, Copy, Debug, PartialEq, Eq)]
@@ -23,59 +19,16 @@ pub enum GivenFault {
     NoAnswer,
 }
 
-/// The greatest number that one more digit may follow.
-const MOST_BEFORE: usize = 99_999_999;
-
-/// The value of a digit.
-fn digit_of(byte: u8) -> Option<usize>
-    ensures is { result ≡ digit_of byte }
-    ensures small { IfSome result (λ digit. digit ≤ 9) }
-{
-    if byte.is_ascii_digit() {
-        Some(usize::from(byte - b'0'))
-    } else {
-        None
-    }
-}
-
-/// A number and one more digit.
-fn with_digit(number: Option<usize>, byte: u8) -> Option<usize>
-    ensures { result ≡ with_digit number (digit_of byte) }
-{
-    let number = number?;
-    let digit = digit_of(byte)?;
-    if number <= MOST_BEFORE {
-        Some(number * 10 + digit)
-    } else {
-        None
-    }
-}
-
-/// A number and more digits.
-fn number_from(number: Option<usize>, digits: &[u8]) -> Option<usize>
-    ensures { result ≡ number_from number digits.now }
-{
-    let mut total = number;
-    for &byte in digits {
-        total = with_digit(total, byte);
-    }
-    total
-}
-
 /// The number of decimal digits.
-fn number_of(digits: &[u8]) -> Option<usize>
-    ensures { result ≡ number_of digits.now }
-{
-    match digits {
-        [] => None,
-        [first, rest @ ..] => number_from(digit_of(*first), rest),
+fn number_of(digits: &[u8]) -> Option<usize> {
+    if !digits.iter().all(|byte| byte.is_ascii_digit()) {
+        return None;
     }
+    from_utf8(digits).ok()?.parse().ok()
 }
 
 /// The number of the job of this name.
-fn job_named(plan: &Plan, word: &[u8]) -> Option<usize>
-    ensures { result ≡ job_named plan.now word.now }
-{
+fn job_named(plan: &Plan, word: &[u8]) -> Option<usize> {
     if word == b"link".as_slice() {
         return Some(plan.jobs.len());
     }
@@ -83,9 +36,7 @@ fn job_named(plan: &Plan, word: &[u8]) -> Option<usize>
 }
 
 /// The place of this number in the list of this name.
-fn listed_place(word: &[u8], job: usize, index: usize) -> Option<Place>
-    ensures { result ≡ listed_place word.now job index }
-{
+fn listed_place(word: &[u8], job: usize, index: usize) -> Option<Place> {
     if word == b"temps".as_slice() {
         return Some(Place::Temp { job, index });
     }
@@ -100,9 +51,7 @@ fn listed_place(word: &[u8], job: usize, index: usize) -> Option<Place>
 }
 
 /// The place of the plan of this name.
-fn place_named(plan: &Plan, word: &[u8]) -> Option<Place>
-    ensures { result ≡ place_named plan.now word.now }
-{
+fn place_named(plan: &Plan, word: &[u8]) -> Option<Place> {
     let (front, index) = split_at_last(b'.', word)?;
     let (job, list) = split_at_last(b'.', front)?;
     let job = job_named(plan, job)?;
@@ -113,9 +62,7 @@ fn place_named(plan: &Plan, word: &[u8]) -> Option<Place>
 }
 
 /// An answer to the start of a command, or how it ends.
-fn command_answer(word: &[u8]) -> Option<Answer>
-    ensures { result ≡ command_answer word.now }
-{
+fn command_answer(word: &[u8]) -> Option<Answer> {
     if word == b"not-found".as_slice() {
         return Some(Answer::Start(StartAnswer::NotStarted(NotStarted::NotFound)));
     }
@@ -143,9 +90,7 @@ fn command_answer(word: &[u8]) -> Option<Answer>
 }
 
 /// An answer to the removal of a file.
-fn file_answer(word: &[u8]) -> Option<Answer>
-    ensures { result ≡ file_answer word.now }
-{
+fn file_answer(word: &[u8]) -> Option<Answer> {
     if word == b"missing".as_slice() {
         return Some(Answer::Remove(RemoveAnswer::Missing));
     }
@@ -159,9 +104,7 @@ fn file_answer(word: &[u8]) -> Option<Answer>
 }
 
 /// An answer to the claim of a temporary file, or to its removal.
-fn temp_answer(word: &[u8]) -> Option<Answer>
-    ensures { result ≡ temp_answer word.now }
-{
+fn temp_answer(word: &[u8]) -> Option<Answer> {
     if word == b"taken".as_slice() {
         return Some(Answer::Claim(ClaimAnswer::Taken));
     }
@@ -172,9 +115,7 @@ fn temp_answer(word: &[u8]) -> Option<Answer>
 }
 
 /// The answer of this name to a step at a place.
-fn answer_named(place: Place, word: &[u8]) -> Option<Answer>
-    ensures { result ≡ answer_named place word.now }
-{
+fn answer_named(place: Place, word: &[u8]) -> Option<Answer> {
     match place {
         Place::Command { .. } => command_answer(word),
         Place::Temp { .. } => temp_answer(word),
@@ -187,9 +128,7 @@ fn answer_named(place: Place, word: &[u8]) -> Option<Answer>
 /// # Errors
 /// The word has no equals sign; the plan has no such place; no step there has such an answer. The
 /// first of these is answered.
-pub fn given_of(plan: &Plan, word: &[u8]) -> Result<Given, GivenFault>
-    ensures { result ≡ given_of plan.now word.now }
-{
+pub fn given_of(plan: &Plan, word: &[u8]) -> Result<Given, GivenFault> {
     let Some((place, answer)) = split_at_last(b'=', word) else {
         return Err(GivenFault::NoForm);
     };

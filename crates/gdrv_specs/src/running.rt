@@ -2,7 +2,7 @@
 
 use crate::outcome::Outcome;
 use crate::printing::tell_answer;
-use drv_after::{Given, after, given_of, story};
+use drv_after::{Given, given_of, story_over};
 use drv_run::{Ending, Manner, Work, work_of_call};
 use drv_system::{FactTable, System};
 use drv_words::{Listing, Plan, Word};
@@ -25,17 +25,6 @@ fn answers_of(
     Ok(Ok(answers))
 }
 
-/// The text of the run of a plan over these answers.
-fn run_text(
-    alloc: Global,
-    plan: &Plan,
-    manner: Manner,
-    given: &[Given],
-) -> Result<Word, AllocError> {
-    let run = after(alloc, plan, manner.pass_codes, manner.window, given)?;
-    story(alloc, plan, run.events(), run.status())
-}
-
 /// Tells the run of a plan over the answers that these words give.
 fn tell_run<S: System>(
     alloc: Global,
@@ -46,7 +35,8 @@ fn tell_run<S: System>(
 ) -> Result<Outcome, AllocError> {
     match answers_of(alloc, plan, words)? {
         Ok(given) => {
-            let text = run_text(alloc, plan, manner, given.as_slice())?;
+            let given = given.as_slice();
+            let text = story_over(alloc, plan, manner.pass_codes, manner.window, given)?;
             Ok(tell_answer(alloc, sys, Ok(Some(text))))
         }
         Err(outcome) => Ok(outcome),
