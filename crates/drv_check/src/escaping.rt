@@ -1,5 +1,7 @@
 //! Texts of others for a reader: no byte of theirs steers a terminal.
 
+ghost use Rattle.std.specs.Prelude.{◌<◌};
+
 use drv_words::Word;
 use std::alloc::{AllocError, Global};
 

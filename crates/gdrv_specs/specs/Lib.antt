@@ -1,6 +1,3 @@
-pub mod Calls
 pub mod Forms
 pub mod Plans
-pub mod Requests
 pub mod Told
-pub mod WarningNames

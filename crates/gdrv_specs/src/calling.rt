@@ -1,18 +1,7 @@
-//! What a call of the program asks for.
+//! What a call of the program asks for. A word that changes here changes in `help.rt`, in
+//! docs/gdrv-specs.1 and in crates/gdrv_cc/src/completion.rt too.
 
-// In clauses: `Gives` says that a result is the defined one, or lack of memory.
-ghost use Rattle.drv_words.specs.Gives.{Gives};
-ghost use Rattle.gdrv_specs.specs.Calls.{after_full, after_json, after_scope, are_compared, asks_full};
-ghost use Rattle.gdrv_specs.specs.Calls.{asks_json, call_of, check_asked, command_named, compared_so};
-ghost use Rattle.gdrv_specs.specs.Calls.{cut_from, detail_of, difference_asked, form_asked, form_named};
-ghost use Rattle.gdrv_specs.specs.Calls.{form_of, line_compared, line_of, no_words, plan_asked};
-ghost use Rattle.gdrv_specs.specs.Calls.{report_of, run_asked, scope_asked, scope_named, scope_of};
-ghost use Rattle.gdrv_specs.specs.Calls.{texts_compared, why_asked};
-ghost use Rattle.gdrv_specs.specs.Requests.{no_request, requested_from};
-ghost use Rattle.gdrv_specs.specs.declared.calling.CallFault.TheVariants.{Memory};
-ghost use Rattle.std.specs.Prelude.{◌≡◌, IfOk};
-
-use crate::cutting::{Cut, cut_words};
+use crate::cutting::cut_words;
 use crate::differing::Comparison;
 use crate::explaining::{Scope, View};
 use crate::forms::Form;
@@ -20,7 +9,7 @@ use crate::help::Question;
 use crate::requesting::{Request, request_of};
 use drv_forms::Detail;
 use drv_why::Report;
-use drv_words::{Listing, Word};
+use drv_words::{Listing, Word, copy_words};
 use std::alloc::{AllocError, Global};
 
 /// What a call asks for.
@@ -73,109 +62,38 @@ pub enum CallFault {
 }
 
 impl From<AllocError> for CallFault {
-    ghost use Rattle.gdrv_specs.specs.declared.calling.CallFault.TheVariants.{Memory};
-    ghost use Rattle.std.specs.Prelude.{◌≡◌};
-
-    ghost from_gives = { λ _ fault. fault ≡ Memory };
-
     fn from(_error: AllocError) -> CallFault {
         CallFault::Memory
     }
 }
 
-/// What a first word asks for.
-#[derive(Clone, Copy)]
-enum Command {
-    Ask(Question),
-    Plan,
-    After,
-    Differ,
-    Check,
-    Why,
-}
-
 /// The most answers that a call gives ahead.
 const MOST_ANSWERS: usize = 1000;
 
-/// The command of this name.
-fn command_named(word: &[u8]) -> Option<Command>
-    ensures { result ≡ command_named word.now }
-{
-    if word == b"plan".as_slice() {
-        return Some(Command::Plan);
-    }
-    if word == b"after".as_slice() {
-        return Some(Command::After);
-    }
-    if word == b"diff".as_slice() {
-        return Some(Command::Differ);
-    }
-    if word == b"check".as_slice() {
-        return Some(Command::Check);
-    }
-    if word == b"why".as_slice() {
-        return Some(Command::Why);
-    }
-    if word == b"--help".as_slice() {
-        return Some(Command::Ask(Question::Help));
-    }
-    if word == b"--version".as_slice() {
-        return Some(Command::Ask(Question::Version));
-    }
-    None
-}
-
-/// The form of a plan that a word asks for.
-fn form_named(word: &[u8]) -> Option<Form>
-    ensures { result ≡ form_named word.now }
-{
-    if word == b"--json".as_slice() {
-        return Some(Form::Json);
-    }
-    if word == b"--sh".as_slice() {
-        return Some(Form::Script);
-    }
-    None
-}
-
-/// The form that the first of these words asks for.
-fn form_asked(words: &[Word]) -> Option<Form>
-    ensures { result ≡ form_asked words.now }
-{
+/// The words behind this one, if it is the first.
+fn behind<'a>(words: &'a [Word], first: &[u8]) -> Option<&'a [Word]> {
     match words {
-        [word, ..] => form_named(word.as_bytes()),
+        [word, rest @ ..] if word.as_bytes() == first => Some(rest),
         _ => None,
     }
 }
 
-/// The form of a plan that words ask for, and the words of the line after it. The call allocates
-/// nothing.
-#[tactic(auto, using(crate::proofs::Calls::has_word))]
-fn cut_form(mut words: Vec<Word>) -> (Form, Listing<Word>)
-    ensures form { result.0 ≡ form_of words.items }
-    ensures line { result.1 ≡ line_of words.items }
-{
-    match form_asked(words.as_slice()) {
-        Some(form) => {
-            let _ = words.remove(0);
-            (form, Listing::from_vec(words))
-        }
-        None => (Form::Lines, Listing::from_vec(words)),
-    }
+/// The plan that the words after the command ask for: the first one may ask for its form.
+fn plan_asked(alloc: Global, words: &[Word]) -> Result<Call, CallFault> {
+    let (form, line) = if let Some(line) = behind(words, b"--json") {
+        (Form::Json, line)
+    } else if let Some(line) = behind(words, b"--sh") {
+        (Form::Script, line)
+    } else {
+        (Form::Lines, words)
+    };
+    let line = copy_words(alloc, line)?;
+    Ok(Call::Plan { form, line })
 }
 
-/// The plan that the words after the command ask for. The call allocates nothing.
-fn plan_asked(words: Vec<Word>) -> Call
-    ensures { result ≡ plan_asked words.items }
-{
-    let (form, line) = cut_form(words);
-    Call::Plan { form, line }
-}
-
-/// The run that these words ask for.
-fn run_asked(cut: Cut) -> Result<Call, CallFault>
-    ensures { result ≡ run_asked cut }
-{
+/// The run that the words after the command ask for.
+fn run_asked(alloc: Global, words: &[Word]) -> Result<Call, CallFault> {
+    let cut = cut_words(alloc, words)?;
     if cut.awaits {
         return Err(CallFault::MissingAnswer);
     }
@@ -188,111 +106,41 @@ fn run_asked(cut: Cut) -> Result<Call, CallFault>
     })
 }
 
-/// The run that the words after the command ask for.
-#[tactic(auto, using(crate::proofs::Calls::gives_call))]
-fn run_of_words(alloc: Global, words: &[Word]) -> Result<Call, CallFault>
-    ensures { Gives Memory (λ call. call) result (run_asked (cut_from no_words words.now)) }
-{
-    let cut = cut_words(alloc, words)?;
-    run_asked(cut)
-}
-
-/// Whether words are two, then `--`, and any others.
-fn are_compared(words: &[Word]) -> bool
-    ensures { result ≡ are_compared words.now }
-{
-    match words {
-        [_, _, dashes, ..] => dashes.as_bytes() == b"--".as_slice(),
-        _ => false,
+/// The line of a comparison, by the words behind the two files: without a word it is one of their
+/// texts.
+fn line_compared(alloc: Global, words: &[Word]) -> Result<Listing<Word>, CallFault> {
+    if let Some(line) = behind(words, b"--") {
+        return Ok(copy_words(alloc, line)?);
     }
-}
-
-/// The comparison of the plans of a line that these words ask for.
-#[tactic(auto, using(crate::proofs::Calls::are_three, crate::proofs::Calls::compared, crate::proofs::Calls::not_compared))]
-fn line_compared(detail: Detail, mut words: Vec<Word>) -> Result<Call, CallFault>
-    ensures { result ≡ line_compared detail words.items }
-{
-    if !are_compared(words.as_slice()) {
+    if !words.is_empty() {
         return Err(CallFault::NotTwoFiles);
     }
-    let first = words.remove(0);
-    let second = words.remove(0);
-    let _ = words.remove(0);
-    Ok(Call::Differ(Comparison {
-        detail,
-        first,
-        second,
-        line: Listing::from_vec(words),
-    }))
-}
-
-/// The comparison of the texts of two files.
-fn texts_compared(
-    alloc: Global,
-    detail: Detail,
-    first: Word,
-    second: Word,
-) -> Result<Call, AllocError>
-    ensures { IfOk result (λ call. call ≡ texts_compared detail first second) }
-{
     let mut line = Listing::new(alloc);
     line.push(Word::from_bytes(alloc, b"-dumpspecs")?)?;
+    Ok(line)
+}
+
+/// The comparison that the words after the command ask for.
+fn difference_asked(alloc: Global, words: &[Word]) -> Result<Call, CallFault> {
+    let (detail, words) = match behind(words, b"--full") {
+        Some(rest) => (Detail::Lines, rest),
+        None => (Detail::Words, words),
+    };
+    let [first, second, rest @ ..] = words else {
+        return Err(CallFault::NotTwoFiles);
+    };
+    let line = line_compared(alloc, rest)?;
     Ok(Call::Differ(Comparison {
         detail,
-        first,
-        second,
+        first: first.clone()?,
+        second: second.clone()?,
         line,
     }))
 }
 
-/// The comparison that these words ask for, in this detail.
-#[tactic(auto, using(crate::proofs::Calls::of_texts, crate::proofs::Calls::of_line))]
-fn compared_so(alloc: Global, detail: Detail, mut words: Vec<Word>) -> Result<Call, CallFault>
-    ensures { Gives Memory (λ call. call) result (compared_so detail words.items) }
-{
-    if words.len() != 2 {
-        return line_compared(detail, words);
-    }
-    let first = words.remove(0);
-    let second = words.remove(0);
-    Ok(texts_compared(alloc, detail, first, second)?)
-}
-
-/// Whether the first of these words asks for whole commands.
-fn asks_full(words: &[Word]) -> bool
-    ensures { result ≡ asks_full words.now }
-{
-    match words {
-        [word, ..] => word.as_bytes() == b"--full".as_slice(),
-        _ => false,
-    }
-}
-
-/// How much of a difference words ask for, and the words after that. The call allocates nothing.
-#[tactic(auto, using(crate::proofs::Calls::full_word))]
-fn cut_detail(mut words: Vec<Word>) -> (Detail, Vec<Word>)
-    ensures detail { result.0 ≡ detail_of words.items }
-    ensures words { result.1.items ≡ after_full words.items }
-{
-    if !asks_full(words.as_slice()) {
-        return (Detail::Words, words);
-    }
-    let _ = words.remove(0);
-    (Detail::Lines, words)
-}
-
-/// The comparison that the words after the command ask for.
-fn difference_asked(alloc: Global, words: Vec<Word>) -> Result<Call, CallFault>
-    ensures { Gives Memory (λ call. call) result (difference_asked words.items) }
-{
-    let (detail, rest) = cut_detail(words);
-    compared_so(alloc, detail, rest)
-}
-
-/// The check that a request asks for.
-fn check_asked(mut request: Request) -> Result<Call, CallFault>
-    ensures { result ≡ check_asked request }
-{
+/// The check that the words after the command ask for.
+fn check_asked(alloc: Global, words: &[Word]) -> Result<Call, CallFault> {
+    let mut request = request_of(alloc, words)?;
     if let Some(word) = request.unknown.take() {
         return Err(CallFault::UnknownOption(word));
     }
@@ -305,90 +153,30 @@ fn check_asked(mut request: Request) -> Result<Call, CallFault>
     Ok(Call::Check(request))
 }
 
-/// The check that the words after the command ask for.
-#[tactic(auto, using(crate::proofs::Calls::gives_call))]
-fn check_of_words(alloc: Global, words: &[Word]) -> Result<Call, CallFault>
-    ensures { Gives Memory (λ call. call) result
-        (check_asked (requested_from no_request words.now)) }
-{
-    let request = request_of(alloc, words)?;
-    check_asked(request)
-}
-
-/// Whether the first of these words asks for JSON.
-fn asks_json(words: &[Word]) -> bool
-    ensures { result ≡ asks_json words.now }
-{
-    match words {
-        [word, ..] => word.as_bytes() == b"--json".as_slice(),
-        _ => false,
-    }
-}
-
-/// The form that words ask for, or else this one, and the words after it. The call allocates
-/// nothing.
-#[tactic(auto, using(crate::proofs::Calls::json_word))]
-fn cut_report(otherwise: Report, mut words: Vec<Word>) -> (Report, Vec<Word>)
-    ensures report { result.0 ≡ report_of otherwise words.items }
-    ensures words { result.1.items ≡ after_json words.items }
-{
-    if !asks_json(words.as_slice()) {
-        return (otherwise, words);
-    }
-    let _ = words.remove(0);
-    (Report::Json, words)
-}
-
-/// What the answer has that a word asks for.
-fn scope_named(word: &[u8]) -> Option<Scope>
-    ensures { result ≡ scope_named word.now }
-{
-    if word == b"--words".as_slice() {
-        return Some(Scope::Words);
-    }
-    if word == b"--switches".as_slice() {
-        return Some(Scope::Switches);
-    }
-    None
-}
-
-/// What the answer has that the first of these words asks for.
-fn scope_asked(words: &[Word]) -> Option<Scope>
-    ensures { result ≡ scope_asked words.now }
-{
-    match words {
-        [word, ..] => scope_named(word.as_bytes()),
-        _ => None,
-    }
-}
-
-/// What the answer has that words ask for, and the words after that. The call allocates nothing.
-#[tactic(auto, using(crate::proofs::Calls::scope_word))]
-fn cut_scope(mut words: Vec<Word>) -> (Scope, Vec<Word>)
-    ensures scope { result.0 ≡ scope_of words.items }
-    ensures words { result.1.items ≡ after_scope words.items }
-{
-    match scope_asked(words.as_slice()) {
-        Some(scope) => {
-            let _ = words.remove(0);
-            (scope, words)
-        }
-        None => (Scope::Whole, words),
+/// The form of a report, and the words behind the one that asks for it.
+fn cut_report(otherwise: Report, words: &[Word]) -> (Report, &[Word]) {
+    match behind(words, b"--json") {
+        Some(rest) => (Report::Json, rest),
+        None => (otherwise, words),
     }
 }
 
 /// What these words after the command ask for: a word for JSON may be before or after the one that
-/// asks for a part of the answer. The call allocates nothing.
-fn why_asked(words: Vec<Word>) -> Call
-    ensures { result ≡ why_asked words.items }
-{
-    let (otherwise, words) = cut_report(Report::Lines, words);
-    let (scope, words) = cut_scope(words);
-    let (report, words) = cut_report(otherwise, words);
-    Call::Why {
+/// asks for a part of the answer.
+fn why_asked(alloc: Global, words: &[Word]) -> Result<Call, CallFault> {
+    let (report, words) = cut_report(Report::Lines, words);
+    let (scope, words) = if let Some(rest) = behind(words, b"--words") {
+        (Scope::Words, rest)
+    } else if let Some(rest) = behind(words, b"--switches") {
+        (Scope::Switches, rest)
+    } else {
+        (Scope::Whole, words)
+    };
+    let (report, words) = cut_report(report, words);
+    Ok(Call::Why {
         view: View { scope, report },
-        line: Listing::from_vec(words),
-    }
+        line: copy_words(alloc, words)?,
+    })
 }
 
 /// What a call with these arguments asks for.
@@ -397,21 +185,30 @@ fn why_asked(words: Vec<Word>) -> Call
 /// Lack of memory. It has no arguments, or the first one is no command. The words of `--fail` are too
 /// few or too many. The words of `diff` aren't two, or two, `--` and a line. `check` has no path, none
 /// after `--over`, or a word that begins with `-` and is no option.
-pub fn call_of(alloc: Global, args: Listing<Word>) -> Result<Call, CallFault>
-    ensures { Gives Memory (λ call. call) result (call_of args) }
-{
-    let mut words = args.into_vec();
-    if words.is_empty() {
+pub fn call_of(alloc: Global, args: &[Word]) -> Result<Call, CallFault> {
+    let [command, ..] = args else {
         return Err(CallFault::NoCommand);
+    };
+    if let Some(words) = behind(args, b"plan") {
+        return plan_asked(alloc, words);
     }
-    let first = words.remove(0);
-    match command_named(first.as_bytes()) {
-        Some(Command::Ask(asked)) => Ok(Call::Ask(asked)),
-        Some(Command::Plan) => Ok(plan_asked(words)),
-        Some(Command::After) => run_of_words(alloc, words.as_slice()),
-        Some(Command::Differ) => difference_asked(alloc, words),
-        Some(Command::Check) => check_of_words(alloc, words.as_slice()),
-        Some(Command::Why) => Ok(why_asked(words)),
-        None => Err(CallFault::UnknownCommand(first)),
+    if let Some(words) = behind(args, b"after") {
+        return run_asked(alloc, words);
     }
+    if let Some(words) = behind(args, b"diff") {
+        return difference_asked(alloc, words);
+    }
+    if let Some(words) = behind(args, b"check") {
+        return check_asked(alloc, words);
+    }
+    if let Some(words) = behind(args, b"why") {
+        return why_asked(alloc, words);
+    }
+    if let Some(_) = behind(args, b"--help") {
+        return Ok(Call::Ask(Question::Help));
+    }
+    if let Some(_) = behind(args, b"--version") {
+        return Ok(Call::Ask(Question::Version));
+    }
+    Err(CallFault::UnknownCommand(command.clone()?))
 }

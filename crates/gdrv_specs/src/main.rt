@@ -22,7 +22,7 @@ use differing::tell_difference;
 use drv_check::visible;
 use drv_run::{Ending, Refusal};
 use drv_system::{Event, HostSystem, System, arguments, clock_seed, complain};
-use drv_words::{Listing, Word};
+use drv_words::Word;
 use explaining::tell_why;
 use help::Question;
 use noting::call_note;
@@ -96,7 +96,7 @@ fn act(rt: &HostRuntime, sys: &mut HostSystem, call: Call) -> Result<Outcome, Al
 }
 
 /// What the arguments of this process ask for.
-fn whole(rt: &HostRuntime, sys: &mut HostSystem, args: Listing<Word>) -> Outcome {
+fn whole(rt: &HostRuntime, sys: &mut HostSystem, args: &[Word]) -> Outcome {
     match call_of(rt.alloc(), args) {
         Ok(call) => match act(rt, sys, call) {
             Ok(outcome) => outcome,
@@ -116,13 +116,10 @@ fn is_of_specs(outcome: &Outcome) -> bool {
 }
 
 /// After the refusal of a spec file says where its fault is, by the events of the call.
-fn tell_place(rt: &HostRuntime, outcome: &Outcome, journal: &[Event]) {
+fn tell_place(rt: &HostRuntime, args: &[Word], outcome: &Outcome, journal: &[Event]) {
     if !is_of_specs(outcome) {
         return;
     }
-    let Ok(args) = arguments(rt) else {
-        return;
-    };
     let Ok(call) = call_of(rt.alloc(), args) else {
         return;
     };
@@ -132,12 +129,12 @@ fn tell_place(rt: &HostRuntime, outcome: &Outcome, journal: &[Event]) {
 }
 
 /// Does what the arguments of this process ask for, and tells the user how it ended.
-fn run(rt: &HostRuntime, args: Listing<Word>) -> Result<ExitCode, AllocError> {
+fn run(rt: &HostRuntime, args: &[Word]) -> Result<ExitCode, AllocError> {
     let mut sys = HostSystem::new(rt.clone()?);
-    let trouble = trouble_of(args.as_slice());
+    let trouble = trouble_of(args);
     let outcome = whole(rt, &mut sys, args);
     let status = finish(rt, &outcome, trouble);
-    tell_place(rt, &outcome, sys.journal());
+    tell_place(rt, args, &outcome, sys.journal());
     Ok(status)
 }
 
@@ -146,7 +143,7 @@ fn main(rt: HostRuntime) -> ExitCode {
         Ok(args) => args,
         Err(e) => return without_arguments(&rt, &e),
     };
-    match run(&rt, args) {
+    match run(&rt, args.as_slice()) {
         Ok(status) => status,
         Err(_) => finish(&rt, &Outcome::Ended(Ending::OutOfMemory), 1),
     }

@@ -1,9 +1,5 @@
 //! What a call asks to be checked.
 
-ghost use Rattle.gdrv_specs.specs.Requests.{name_off, no_request, requested, requested_from, with_name, with_word};
-ghost use Rattle.std.specs.Option.{option_map};
-ghost use Rattle.std.specs.Prelude.{◌≡◌, IfOk, OnOk};
-
 use crate::warning_names::is_warning;
 use drv_check::Names;
 use drv_words::{Listing, Word};
@@ -31,18 +27,14 @@ pub struct Request {
 }
 
 /// The name of a warning that a word switches off.
-fn name_off(word: &[u8]) -> Option<&[u8]>
-    ensures { option_map (λ name. name.now) result ≡ name_off word.now }
-{
+fn name_off(word: &[u8]) -> Option<&[u8]> {
     let name = word.strip_prefix(b"-Wno-".as_slice())?;
     if is_warning(name) { Some(name) } else { None }
 }
 
 impl Request {
     /// What a call without words asks.
-    fn new(alloc: Global) -> Request
-        ensures { result ≡ no_request }
-    {
+    fn new(alloc: Global) -> Request {
         Request {
             json: false,
             strict: false,
@@ -56,9 +48,7 @@ impl Request {
     }
 
     /// Takes a word that is the name of a warning, an option that there isn't, or a file.
-    fn take_other(&mut self, alloc: Global, word: &Word) -> Result<(), AllocError>
-        ensures { OnOk result (self.new ≡ with_name self.old word.now (name_off word.now)) }
-    {
+    fn take_other(&mut self, alloc: Global, word: &Word) -> Result<(), AllocError> {
         if let Some(name) = name_off(word.as_bytes()) {
             self.off.push(Word::from_bytes(alloc, name)?)?;
         } else if word.as_bytes().starts_with(b"-") {
@@ -70,9 +60,7 @@ impl Request {
     }
 
     /// Takes one more word, if none awaits it.
-    fn take_word(&mut self, alloc: Global, word: &Word) -> Result<(), AllocError>
-        ensures { OnOk result (self.new ≡ with_word self.old word.now) }
-    {
+    fn take_word(&mut self, alloc: Global, word: &Word) -> Result<(), AllocError> {
         let bytes = word.as_bytes();
         if bytes == b"--json".as_slice() {
             self.json = true;
@@ -89,9 +77,7 @@ impl Request {
     }
 
     /// Takes one more word.
-    fn take(&mut self, alloc: Global, word: &Word) -> Result<(), AllocError>
-        ensures { OnOk result (self.new ≡ requested self.old word.now) }
-    {
+    fn take(&mut self, alloc: Global, word: &Word) -> Result<(), AllocError> {
         if !self.awaits {
             return self.take_word(alloc, word);
         }
@@ -102,9 +88,7 @@ impl Request {
 }
 
 /// What words ask to be checked.
-pub fn request_of(alloc: Global, words: &[Word]) -> Result<Request, AllocError>
-    ensures { IfOk result (λ request. request ≡ requested_from no_request words.now) }
-{
+pub fn request_of(alloc: Global, words: &[Word]) -> Result<Request, AllocError> {
     let mut request = Request::new(alloc);
     for word in words {
         request.take(alloc, word)?;

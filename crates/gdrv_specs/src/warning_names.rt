@@ -1,16 +1,11 @@
 //! The names of the warnings of a check, and what they say.
 
-ghost use Rattle.gdrv_specs.specs.WarningNames.{is_name_of, is_warning, warning_name};
-ghost use Rattle.std.specs.Prelude.{◌≡◌};
-
 use drv_check::Warning;
 use drv_words::Word;
 use std::alloc::{AllocError, Global};
 
 /// The name of a warning.
-fn warning_name(warning: Warning) -> &'static [u8]
-    ensures { result.now ≡ warning_name warning }
-{
+fn warning_name(warning: Warning) -> &'static [u8] {
     match warning {
         Warning::AppendToNothing => b"append-to-nothing",
         Warning::DirectiveInBody => b"directive-in-body",
@@ -70,16 +65,12 @@ pub fn warning_text(alloc: Global, warning: Warning) -> Result<Word, AllocError>
 }
 
 /// Whether this is the name of a warning.
-pub fn is_name_of(name: &[u8], warning: Warning) -> bool
-    ensures { result ≡ is_name_of name.now warning }
-{
+pub fn is_name_of(name: &[u8], warning: Warning) -> bool {
     name == warning_name(warning)
 }
 
 /// Whether some warning has this name.
-pub fn is_warning(name: &[u8]) -> bool
-    ensures { result ≡ is_warning name.now }
-{
+pub fn is_warning(name: &[u8]) -> bool {
     is_name_of(name, Warning::AppendToNothing)
         || is_name_of(name, Warning::DirectiveInBody)
         || is_name_of(name, Warning::QuotedWord)
