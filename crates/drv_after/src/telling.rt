@@ -2,30 +2,30 @@
 
 use crate::leaving::left_files;
 use crate::places::{command_at, name_at};
-use drv_words::{
-    Answer, ClaimAnswer, Command, NotStarted, Plan, RemoveAnswer, RunEvent, StartAnswer, Step,
-    WaitAnswer, Word, quote,
-};
+use crate::worded::TROUBLES;
+use drv_words::{Answer, Command, Plan, RunEvent, Step, WaitAnswer, Word, quote};
 use itoa::Buffer;
 use std::alloc::{AllocError, Global};
 
-/// The word for an answer that isn't well, which names it in `PLACE=ANSWER` too.
-fn trouble(answer: Answer, digits: &mut Buffer) -> Option<&str> {
+/// Whether an answer to a wait is that all is well.
+fn is_well(answer: Answer) -> bool {
+    matches!(answer, Answer::Wait(WaitAnswer::Exit(0)))
+}
+
+/// Adds the word for an answer that isn't well after a colon. It names the answer in `PLACE=ANSWER` too.
+fn push_trouble(text: &mut Word, answer: Answer) -> Result<(), AllocError> {
+    for &(name, other) in TROUBLES.as_slice() {
+        if other == answer {
+            text.extend_from_slice(b": ")?;
+            return text.extend_from_slice(name);
+        }
+    }
     match answer {
-        Answer::Claim(ClaimAnswer::Taken) => Some("taken"),
-        Answer::Claim(ClaimAnswer::Failed) => Some("not-claimed"),
-        Answer::Start(StartAnswer::NotStarted(NotStarted::NotFound)) => Some("not-found"),
-        Answer::Start(StartAnswer::NotStarted(NotStarted::Denied)) => Some("denied"),
-        Answer::Start(StartAnswer::NotStarted(NotStarted::NoMemory)) => Some("no-memory"),
-        Answer::Start(StartAnswer::NotStarted(NotStarted::Other)) => Some("not-started"),
-        Answer::Wait(WaitAnswer::Exit(0)) => None,
-        Answer::Wait(WaitAnswer::Exit(status)) => Some(digits.format(status)),
-        Answer::Wait(WaitAnswer::Signal) => Some("signal"),
-        Answer::Wait(WaitAnswer::Lost) => Some("lost"),
-        Answer::Remove(RemoveAnswer::Missing) => Some("missing"),
-        Answer::Remove(RemoveAnswer::NotPlain) => Some("not-plain"),
-        Answer::Remove(RemoveAnswer::Failed) => Some("not-removed"),
-        _ => None,
+        Answer::Wait(WaitAnswer::Exit(status)) if status > 0 => {
+            text.extend_from_slice(b": ")?;
+            text.extend_from_slice(Buffer::new().format(status).as_bytes())
+        }
+        _ => Ok(()),
     }
 }
 
@@ -74,8 +74,6 @@ fn push_event(
     plan: &Plan,
     event: RunEvent,
 ) -> Result<(), AllocError> {
-    let mut digits = Buffer::new();
-    let what = trouble(event.answer, &mut digits);
     match event.step {
         Step::Claim(place) => push_act(alloc, text, b"claim", name_at(plan, place))?,
         Step::Start { place, to_pipe, .. } => {
@@ -83,16 +81,13 @@ fn push_event(
                 push_start(alloc, text, command, to_pipe)?;
             }
         }
-        Step::Wait { place, .. } if what.is_some() => {
+        Step::Wait { place, .. } if !is_well(event.answer) => {
             push_act(alloc, text, b"end", name_at(plan, place))?;
         }
         Step::Remove(place) => push_act(alloc, text, b"remove", name_at(plan, place))?,
         Step::Wait { .. } | Step::ClosePipe | Step::Report(_) => return Ok(()),
     }
-    if let Some(word) = what {
-        text.extend_from_slice(b": ")?;
-        text.extend_from_slice(word.as_bytes())?;
-    }
+    push_trouble(text, event.answer)?;
     text.push(b'\n')
 }
 

@@ -19,6 +19,33 @@ pub enum GivenFault {
     NoAnswer,
 }
 
+/// The words for answers that aren't well, beside the exit statuses but 0.
+pub(crate) const TROUBLES: [(&[u8], Answer); 11] = [
+    (b"taken", Answer::Claim(ClaimAnswer::Taken)),
+    (b"not-claimed", Answer::Claim(ClaimAnswer::Failed)),
+    (
+        b"not-found",
+        Answer::Start(StartAnswer::NotStarted(NotStarted::NotFound)),
+    ),
+    (
+        b"denied",
+        Answer::Start(StartAnswer::NotStarted(NotStarted::Denied)),
+    ),
+    (
+        b"no-memory",
+        Answer::Start(StartAnswer::NotStarted(NotStarted::NoMemory)),
+    ),
+    (
+        b"not-started",
+        Answer::Start(StartAnswer::NotStarted(NotStarted::Other)),
+    ),
+    (b"signal", Answer::Wait(WaitAnswer::Signal)),
+    (b"lost", Answer::Wait(WaitAnswer::Lost)),
+    (b"missing", Answer::Remove(RemoveAnswer::Missing)),
+    (b"not-plain", Answer::Remove(RemoveAnswer::NotPlain)),
+    (b"not-removed", Answer::Remove(RemoveAnswer::Failed)),
+];
+
 /// The number of decimal digits.
 fn number_of(digits: &[u8]) -> Option<usize> {
     if !digits.iter().all(|byte| byte.is_ascii_digit()) {
@@ -61,65 +88,23 @@ fn place_named(plan: &Plan, word: &[u8]) -> Option<Place> {
     Some(place)
 }
 
-/// An answer to the start of a command, or how it ends.
-fn command_answer(word: &[u8]) -> Option<Answer> {
-    if word == b"not-found".as_slice() {
-        return Some(Answer::Start(StartAnswer::NotStarted(NotStarted::NotFound)));
+/// The answer of this name: one that isn't well, or an exit status.
+fn answer_of(word: &[u8]) -> Option<Answer> {
+    for &(name, answer) in TROUBLES.as_slice() {
+        if name == word {
+            return Some(answer);
+        }
     }
-    if word == b"denied".as_slice() {
-        return Some(Answer::Start(StartAnswer::NotStarted(NotStarted::Denied)));
-    }
-    if word == b"no-memory".as_slice() {
-        return Some(Answer::Start(StartAnswer::NotStarted(NotStarted::NoMemory)));
-    }
-    if word == b"not-started".as_slice() {
-        return Some(Answer::Start(StartAnswer::NotStarted(NotStarted::Other)));
-    }
-    if word == b"signal".as_slice() {
-        return Some(Answer::Wait(WaitAnswer::Signal));
-    }
-    if word == b"lost".as_slice() {
-        return Some(Answer::Wait(WaitAnswer::Lost));
-    }
-    let status = number_of(word)?;
-    if status <= 255 {
-        Some(Answer::Wait(WaitAnswer::Exit(status as u8)))
-    } else {
-        None
-    }
+    let status = u8::try_from(number_of(word)?).ok()?;
+    Some(Answer::Wait(WaitAnswer::Exit(status)))
 }
 
-/// An answer to the removal of a file.
-fn file_answer(word: &[u8]) -> Option<Answer> {
-    if word == b"missing".as_slice() {
-        return Some(Answer::Remove(RemoveAnswer::Missing));
-    }
-    if word == b"not-plain".as_slice() {
-        return Some(Answer::Remove(RemoveAnswer::NotPlain));
-    }
-    if word == b"not-removed".as_slice() {
-        return Some(Answer::Remove(RemoveAnswer::Failed));
-    }
-    None
-}
-
-/// An answer to the claim of a temporary file, or to its removal.
-fn temp_answer(word: &[u8]) -> Option<Answer> {
-    if word == b"taken".as_slice() {
-        return Some(Answer::Claim(ClaimAnswer::Taken));
-    }
-    if word == b"not-claimed".as_slice() {
-        return Some(Answer::Claim(ClaimAnswer::Failed));
-    }
-    file_answer(word)
-}
-
-/// The answer of this name to a step at a place.
-fn answer_named(place: Place, word: &[u8]) -> Option<Answer> {
+/// Whether a step at a place may have an answer.
+fn is_at(place: Place, answer: Answer) -> bool {
     match place {
-        Place::Command { .. } => command_answer(word),
-        Place::Temp { .. } => temp_answer(word),
-        Place::Marked { .. } | Place::OnFailure { .. } => file_answer(word),
+        Place::Command { .. } => matches!(answer, Answer::Start(_) | Answer::Wait(_)),
+        Place::Temp { .. } => matches!(answer, Answer::Claim(_) | Answer::Remove(_)),
+        Place::Marked { .. } | Place::OnFailure { .. } => matches!(answer, Answer::Remove(_)),
     }
 }
 
@@ -135,8 +120,8 @@ pub fn given_of(plan: &Plan, word: &[u8]) -> Result<Given, GivenFault> {
     let Some(place) = place_named(plan, place) else {
         return Err(GivenFault::NoPlace);
     };
-    match answer_named(place, answer) {
-        Some(answer) => Ok(Given { place, answer }),
-        None => Err(GivenFault::NoAnswer),
+    match answer_of(answer) {
+        Some(answer) if is_at(place, answer) => Ok(Given { place, answer }),
+        _ => Err(GivenFault::NoAnswer),
     }
 }

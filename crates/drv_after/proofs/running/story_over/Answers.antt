@@ -6,5 +6,5 @@ use Rattle.std.proofs.Common.{◌≡◌, subst, true}
 -- the answer to the step of `next` fits it
 pub answer-requires-clause-fits : goal.answer-requires-clause-fits
 answer-requires-clause-fits c =
-    subst (λ action. IfMake action (λ step. fits c.loop-run.run.events step c.answer_to-answer.result ≡ true)) c.in-Make.ensures.action
-    (subst (λ events. fits events c.in-Make.step c.answer_to-answer.result ≡ true) c.events.ensures c.answer_to-answer.ensures)
+    subst (λ action. IfMake action (λ step. fits c.loop-status.run.events step c.answer_to-answer.result ≡ true)) c.in-Make.ensures.action
+    (subst (λ events. fits events c.in-Make.step c.answer_to-answer.result ≡ true) c.events-in-Make.ensures c.answer_to-answer.ensures)

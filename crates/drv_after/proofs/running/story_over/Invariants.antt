@@ -3,5 +3,5 @@ use Rattle.drv_core.specs.Needed.{needed}
 use Rattle.std.proofs.Common.{◌-◌, length}
 
 -- a run has at most so many events, and each turn adds one
-abbrev pub decreases-loop-run : goal.decreases-loop-run
-decreases-loop-run l = needed l.run.plan - length l.run.events
+abbrev pub decreases-loop-status : goal.decreases-loop-status
+decreases-loop-status l = needed l.run.plan - length l.run.events
