@@ -1,4 +1,4 @@
-//! Runs a plan block by block, with chosen sources. Standard input holds the plan, followed by the
+//! Runs a plan block by block, with chosen sources. The lines of the plan are followed by the
 //! blocks, one on each line:
 //!
 //! ```text
@@ -12,15 +12,12 @@ ghost use Rattle.drv_words.specs.Stepping.{fits, fits_start, is_child, is_new};
 ghost use Rattle.std.specs.Prelude.{◌≡◌};
 
 use crate::answers::answer_of;
-use crate::planning::plan;
-use crate::running::{NO_WINDOW, Running, running_of};
-use crate::script::read_lines;
+use crate::running::Running;
 use crate::showing::add_made;
 use crate::transcript::Transcript;
 use drv_core::{Action, Run};
 use drv_words::{Answer, Listing, Plan, RunEvent, StartAnswer, Step, Word};
 use std::alloc::{AllocError, Global};
-use std::io;
 use std::str::from_utf8;
 
 /// Whether an answer says that the child of this number was started.
@@ -140,32 +137,20 @@ fn add_status(run: &Run, out: &mut Transcript) -> Result<(), AllocError> {
     }
 }
 
-/// Runs the plan of these lines as they say.
-fn choose_blocks(
+/// Runs a plan as these lines say.
+///
+/// # Errors
+/// A lack of memory.
+pub fn choose_blocks(
     alloc: Global,
+    plan: &Plan,
     lines: &[Listing<Word>],
     running: Running,
     out: &mut Transcript,
 ) -> Result<(), AllocError> {
-    let plan = plan(alloc, lines)?;
-    let mut run = Run::new(alloc, &plan, running.pass_codes, running.window.sources())?;
+    let mut run = Run::new(alloc, plan, running.pass_codes, running.window.sources())?;
     for line in lines {
-        go(&mut run, &plan, line.as_slice(), out)?;
+        go(&mut run, plan, line.as_slice(), out)?;
     }
     add_status(&run, out)
-}
-
-/// Runs the plan of standard input as its lines say, with at most this many sources under way at
-/// once.
-pub fn try_choices(
-    rt: &HostRuntime,
-    window: &Word,
-    pass_codes: bool,
-    out: &mut Transcript,
-) -> io::Result<()> {
-    let Some(running) = running_of(window, pass_codes) else {
-        return Ok(out.add(NO_WINDOW)?);
-    };
-    let lines = read_lines(rt)?;
-    Ok(choose_blocks(rt.alloc(), lines.as_slice(), running, out)?)
 }

@@ -3,14 +3,14 @@
 //! ```text
 //! job                 the job of the next source begins
 //! link                the link's job begins
-//! temp PATH           a temporary file of this job
+//! temp PATH TEXT      a temporary file of this job, empty without a text
 //! marked PATH         a file that is removed at the end
 //! on_failure PATH     a file that is removed if the job fails
-//! run PROGRAM         a command
-//! pipe PROGRAM        a command that reads what the one before it writes
+//! run PROGRAM WORD..  a command
+//! pipe PROGRAM WORD.. a command that reads what the one before it writes
 //! ```
 
-use drv_words::{Command, Group, Job, Listing, Plan, Temp, Word};
+use drv_words::{Command, Group, Job, Listing, Plan, Temp, Word, copy_words};
 use std::alloc::{AllocError, Global};
 
 /// Whether a line begins with this word.
@@ -43,12 +43,24 @@ fn names(alloc: Global, lines: &[Listing<Word>], what: &[u8]) -> Result<Listing<
     Ok(names)
 }
 
-/// The temporary files, which are empty at first.
+/// The temporary file of a line, if it says one.
+fn temp(alloc: Global, line: &[Word]) -> Result<Option<Temp>, AllocError> {
+    let (path, contents) = match line {
+        [what, path] if what.as_bytes() == b"temp".as_slice() => (path, Word::empty(alloc)),
+        [what, path, text] if what.as_bytes() == b"temp".as_slice() => (path, text.clone()?),
+        _ => return Ok(None),
+    };
+    let path = path.clone()?;
+    Ok(Some(Temp { path, contents }))
+}
+
+/// The temporary files.
 fn temps(alloc: Global, lines: &[Listing<Word>]) -> Result<Listing<Temp>, AllocError> {
     let mut temps = Listing::new(alloc);
-    for path in names(alloc, lines, b"temp")?.into_vec() {
-        let contents = Word::empty(alloc);
-        temps.push(Temp { path, contents })?;
+    for line in lines {
+        if let Some(temp) = temp(alloc, line.as_slice())? {
+            temps.push(temp)?;
+        }
     }
     Ok(temps)
 }
@@ -61,10 +73,10 @@ fn commands(alloc: Global, lines: &[Listing<Word>]) -> Result<Vec<Command>, Allo
             break;
         }
         if (number == 0 || is_of(line, b"pipe"))
-            && let [_, program] = line.as_slice()
+            && let [_, program, words @ ..] = line.as_slice()
         {
             let program = program.clone()?;
-            let words = Listing::new(alloc);
+            let words = copy_words(alloc, words)?;
             commands.push(Command { program, words })?;
         }
     }

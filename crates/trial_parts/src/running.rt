@@ -15,9 +15,6 @@ pub struct Running {
     pub pass_codes: bool,
 }
 
-/// What is printed in the place of a run whose window is no number from 1 to 64.
-pub const NO_WINDOW: &[u8] = b"a window is 1 to 64\n";
-
 /// A run with the window that a word says, if it says one, and with this status.
 pub fn running_of(window: &Word, pass_codes: bool) -> Option<Running>
     ensures { IfSome result (λ running. running.pass_codes ≡ pass_codes) }

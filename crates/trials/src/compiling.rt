@@ -53,54 +53,23 @@ impl ScriptHost {
         })
     }
 
-    /// Adds the path that a name leads to.
-    fn add_path(&mut self, name: &Word, path: &Word) -> Result<(), AllocError> {
-        Ok(self.paths.push((name.clone()?, path.clone()?))?)
-    }
-
-    /// Adds a folder in which files can be made.
-    fn add_folder(&mut self, name: &Word) -> Result<(), AllocError> {
-        Ok(self.folders.push(name.clone()?)?)
-    }
-
-    /// Adds the row that the compiler gives for options.
-    fn add_row(&mut self, options: &Word, row: &Word) -> Result<(), AllocError> {
-        Ok(self.rows.push((options.clone()?, row.clone()?))?)
-    }
-
-    /// Adds the stamp of a file.
-    fn add_stamp(&mut self, path: &Word, stamp: &Word) -> Result<(), AllocError> {
-        Ok(self.stamps.push((path.clone()?, stamp.clone()?))?)
-    }
-
     /// Adds what a line says. A line of the script adds nothing.
     fn add(&mut self, line: &[Word]) -> Result<(), AllocError> {
         match line {
             [what, name, path] if what.as_bytes() == b"leads".as_slice() => {
-                self.add_path(name, path)
+                Ok(self.paths.push((name.clone()?, path.clone()?))?)
             }
-            [what, name] if what.as_bytes() == b"usable".as_slice() => self.add_folder(name),
+            [what, name] if what.as_bytes() == b"usable".as_slice() => {
+                Ok(self.folders.push(name.clone()?)?)
+            }
             [what, options, row] if what.as_bytes() == b"makes".as_slice() => {
-                self.add_row(options, row)
+                Ok(self.rows.push((options.clone()?, row.clone()?))?)
             }
             [what, path, stamp] if what.as_bytes() == b"stamped".as_slice() => {
-                self.add_stamp(path, stamp)
+                Ok(self.stamps.push((path.clone()?, stamp.clone()?))?)
             }
             _ => Ok(()),
         }
-    }
-
-    /// Adds what lines say.
-    fn add_all(&mut self, lines: &[Listing<Word>]) -> Result<(), AllocError> {
-        for line in lines {
-            self.add(line.as_slice())?;
-        }
-        Ok(())
-    }
-
-    /// Adds the folder in which files can always be made.
-    fn add_usable(&mut self, alloc: Global) -> Result<(), AllocError> {
-        Ok(self.folders.push(Word::from_bytes(alloc, b"/tmp")?)?)
     }
 }
 
@@ -174,11 +143,13 @@ impl Host<ScriptSystem> for ScriptHost {
     }
 }
 
-/// The host that lines say.
+/// The host that lines say. In `/tmp` it can always make files.
 fn host(alloc: Global, lines: &[Listing<Word>]) -> Result<ScriptHost, AllocError> {
     let mut host = ScriptHost::new(alloc)?;
-    host.add_all(lines)?;
-    host.add_usable(alloc)?;
+    for line in lines {
+        host.add(line.as_slice())?;
+    }
+    host.folders.push(Word::from_bytes(alloc, b"/tmp")?)?;
     Ok(host)
 }
 

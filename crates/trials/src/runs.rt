@@ -1,4 +1,4 @@
-//! Whole runs over the script of standard input: of a plan, and of a call of the driver. Prints the
+//! Whole runs: of a plan, and over the script of standard input of a call of the driver. Prints the
 //! steps with their answers, and the status; for a plan also the most events that it needs; for a
 //! call also the messages and the ending.
 
@@ -6,26 +6,37 @@ ghost use Rattle.std.specs.Prelude.{◌≡◌, []};
 
 use drv_core::events_needed;
 use drv_run::{Ending, Refusal, drive, execute, fault_line};
-use drv_system::{Event, ScriptSystem, System};
+use drv_system::{Event, HostSystem, ScriptSystem, System};
 use drv_words::{Listing, Plan, Word, copy_words};
 use std::alloc::{AllocError, Global};
 use std::io;
 use trial_parts::{
-    NO_WINDOW, Running, Transcript, add_events, plan, read_lines, running_of, system,
+    Running, Transcript, add_events, choose_blocks, plan, read_lines, running_of, system,
 };
 
 /// The seed of the names of temporaries: they begin with `cc0000002a_`.
 pub const SEED: u32 = 42;
 
+/// How a plan is carried out.
+#[derive(Clone, Copy)]
+pub enum Way {
+    /// Over the script of standard input.
+    Scripted,
+    /// On this machine.
+    OnHost,
+    /// Block by block, as the lines behind it say.
+    Chosen,
+}
+
 /// Carries out a plan on a fresh system.
-fn carry_out_on(
+fn carry_out<S: System>(
     alloc: Global,
-    sys: &mut ScriptSystem,
+    sys: &mut S,
     plan: &Plan,
     running: Running,
     out: &mut Transcript,
 ) -> Result<(), AllocError>
-    requires new { sys.old.journal ≡ [] }
+    requires new { S.events sys.old ≡ [] }
 {
     let sources = running.window.sources();
     let status = execute(alloc, sys, plan, running.pass_codes, sources)?;
@@ -35,29 +46,56 @@ fn carry_out_on(
 }
 
 /// Carries out the plan of these lines over the script of these lines.
-fn carry_out(
+fn over_script(
     alloc: Global,
     lines: &[Listing<Word>],
+    plan: &Plan,
     running: Running,
     out: &mut Transcript,
 ) -> Result<(), AllocError> {
-    let plan = plan(alloc, lines)?;
     let mut sys = system(alloc, lines)?;
-    carry_out_on(alloc, &mut sys, &plan, running, out)
+    carry_out(alloc, &mut sys, plan, running, out)
 }
 
-/// Carries out the plan from standard input, with at most this many sources under way at once.
+/// Carries out a plan on this machine.
+fn on_host(
+    rt: &HostRuntime,
+    plan: &Plan,
+    running: Running,
+    out: &mut Transcript,
+) -> Result<(), AllocError> {
+    let mut sys = HostSystem::new(rt.clone()?);
+    carry_out(rt.alloc(), &mut sys, plan, running, out)
+}
+
+/// What these words say of a run: the first is its window, and with another it passes on exit codes.
+fn running_by(words: &[Word]) -> Option<Running> {
+    match words {
+        [window] => running_of(window, false),
+        [window, _, ..] => running_of(window, true),
+        [] => None,
+    }
+}
+
+/// Carries out the plan of standard input, with the window that the words say.
 pub fn try_plan(
     rt: &HostRuntime,
-    window: &Word,
-    pass_codes: bool,
+    way: Way,
+    words: &[Word],
     out: &mut Transcript,
 ) -> io::Result<()> {
-    let Some(running) = running_of(window, pass_codes) else {
-        return Ok(out.add(NO_WINDOW)?);
+    let Some(running) = running_by(words) else {
+        return Ok(out.add(b"a window is 1 to 64\n")?);
     };
     let lines = read_lines(rt)?;
-    Ok(carry_out(rt.alloc(), lines.as_slice(), running, out)?)
+    let lines = lines.as_slice();
+    let plan = plan(rt.alloc(), lines)?;
+    match way {
+        Way::Scripted => over_script(rt.alloc(), lines, &plan, running, out)?,
+        Way::OnHost => on_host(rt, &plan, running, out)?,
+        Way::Chosen => choose_blocks(rt.alloc(), &plan, lines, running, out)?,
+    }
+    Ok(())
 }
 
 /// Adds a refusal as the user reads it.

@@ -1,9 +1,9 @@
 //! Questions to the outside, which a machine or a script answers.
 
 use crate::transcript::Transcript;
-use drv_system::{FactTable, PathKind, ReadAnswer, System};
+use drv_system::{PathKind, ReadAnswer, System};
 use drv_words::Word;
-use std::alloc::{AllocError, Global};
+use std::alloc::AllocError;
 
 /// A question.
 #[derive(Clone, Copy)]
@@ -73,48 +73,6 @@ pub fn try_questions<S: System>(
             out.add(b"\n")?;
         }
         ask(sys, question, word, out)?;
-    }
-    Ok(())
-}
-
-/// Asks a question through a table of answers.
-fn ask_table<S: System>(
-    sys: &mut S,
-    facts: &mut FactTable,
-    question: Question,
-    word: &Word,
-    out: &mut Transcript,
-) -> Result<(), AllocError> {
-    match question {
-        Question::Read => {
-            facts.read(sys, word)?;
-            add_read(facts.read_answer(word), out)
-        }
-        Question::Kind => out.add(kind_text(facts.kind(sys, word)?)),
-        Question::Variable => {
-            facts.variable(sys, word)?;
-            add_value(facts.variable_answer(word), out)
-        }
-    }
-}
-
-/// Adds the answers for these paths or names through one table, one on each line. Each question is
-/// asked twice.
-pub fn try_questions_twice<S: System>(
-    alloc: Global,
-    sys: &mut S,
-    question: Question,
-    words: &[Word],
-    out: &mut Transcript,
-) -> Result<(), AllocError> {
-    let mut facts = FactTable::new(alloc);
-    for (number, word) in words.iter().enumerate() {
-        if number > 0 {
-            out.add(b"\n")?;
-        }
-        ask_table(sys, &mut facts, question, word, out)?;
-        out.add(b" ")?;
-        ask_table(sys, &mut facts, question, word, out)?;
     }
     Ok(())
 }

@@ -1,22 +1,22 @@
-//! The spec texts of a gcc.
+//! What texts are read as: the text of a plan, the spec texts of a gcc, and its dump.
 
-use super::NO_CALL;
 use crate::transcript::Transcript;
 use drv_dump::{
     DumpFault, Misfit, OursFault, TextFault, read_text, translate_dump, translate_text,
 };
-use drv_system::{ReadAnswer, System};
-use drv_words::Word;
+use drv_words::read_back;
 use std::alloc::{AllocError, Global};
 
-/// What is tried.
+/// What a text is read as.
 #[derive(Clone, Copy)]
 pub enum Reading {
-    /// The pieces of a text.
+    /// The lines of a plan.
+    Lines,
+    /// The pieces of a spec text.
     Pieces,
-    /// A text in this driver's language.
+    /// A spec text in this driver's language.
     Ours,
-    /// The same of a file that a gcc dumped.
+    /// The same of the texts that a gcc dumped.
     Dump,
 }
 
@@ -39,9 +39,20 @@ fn add_misfit(misfit: Misfit, at: usize, out: &mut Transcript) -> Result<(), All
     out.add_count(at)
 }
 
+/// The number of lines of a plan that a text shows, or a dash if it shows none.
+fn try_lines(alloc: Global, text: &[u8], out: &mut Transcript) -> Result<(), AllocError> {
+    match read_back(alloc, text)? {
+        Some(lines) => {
+            out.add_count(lines.len())?;
+            out.add(b" lines")
+        }
+        None => out.add(b"-"),
+    }
+}
+
 /// The pieces of a text, each with a slash after it, or the refusal.
-fn try_pieces(alloc: Global, text: &Word, out: &mut Transcript) -> Result<(), AllocError> {
-    match read_text(alloc, text.as_bytes()) {
+fn try_pieces(alloc: Global, text: &[u8], out: &mut Transcript) -> Result<(), AllocError> {
+    match read_text(alloc, text) {
         Ok(pieces) => {
             for piece in pieces.as_slice() {
                 out.add(piece.bytes.as_bytes())?;
@@ -55,8 +66,8 @@ fn try_pieces(alloc: Global, text: &Word, out: &mut Transcript) -> Result<(), Al
 }
 
 /// A text in this driver's language, or the refusal.
-fn try_ours(alloc: Global, text: &Word, out: &mut Transcript) -> Result<(), AllocError> {
-    match translate_text(alloc, text.as_bytes()) {
+fn try_ours(alloc: Global, text: &[u8], out: &mut Transcript) -> Result<(), AllocError> {
+    match translate_text(alloc, text) {
         Ok(words) => out.add(words.as_bytes()),
         Err(OursFault::Memory) => Err(AllocError),
         Err(OursFault::Unreadable(misfit, at)) => add_misfit(misfit, at, out),
@@ -91,33 +102,17 @@ fn try_dump(alloc: Global, dump: &[u8], out: &mut Transcript) -> Result<(), Allo
     }
 }
 
-/// Reads a text, or the file of a path.
-pub fn try_reading<S: System>(
+/// Adds what a text is read as.
+pub fn try_reading(
     alloc: Global,
-    sys: &mut S,
     reading: Reading,
-    words: &[Word],
+    text: &[u8],
     out: &mut Transcript,
 ) -> Result<(), AllocError> {
-    let [word] = words else {
-        return out.add(NO_CALL);
-    };
     match reading {
-        Reading::Pieces => try_pieces(alloc, word, out),
-        Reading::Ours => try_ours(alloc, word, out),
-        Reading::Dump => try_file(alloc, sys, word, out),
-    }
-}
-
-/// Reads the dump at a path.
-fn try_file<S: System>(
-    alloc: Global,
-    sys: &mut S,
-    path: &Word,
-    out: &mut Transcript,
-) -> Result<(), AllocError> {
-    match sys.read_file(path)? {
-        ReadAnswer::Read(dump) => try_dump(alloc, dump.as_bytes(), out),
-        _ => out.add(b"no file"),
+        Reading::Lines => try_lines(alloc, text, out),
+        Reading::Pieces => try_pieces(alloc, text, out),
+        Reading::Ours => try_ours(alloc, text, out),
+        Reading::Dump => try_dump(alloc, text, out),
     }
 }
