@@ -4,7 +4,8 @@ use Rattle.drv_cc.specs.Items.{Start, Wants, Whole, accepts, begins, beyond, by_
 use Rattle.drv_cc.specs.Items.{is_longer, is_number, is_open, is_passed_over, item, items_of, judges, known_item, leaves, machine_item}
 use Rattle.drv_cc.specs.Items.{meant_option, passed_item, plain, positive_form, renamed_by}
 use Rattle.drv_cc.specs.Items.{start_of, start_option, start_renamed, takes_value, turns_off, value_of, with_rest, with_start}
-use Rattle.drv_cc.specs.Table.{OptionRow, renames, sections, table}
+use Rattle.drv_cc.specs.Table.{OptionRow, renames, table}
+use Rattle.drv_cc.specs.Table.{capitals, features, later_letters, later_long_names, letters, long_names, machines, warnings}
 use Rattle.drv_cc.specs.UnknownWords.{is_unknown}
 use Rattle.drv_cc.specs.declared.item.Item.{Item}
 use Rattle.drv_cc.specs.declared.table.Role.TheVariants.{Question, Switch, Unknown}
@@ -32,7 +33,7 @@ use Rattle.std.specs.List.{list_any}
 
 -- No row of the option table is for an unknown word, so an option of the table is never asked again. The table is computed to see it.
 no_row : list_any (λ r. is_unknown r.role) table ≡ false
-unfolding sections
+unfolding capitals features later_letters later_long_names letters long_names machines warnings
 no_row = refl
 
 -- A row whose name newer compilers alone give has no name: none is so.
@@ -46,7 +47,7 @@ is_nameless Either name = false
 
 -- The table is computed to see it.
 all_named : list_any (λ r. is_nameless r.takes r.name) table ≡ false
-unfolding sections
+unfolding capitals features later_letters later_long_names letters long_names machines warnings
 all_named = refl
 
 -- Parts the test of a list into that of its first row and that of the others.

@@ -3,7 +3,6 @@ mod Counts
 mod Cuts
 mod Folders
 mod GivenAnswers
-mod Groups
 mod Joined
 mod Left
 mod Lines
@@ -15,6 +14,7 @@ mod Noted
 mod OffloadNames
 mod OtherNames
 mod OtherOptions
+mod Parts
 mod Prefixes
 mod Staying
 mod Unasked

@@ -1,4 +1,4 @@
-use Rattle.drv_cc.proofs.Groups.{same_is}
+use Rattle.drv_cc.proofs.Parts.{same_is}
 use Rattle.drv_cc.specs.Items.{same}
 use Rattle.drv_cc.specs.Kept.{has}
 use Rattle.drv_cc.specs.Levels.{check_words, checked_by, checked_from, is_checked, library_word, needs_leak_library}

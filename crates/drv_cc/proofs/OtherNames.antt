@@ -1,5 +1,5 @@
-use Rattle.drv_cc.proofs.Groups.{same_is}
-use Rattle.drv_cc.specs.Code.Groups.{last_byte}
+use Rattle.drv_cc.proofs.Parts.{same_is}
+use Rattle.drv_cc.specs.Code.Parts.{last_byte}
 use Rattle.drv_cc.specs.Items.{same}
 use Rattle.std.proofs.Common.{◌≡◌, ◌==◌, ◌∙◌, Bool, List, ap, false, length, refl, sym, true, ℕ}
 use Rattle.std.proofs.lemmas.Bool.{eq-eqb}

@@ -1,4 +1,4 @@
-use Rattle.drv_cc.proofs.Groups.{same_is}
+use Rattle.drv_cc.proofs.Parts.{same_is}
 use Rattle.drv_cc.specs.Asked.{asks, is_asked, is_question, is_stabs, is_xcoff, numeric, tells}
 use Rattle.drv_cc.specs.Code.Asking.{is_judged, is_speaking, may_ask}
 use Rattle.drv_cc.specs.Items.{is_among, same}

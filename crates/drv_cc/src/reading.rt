@@ -221,7 +221,7 @@ fn start_renamed(alloc: Global, known: &[u8], word: &[u8]) -> Result<Start, Allo
     }
     let name = meant_option(alloc, word)?;
     match first_row(name.as_bytes()) {
-        Some(row) => with_rest(alloc, known, row, rest_after(name.as_bytes(), row.option)),
+        Some(row) => with_rest(alloc, known, &row, rest_after(name.as_bytes(), row.option)),
         None => Ok(Start::Whole(beyond(alloc, known, word, name.as_bytes())?)),
     }
 }
@@ -241,7 +241,7 @@ fn start_of(alloc: Global, known: &[u8], word: &[u8]) -> Result<Start, AllocErro
         return Ok(Start::Whole(Item::plain(alloc, Role::Input, word)?));
     }
     match first_row(word) {
-        Some(row) => with_rest(alloc, known, row, rest_after(word, row.option)),
+        Some(row) => with_rest(alloc, known, &row, rest_after(word, row.option)),
         None => start_renamed(alloc, known, word),
     }
 }

@@ -1,21 +1,21 @@
-//! The option table: a row an option. The first row that fits a word decides.
+//! The look-up of an option's row. The first row that fits a word decides.
 
 ghost use Rattle.drv_cc.specs.Code.Building.{shown};
-ghost use Rattle.drv_cc.specs.Code.Groups.{begun_at, begun_key, is_parted, last_byte, second, third};
-ghost use Rattle.drv_cc.specs.Code.Groups.{whole_at, whole_key};
+ghost use Rattle.drv_cc.specs.Code.Parts.{last_byte, second};
 ghost use Rattle.drv_cc.specs.Items.{begins, first_row, fits, option_fits, takes_rest};
+ghost use Rattle.drv_cc.specs.Table.{capitals, features, later_letters, later_long_names, letters};
+ghost use Rattle.drv_cc.specs.Table.{long_names, machines, row_by, warnings};
 ghost use Rattle.std.specs.Option.{option_map};
-ghost use Rattle.std.specs.Prelude.{◌≡◌, false, find, get_or, map, true};
+ghost use Rattle.std.specs.Prelude.{◌≡◌, ◌++◌, false, find, get_or, map, true};
 
-use crate::beginnings::begun_group;
 use crate::classes::is;
-use crate::later_options::later_whole_group;
-use crate::parted_beginnings::parted_begun_group;
-use crate::whole_options::whole_group;
+use crate::rows::{
+    CAPITALS, FEATURES, LATER_LETTERS, LATER_LONG_NAMES, LETTERS, LONG_NAMES, MACHINES, WARNINGS,
+};
 
 /// How an option takes its argument.
 #[derive(Clone, Copy)]
-pub(crate) enum Takes {
+pub enum Takes {
     /// It takes none: the word is the option.
     Nothing,
     /// It takes none, and newer compilers alone call it by the name: names of options say whether
@@ -33,7 +33,7 @@ pub(crate) enum Takes {
 
 /// How an item is spelled.
 #[derive(Clone, Copy)]
-pub(crate) enum Spelling {
+pub enum Spelling {
     /// Its name.
     Alone,
     /// Its name and its argument in one word.
@@ -46,7 +46,7 @@ pub(crate) enum Spelling {
 
 /// What an item is on the line.
 #[derive(Clone, Copy)]
-pub(crate) enum Role {
+pub enum Role {
     /// A file.
     Input,
     /// A library, or a word for the linker.
@@ -82,6 +82,30 @@ pub(crate) struct Row {
     pub(crate) role: Role,
 }
 
+/// A row as src/rows.rt has it.
+type WrittenRow = (&'static [u8], Takes, &'static [u8], Spelling, Role);
+
+impl Row {
+    /// A row of that file.
+    fn of(row: &WrittenRow) -> Row
+        ensures { shown result ≡ row_by row.now.0.now row.now.1 row.now.2.now row.now.3 row.now.4 }
+    {
+        let (option, takes, other_name, spelling, role) = *row;
+        let name = if other_name.is_empty() {
+            option
+        } else {
+            other_name
+        };
+        Row {
+            option,
+            takes,
+            name,
+            spelling,
+            role,
+        }
+    }
+}
+
 impl Takes {
     /// Whether an argument may follow the option in its word.
     fn takes_rest(self) -> bool
@@ -91,7 +115,7 @@ impl Takes {
     }
 
     /// Whether an option fits a word. Most are longer than it.
-    #[tactic(auto, using(crate::proofs::Groups::longer_fits))]
+    #[tactic(auto, using(crate::proofs::Parts::longer_fits))]
     fn fits(self, option: &[u8], word: &[u8]) -> bool
         ensures { result ≡ option_fits self word.now option.now }
     {
@@ -102,16 +126,6 @@ impl Takes {
         } else {
             is(option, word)
         }
-    }
-}
-
-/// The third byte of a word, or 0.
-fn third(word: &[u8]) -> u8
-    ensures { result ≡ third word.now }
-{
-    match word {
-        [_, _, letter, ..] => *letter,
-        _ => 0,
     }
 }
 
@@ -136,7 +150,7 @@ fn byte_at(word: &[u8], at: usize) -> u8
 }
 
 /// Whether the last byte of an option is not at its place in a word.
-#[tactic(auto, using(crate::proofs::Groups::end_differs))]
+#[tactic(auto, using(crate::proofs::Parts::end_differs))]
 fn differs(option: &[u8], word: &[u8]) -> bool
     ensures { result ≡ true → begins option.now word.now ≡ false }
 {
@@ -166,53 +180,97 @@ fn second(word: &[u8]) -> u8
     }
 }
 
-/// The options among which a word is that is one.
-fn whole_rows(word: &[u8]) -> &'static [Row]
-    ensures { map shown result.now ≡ whole_at (whole_key word.now) }
-{
-    let letters = usize::from(second(word)) + usize::from(third(word));
-    let key = (letters + 7 * (word.len() % 32)) % 64;
-    if key < 32 {
-        whole_group(key)
-    } else {
-        later_whole_group(key - 32)
-    }
-}
-
-/// Whether options that begin with this letter are parted by their third byte too.
-fn is_parted(letter: u8) -> bool
-    ensures { result ≡ is_parted letter }
-{
-    letter == b'f' || letter == b'W'
-}
-
-/// The options among which those are that a word begins with.
-fn begun_rows(word: &[u8]) -> &'static [Row]
-    ensures { map shown result.now ≡ begun_at (begun_key word.now) }
-{
-    let letter = second(word);
-    if is_parted(letter) {
-        parted_begun_group((usize::from(letter) + usize::from(third(word))) % 16)
-    } else {
-        begun_group(usize::from(letter) % 30)
-    }
-}
-
 /// The first of these rows that fits a word.
-fn row_among(rows: &'static [Row], word: &[u8]) -> Option<&'static Row>
-    ensures { option_map (λ row. shown row.now) result
-        ≡ find (fits word.now) (map shown rows.now) }
+fn row_among(rows: &[WrittenRow], word: &[u8]) -> Option<Row>
+    ensures { option_map shown result
+        ≡ find (fits word.now) (map (λ row. row_by row.0.now row.1 row.2.now row.3 row.4) rows.now) }
 {
-    rows.iter().find(|row| row.takes.fits(row.option, word))
+    for row in rows {
+        if row.1.fits(row.0, word) {
+            return Some(Row::of(row));
+        }
+    }
+    None
 }
 
-/// The row of a word.
-#[tactic(auto, using(crate::proofs::Groups::found_whole, crate::proofs::Groups::found_begun))]
-pub(crate) fn first_row(word: &[u8]) -> Option<&'static Row>
-    ensures { option_map (λ row. shown row.now) result ≡ first_row word.now }
+/// The row of a long name, to those of `--i`.
+fn early_long_name(word: &[u8]) -> Option<Row>
+    ensures { option_map shown result ≡ find (fits word.now) long_names }
 {
-    if let Some(row) = row_among(whole_rows(word), word) {
+    row_among(&LONG_NAMES, word)
+}
+
+/// The row of a long name after them.
+fn later_long_name(word: &[u8]) -> Option<Row>
+    ensures { option_map shown result ≡ find (fits word.now) later_long_names }
+{
+    row_among(&LATER_LONG_NAMES, word)
+}
+
+/// The row of a word of `-W`.
+fn warning(word: &[u8]) -> Option<Row>
+    ensures { option_map shown result ≡ find (fits word.now) warnings }
+{
+    row_among(&WARNINGS, word)
+}
+
+/// The row of a word of `-f`.
+fn feature(word: &[u8]) -> Option<Row>
+    ensures { option_map shown result ≡ find (fits word.now) features }
+{
+    row_among(&FEATURES, word)
+}
+
+/// The row of a word of `-g` or `-m`.
+fn machine(word: &[u8]) -> Option<Row>
+    ensures { option_map shown result ≡ find (fits word.now) machines }
+{
+    row_among(&MACHINES, word)
+}
+
+/// The row of a word of a capital letter.
+fn capital(word: &[u8]) -> Option<Row>
+    ensures { option_map shown result ≡ find (fits word.now) capitals }
+{
+    row_among(&CAPITALS, word)
+}
+
+/// The row of a word of another letter, to those of `-o`.
+fn letter(word: &[u8]) -> Option<Row>
+    ensures { option_map shown result ≡ find (fits word.now) letters }
+{
+    row_among(&LETTERS, word)
+}
+
+/// The row of a word of a letter after them.
+fn later_letter(word: &[u8]) -> Option<Row>
+    ensures { option_map shown result ≡ find (fits word.now) later_letters }
+{
+    row_among(&LATER_LETTERS, word)
+}
+
+/// The row of a long name.
+#[tactic(auto, using(crate::proofs::Parts::found_early, crate::proofs::Parts::found_later))]
+fn long_name(word: &[u8]) -> Option<Row>
+    ensures { option_map shown result ≡ find (fits word.now) (long_names ++ later_long_names) }
+{
+    if let Some(row) = early_long_name(word) {
         return Some(row);
     }
-    row_among(begun_rows(word), word)
+    later_long_name(word)
+}
+
+/// The row of a word: it is among those that have its second byte.
+pub(crate) fn first_row(word: &[u8]) -> Option<Row>
+    ensures { option_map shown result ≡ first_row word.now }
+{
+    match second(word) {
+        b'-' => long_name(word),
+        b'W' => warning(word),
+        b'f' => feature(word),
+        b'g' | b'm' => machine(word),
+        0..=b'Z' => capital(word),
+        0..=b'o' => letter(word),
+        _ => later_letter(word),
+    }
 }

@@ -1,4 +1,4 @@
-use Rattle.drv_cc.specs.Code.Groups.{last_byte}
+use Rattle.drv_cc.specs.Code.Parts.{last_byte}
 use Rattle.drv_cc.specs.Items.{begins}
 use Rattle.drv_cc.specs.declared.item.Item.{Item}
 use Rattle.drv_cc.specs.declared.table.Role.TheVariants as role
@@ -8,7 +8,7 @@ use Rattle.std.specs.Prelude.{◌==◌, ◌||◌, Bool, List, codes, false, true
 
 -- Which items may make their line a question for gcc: the code asks this of each before it goes over them for each question. Only private
 -- clauses of src/asking.rt cite it.
--- Names: `i` is an item of the line. `name` is its name. `begins` and `last_byte` are in Items and Code/Groups.
+-- Names: `i` is an item of the line. `name` is its name. `begins` and `last_byte` are in Items and Code/Parts.
 
 -- whether an item by its role may make its line a question
 abbrev pub is_speaking : Role → Bool
