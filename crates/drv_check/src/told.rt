@@ -1,6 +1,7 @@
 //! What a check prints of findings, as text.
 
 use crate::escaping::is_control;
+use drv_place::first_of;
 use drv_words::{Listing, Word};
 use itoa::Buffer;
 use std::alloc::{AllocError, Global};
@@ -61,7 +62,7 @@ pub fn push_back(text: &mut Word, line: &[u8]) -> Result<(), AllocError> {
     if line.len() <= MOST_AFTER {
         return text.extend_from_slice(line);
     }
-    text.extend_from_slice(&line[..MOST_AFTER])?;
+    text.extend_from_slice(first_of(line, MOST_AFTER))?;
     text.extend_from_slice(b"..")
 }
 

@@ -106,6 +106,13 @@ fn run_asked(alloc: Global, words: &[Word]) -> Result<Call, CallFault> {
     })
 }
 
+/// The line that prints all texts.
+fn dumping_line(alloc: Global) -> Result<Listing<Word>, AllocError> {
+    let mut line = Listing::new(alloc);
+    line.push(Word::from_bytes(alloc, b"-dumpspecs")?)?;
+    Ok(line)
+}
+
 /// The line of a comparison, by the words behind the two files: without a word it is one of their
 /// texts.
 fn line_compared(alloc: Global, words: &[Word]) -> Result<Listing<Word>, CallFault> {
@@ -115,9 +122,7 @@ fn line_compared(alloc: Global, words: &[Word]) -> Result<Listing<Word>, CallFau
     if !words.is_empty() {
         return Err(CallFault::NotTwoFiles);
     }
-    let mut line = Listing::new(alloc);
-    line.push(Word::from_bytes(alloc, b"-dumpspecs")?)?;
-    Ok(line)
+    Ok(dumping_line(alloc)?)
 }
 
 /// The comparison that the words after the command ask for.
