@@ -7,4 +7,5 @@ pub mod Names
 pub mod Outcome
 pub mod Temps
 pub mod Told
+pub mod Traces
 pub mod Working

@@ -203,6 +203,14 @@ impl<'a> Context<'a> {
         argument_at(self.given.switches, i)
     }
 
+    /// Whether the switch at this place takes a word of its own.
+    pub(crate) fn takes_word(&self, i: usize) -> bool {
+        match self.given.switches.get(i) {
+            Some(switch) => switch.arg.is_some(),
+            None => false,
+        }
+    }
+
     /// Whether the line has `-pipe`.
     pub(crate) fn is_piping(&self) -> bool
         ensures { result ≡ self.now.is_piping }

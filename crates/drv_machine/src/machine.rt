@@ -23,6 +23,7 @@ mod inside;
 mod lists;
 mod marking;
 mod naming;
+mod sizes;
 mod tally;
 mod whole_words;
 

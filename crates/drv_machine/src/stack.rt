@@ -97,4 +97,28 @@ impl<'a> Stack<'a> {
             None => None,
         }
     }
+
+    /// How many parts are open.
+    pub(crate) fn len(&self) -> usize {
+        match &self.table {
+            Some(table) => table.len(),
+            None => 0,
+        }
+    }
+
+    /// The part at a place, the outermost first.
+    pub(crate) fn get(&self, place: usize) -> Option<&Frame<'a>> {
+        match &self.table {
+            Some(table) => table.as_slice().get(place),
+            None => None,
+        }
+    }
+
+    /// The innermost part.
+    pub(crate) fn last(&self) -> Option<&Frame<'a>> {
+        match &self.table {
+            Some(table) => table.as_slice().last(),
+            None => None,
+        }
+    }
 }

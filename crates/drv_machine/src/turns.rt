@@ -34,6 +34,7 @@ use crate::machine::{Cutter, Machine, Tally};
 use crate::named::open_named_text;
 use crate::tokens_at::token_at;
 use crate::walk::{Asking, Frame, Hit, Opened, Parts, Walk};
+use crate::watch::Watch;
 use crate::{Context, MachineFault};
 use drv_syntax::{SpecTree, TokenKind};
 use drv_system::{Outside, System};
@@ -143,11 +144,12 @@ fn close<'w, S: System>(
 /// Closes the open parts that have ended, and says whether an item is left to be processed. The end of
 /// a part may open another, as the end of an X does for the next hit. Alternatives that are not
 /// worked are passed over.
-fn settle<S: System>(
+fn settle<S: System, W: Watch>(
     context: &Context<'_>,
     walk: &mut Walk<'_>,
     machine: &mut Machine,
     outside: &mut Outside<'_, S>,
+    watch: &mut W,
 ) -> Result<bool, MachineFault>
     requires lain { Lain walk.old.text.now walk.old }
     requires framed { HasFrames context.now walk.old.text.now walk.old }
@@ -164,6 +166,7 @@ fn settle<S: System>(
         let Some(frame) = walk.frames.pop() else {
             return Ok(false);
         };
+        watch.end_part(context, &frame, walk, machine);
         close(context, frame, walk, machine, outside)?;
         let around = walk.text;
         walk.skip(around);
@@ -270,11 +273,12 @@ fn turn<'w, S: System>(
 }
 
 /// Works the items of a walk that are left, up to its end.
-fn work_items<'w, S: System>(
+fn work_items<'w, S: System, W: Watch>(
     context: &'w Context<'_>,
     walk: &mut Walk<'w>,
     tally: &mut Tally,
     outside: &mut Outside<'_, S>,
+    watch: &mut W,
 ) -> Result<(), MachineFault>
     requires lain { Lain walk.old.text.now walk.old }
     requires framed { HasFrames context.now walk.old.text.now walk.old }
@@ -284,18 +288,20 @@ fn work_items<'w, S: System>(
         → Left F context.now walk.old.text.now walk.old (state tally.old) given
         → GivesKnown MachineFault.Memory (λ u. (tt, state tally.new)) result given }
 {
-    while settle(context, walk, &mut tally.machine, outside)? {
+    while settle(context, walk, &mut tally.machine, outside, watch)? {
+        watch.reach(context, walk, &tally.machine);
         turn(context, walk, tally, outside)?;
     }
     Ok(())
 }
 
 /// Works a whole text.
-pub(crate) fn work_text<'w, S: System>(
+pub(crate) fn work_text<'w, S: System, W: Watch>(
     text: &'w SpecTree,
     context: &'w Context<'_>,
     tally: &mut Tally,
     outside: &mut Outside<'_, S>,
+    watch: &mut W,
 ) -> Result<(), MachineFault>
     ensures asks { Asked S.events outside.old outside.new }
     ensures does { (F : Facts) → Extends outside.new.facts.now F
@@ -304,5 +310,5 @@ pub(crate) fn work_text<'w, S: System>(
         (levels_left F context.now most_open) [])) }
 {
     let mut walk = Walk::new(tally.machine.alloc(), text, text.tokens().len());
-    work_items(context, &mut walk, tally, outside)
+    work_items(context, &mut walk, tally, outside, watch)
 }

@@ -9,8 +9,8 @@ use Rattle.drv_system.specs.Facts.{Facts}
 use Rattle.std.proofs.Common.{◌-◌}
 
 -- what is left of the walk gives what the whole would have given
-abbrev pub invariant-loop-walk : goal.invariant-loop-walk
-invariant-loop-walk g l = record {
+abbrev pub invariant-loop-watch : goal.invariant-loop-watch
+invariant-loop-watch g l = record {
   asks : Asked g.S.System.events l.fn.outside l.outside;
   lain : Lain l.walk.text.now l.walk;
   framed : HasFrames l.context l.walk.text.now l.walk;
@@ -20,5 +20,5 @@ invariant-loop-walk g l = record {
 }
 
 -- each round reaches an item, and the limit of items ends the loop
-abbrev pub decreases-loop-walk : goal.decreases-loop-walk
-decreases-loop-walk g l = 1000000 - l.tally.items
+abbrev pub decreases-loop-watch : goal.decreases-loop-watch
+decreases-loop-watch g l = 1000000 - l.tally.items
