@@ -8,8 +8,9 @@ mod notices;
 mod planning;
 mod progress;
 mod sources;
+mod working;
 
 pub use fault::PlanFault;
 pub use languages::{Chosen, language};
 pub use laws::{plan_law, reload_law};
-pub use planning::{Specified, plan, plan_along};
+pub use planning::{Specified, TracedPlan, plan, plan_along, plan_traced};

@@ -18,8 +18,9 @@ use crate::PlanFault;
 use crate::notices::notices_of;
 use crate::progress::Progress;
 use crate::sources::add_inputs;
+use crate::working::{Noting, Plain, Work};
 use drv_args::{Input, Line};
-use drv_machine::Context;
+use drv_machine::{Context, Trace};
 use drv_search::Prefixes;
 use drv_specs::SpecSet;
 use drv_system::{FactTable, Outside, System};
@@ -50,11 +51,12 @@ fn is_empty_link(outputs: &[Word]) -> bool
 }
 
 /// The link, if there is something to link and a text for it.
-fn link_of<S: System>(
+fn link_of<S: System, W: Work>(
     alloc: Global,
     set: &SpecSet,
     progress: &mut Progress<'_>,
     outside: &mut Outside<'_, S>,
+    worker: &mut W,
 ) -> Result<Option<Job>, PlanFault>
     ensures asks { Asked S.events outside.old outside.new }
     ensures works { (F : Facts) → Extends outside.new.facts.now F
@@ -65,7 +67,7 @@ fn link_of<S: System>(
         return Ok(None);
     }
     match set.tree(LINK_COMMAND) {
-        Some(text) => Ok(with_command(progress.work_link(alloc, text, outside)?)),
+        Some(text) => Ok(with_command(progress.work_link(alloc, text, outside, worker)?)),
         None => Ok(None),
     }
 }
@@ -88,20 +90,21 @@ fn plan_of(
 
 /// The plan of the inputs after those that are done. Jobs and notices are moved out of the progress.
 #[tactic(auto, using(drv_system::proofs::AskedCalls::asked_further))]
-fn plan_inputs<'a, S: System>(
+fn plan_inputs<'a, S: System, W: Work>(
     alloc: Global,
     set: &'a SpecSet,
     inputs: &'a [Input],
     progress: &mut Progress<'a>,
     outside: &mut Outside<'_, S>,
+    worker: &mut W,
 ) -> Result<Plan, PlanFault>
     ensures asks { Asked S.events outside.old outside.new }
     ensures works { (F : Facts) → Extends outside.new.facts.now F
         → GivesKnown PlanFault.Memory (λ plan. plan) result
         (then_by (with_inputs F set.now 0 inputs.now progress.old) (λ g. finished F set.now g)) }
 {
-    add_inputs(alloc, set, inputs, progress, outside)?;
-    let link = link_of(alloc, set, progress, outside)?;
+    add_inputs(alloc, set, inputs, progress, outside, worker)?;
+    let link = link_of(alloc, set, progress, outside, worker)?;
     Ok(plan_of(alloc, link, progress)?)
 }
 
@@ -136,7 +139,52 @@ pub fn plan_along<S: System>(
     let inputs = given.line.inputs.as_slice();
     let mut progress = Progress::new(alloc, context, inputs.len())?;
     let outside = &mut Outside { sys, facts };
-    plan_inputs(alloc, given.set, inputs, &mut progress, outside)
+    plan_inputs(alloc, given.set, inputs, &mut progress, outside, &mut Plain)
+}
+
+/// A plan, and where the words of its commands come from.
+#[derive(Drop)]
+pub struct TracedPlan {
+    pub plan: Plan,
+    /// One for each text that was run: those of the jobs, and the link's, if it was run.
+    pub traces: Listing<Option<Trace>>,
+}
+
+/// The plan of a line with its specs, as `plan_along` gives it, and where its words come from.
+///
+/// # Errors
+/// Those of `plan`.
+#[tactic(auto, using(drv_system::proofs::Asking::asks_nothing))]
+pub fn plan_traced<S: System>(
+    alloc: Global,
+    given: &Specified<'_>,
+    prefixes: &Prefixes,
+    sys: &mut S,
+    facts: &mut FactTable,
+) -> Result<TracedPlan, PlanFault>
+    ensures asks { Asks (S.events sys.old) (S.events sys.new) facts.old facts.new }
+    ensures plans { (F : Facts) → Extends facts.new F
+        → prefixes_of F given.now.line.now.settings.prefixes ≡ Is prefixes.now
+        → GivesKnown PlanFault.Memory (λ t. t.plan) result
+        (denoted F given.now.line.now given.now.set.now given.now.seed) }
+{
+    let context = Context::new(alloc, given.line, given.set, prefixes, given.seed)?;
+    let inputs = given.line.inputs.as_slice();
+    let mut progress = Progress::new(alloc, context, inputs.len())?;
+    let outside = &mut Outside { sys, facts };
+    let mut noting = Noting::new(alloc);
+    let plan = plan_inputs(
+        alloc,
+        given.set,
+        inputs,
+        &mut progress,
+        outside,
+        &mut noting,
+    )?;
+    Ok(TracedPlan {
+        plan,
+        traces: noting.into_traces(),
+    })
 }
 
 /// The plan of a line with its specs: each source, with the text of its language, in the order of

@@ -12,7 +12,8 @@ ghost use Rattle.drv_system.specs.Gives.{GivesKnown};
 ghost use Rattle.std.specs.Prelude.{◌≡◌, ◌++◌, IfOk, OnOk};
 
 use crate::PlanFault;
-use drv_machine::{Context, Outcome, Source, run};
+use crate::working::Work;
+use drv_machine::{Context, Outcome, Source};
 use drv_syntax::SpecTree;
 use drv_system::{Outside, System};
 use drv_words::{Job, Listing, Word};
@@ -141,18 +142,19 @@ impl<'a> Progress<'a> {
     ///
     /// # Errors
     /// The machine's refusal of the text.
-    pub(crate) fn work<S: System>(
+    pub(crate) fn work<S: System, W: Work>(
         &mut self,
         alloc: Global,
         text: &SpecTree,
         outside: &mut Outside<'_, S>,
+        worker: &mut W,
     ) -> Result<Job, PlanFault>
         ensures asks { Asked S.events outside.old outside.new }
         ensures works { (F : Facts) → Extends outside.new.facts.now F
             → GivesKnown PlanFault.Memory (λ job. (job, self.new)) result
             (worked F text.now self.old) }
     {
-        let mut done = run(alloc, text, &self.context, outside.sys, outside.facts)?;
+        let mut done = worker.run(alloc, text, &self.context, outside.sys, outside.facts)?;
         self.go_on(alloc, &mut done)?;
         Ok(into_job(done))
     }
@@ -161,12 +163,13 @@ impl<'a> Progress<'a> {
     ///
     /// # Errors
     /// The machine's refusal of the text.
-    pub(crate) fn add_source<S: System>(
+    pub(crate) fn add_source<S: System, W: Work>(
         &mut self,
         alloc: Global,
         source: Placed<Source<'a>>,
         text: &SpecTree,
         outside: &mut Outside<'_, S>,
+        worker: &mut W,
     ) -> Result<(), PlanFault>
         ensures asks { Asked S.events outside.old outside.new }
         ensures works { (F : Facts) → Extends outside.new.facts.now F
@@ -174,7 +177,7 @@ impl<'a> Progress<'a> {
             (with_source F source.entry.place source.entry.of text.now self.old) }
     {
         self.context.set_input(Some(source.of));
-        let job = self.work(alloc, text, outside)?;
+        let job = self.work(alloc, text, outside, worker)?;
         self.add_job(of_source(source.place, job))?;
         Ok(())
     }
@@ -183,11 +186,12 @@ impl<'a> Progress<'a> {
     ///
     /// # Errors
     /// The machine's refusal of the text.
-    pub(crate) fn work_link<S: System>(
+    pub(crate) fn work_link<S: System, W: Work>(
         &mut self,
         alloc: Global,
         text: &SpecTree,
         outside: &mut Outside<'_, S>,
+        worker: &mut W,
     ) -> Result<Job, PlanFault>
         ensures asks { Asked S.events outside.old outside.new }
         ensures works { (F : Facts) → Extends outside.new.facts.now F
@@ -197,6 +201,6 @@ impl<'a> Progress<'a> {
         let outputs = mem::replace(&mut self.outputs, Listing::new(alloc));
         self.context.set_input(None);
         self.context.set_outputs(outputs);
-        self.work(alloc, text, outside)
+        self.work(alloc, text, outside, worker)
     }
 }

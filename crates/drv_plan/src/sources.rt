@@ -13,6 +13,7 @@ ghost use Rattle.std.specs.Prelude.{◌≡◌, Ok};
 use crate::PlanFault;
 use crate::languages::{Chosen, language};
 use crate::progress::{Placed, Progress};
+use crate::working::Work;
 use drv_args::Input;
 use drv_machine::Source;
 use drv_specs::SpecSet;
@@ -31,12 +32,13 @@ fn source_of<'a>(name: &'a Word, chosen: &Chosen<'a>) -> Source<'a>
 }
 
 /// Adds a file: runs its text, or leaves it to the linker.
-fn add_file<'a, S: System>(
+fn add_file<'a, S: System, W: Work>(
     alloc: Global,
     name: Placed<&'a Word>,
     chosen: Option<Chosen<'a>>,
     progress: &mut Progress<'a>,
     outside: &mut Outside<'_, S>,
+    worker: &mut W,
 ) -> Result<(), PlanFault>
     ensures asks { Asked S.events outside.old outside.new }
     ensures works { (F : Facts) → Extends outside.new.facts.now F
@@ -52,16 +54,17 @@ fn add_file<'a, S: System>(
         place: name.place,
         of: source,
     };
-    progress.add_source(alloc, placed, chosen.tree, outside)
+    progress.add_source(alloc, placed, chosen.tree, outside, worker)
 }
 
 /// Adds an input: a file in its language, or a word for the link, which has none.
-fn add_input<'a, S: System>(
+fn add_input<'a, S: System, W: Work>(
     alloc: Global,
     set: &'a SpecSet,
     input: Placed<&'a Input>,
     progress: &mut Progress<'a>,
     outside: &mut Outside<'_, S>,
+    worker: &mut W,
 ) -> Result<(), PlanFault>
     ensures asks { Asked S.events outside.old outside.new }
     ensures works { (F : Facts) → Extends outside.new.facts.now F
@@ -75,7 +78,7 @@ fn add_input<'a, S: System>(
                 place: input.place,
                 of: name,
             };
-            add_file(alloc, named, chosen, progress, outside)
+            add_file(alloc, named, chosen, progress, outside, worker)
         }
         Input::Library(word) => {
             progress.add_word(word)?;
@@ -94,12 +97,13 @@ fn add_input<'a, S: System>(
 /// The first refusal in the order of the inputs: that of a file's language, or the machine's
 /// refusal of its text.
 #[tactic(auto, using(drv_system::proofs::AskedCalls::asked_further))]
-pub(crate) fn add_inputs<'a, S: System>(
+pub(crate) fn add_inputs<'a, S: System, W: Work>(
     alloc: Global,
     set: &'a SpecSet,
     inputs: &'a [Input],
     progress: &mut Progress<'a>,
     outside: &mut Outside<'_, S>,
+    worker: &mut W,
 ) -> Result<(), PlanFault>
     ensures asks { Asked S.events outside.old outside.new }
     ensures works { (F : Facts) → Extends outside.new.facts.now F
@@ -107,7 +111,14 @@ pub(crate) fn add_inputs<'a, S: System>(
         (with_inputs F set.now 0 inputs.now progress.old) }
 {
     for (place, input) in inputs.iter().enumerate() {
-        add_input(alloc, set, Placed { place, of: input }, progress, outside)?;
+        add_input(
+            alloc,
+            set,
+            Placed { place, of: input },
+            progress,
+            outside,
+            worker,
+        )?;
     }
     Ok(())
 }
