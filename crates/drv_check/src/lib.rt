@@ -17,6 +17,7 @@ pub use findings::{
     Checking, Finding, Findings, MOST_FAULTS, Note, Source, Spot, Warning, is_fault, is_full,
 };
 pub use loading_order::LoadedFiles;
+pub use origins::{spot_at, spots_of};
 pub use pieces::{Piece, pieces_of};
 pub use spots::place_in;
 

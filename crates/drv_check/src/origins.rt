@@ -1,5 +1,6 @@
 //! Where in files the bytes of a set's texts are.
 
+ghost use Rattle.drv_check.specs.LoadingOrder.{loaded_pieces};
 ghost use Rattle.drv_check.specs.Origins.{agree, byte_at, if_agreed, last_spots, old_head, own_spots, puts_head};
 ghost use Rattle.drv_check.specs.Origins.{spot_at, spots_after, text_spots};
 ghost use Rattle.drv_place.specs.BytesAt.{is_byte};
@@ -8,19 +9,10 @@ ghost use Rattle.std.specs.Cmp.Lexicographic.{pointwise};
 ghost use Rattle.std.specs.Prelude.{◌≡◌, ◌∷◌, ◌++◌, IfOk, OnOk, nat_eq, reverse};
 
 use crate::findings::{Source, Spot};
-use crate::loading_order::{LoadedPiece, Renaming};
+use crate::loading_order::{LoadedFiles, LoadedPiece, Renaming};
 use drv_place::after_first;
 use drv_words::Word;
 use std::alloc::{AllocError, Global};
-
-/// Files that are loaded.
-#[derive(Clone, Copy)]
-pub(crate) struct Files<'a> {
-    /// The files.
-    pub(crate) sources: &'a [Source],
-    /// Their directives, in the order in which they are loaded.
-    pub(crate) pieces: &'a [LoadedPiece],
-}
 
 /// Whether a directive puts the text of this head, or adds to it.
 fn puts_head(head: &[u8], piece: &LoadedPiece) -> bool
@@ -197,24 +189,21 @@ fn text_spots(
     Vec::from_slice(alloc, spots)
 }
 
-impl<'a> Files<'a> {
-    /// The spots of the last bytes of a head's text, which are those of files.
-    pub(crate) fn spots_of(
-        &self,
-        alloc: Global,
-        head: &[u8],
-        text: &[u8],
-    ) -> Result<Vec<Spot>, AllocError>
-        ensures { IfOk result
-            (λ spots. spots.items
-            ≡ text_spots self.now.sources.now self.now.pieces.now head.now text.now) }
-    {
-        text_spots(alloc, self.sources, self.pieces, head, text)
-    }
+/// The spots of the last bytes of a head's text, which are those of files that are loaded.
+pub fn spots_of(
+    alloc: Global,
+    files: &LoadedFiles<'_>,
+    head: &[u8],
+    text: &[u8],
+) -> Result<Vec<Spot>, AllocError>
+    ensures { IfOk result (λ spots. spots.items
+        ≡ text_spots files.now (loaded_pieces files.now) head.now text.now) }
+{
+    text_spots(alloc, files.sources(), files.pieces(), head, text)
 }
 
 /// The spot of the byte at this place of a text of this size, whose last bytes have these spots.
-pub(crate) fn spot_at(spots: &[Spot], size: usize, place: usize) -> Option<Spot>
+pub fn spot_at(spots: &[Spot], size: usize, place: usize) -> Option<Spot>
     ensures { result ≡ spot_at spots.now size place }
 {
     let before = size.saturating_sub(spots.len());
