@@ -1,34 +1,18 @@
-//! What becomes of the switches of a line, and where the words of its plan are from.
+//! Where the words of a plan are from, what kept a word away, and what became of the switches of its line.
 #![tactic(auto)]
 
-mod alike;
+mod answering;
 mod cancelling;
 mod causes;
-mod fates;
-mod fates_json;
-mod halts;
-mod laws;
-mod lending;
-mod line_places;
-mod matching;
-mod names;
-mod numbers;
-mod origins;
-mod origins_json;
-mod outers;
-mod repeating;
+mod files;
+mod json_form;
+mod kept_away;
+mod parts;
+mod reasons;
 mod report;
-mod takers;
-mod taking;
-mod telling;
-mod traces;
-mod tracing;
-mod walking;
-mod whole;
+mod switches;
+mod texts;
+mod words;
 
-pub use fates::fates_report;
-pub use laws::{live_is_uncancelled, traced_words_are_the_commands};
-pub use lending::{LentLine, lent_lines};
-pub use origins::{Marking, origins_report};
+pub use answering::{Asked, Explained, answer};
 pub use report::Report;
-pub use whole::whole_report;

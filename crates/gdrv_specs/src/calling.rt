@@ -166,17 +166,35 @@ fn cut_report(otherwise: Report, words: &[Word]) -> (Report, &[Word]) {
     }
 }
 
+/// What a word asks about a line.
+fn scope_named(alloc: Global, word: &[u8]) -> Result<Option<Scope>, AllocError> {
+    if word == b"--switches".as_slice() {
+        return Ok(Some(Scope::Switches));
+    }
+    if let Some(asked) = word.strip_prefix(b"--of=".as_slice()) {
+        return Ok(Some(Scope::Of(Word::from_bytes(alloc, asked)?)));
+    }
+    if let Some(asked) = word.strip_prefix(b"--not=".as_slice()) {
+        return Ok(Some(Scope::Not(Word::from_bytes(alloc, asked)?)));
+    }
+    Ok(None)
+}
+
+/// What the first of these words asks about a line, and the words behind it.
+fn cut_scope(alloc: Global, words: &[Word]) -> Result<(Scope, &[Word]), AllocError> {
+    if let [word, rest @ ..] = words {
+        if let Some(scope) = scope_named(alloc, word.as_bytes())? {
+            return Ok((scope, rest));
+        }
+    }
+    Ok((Scope::Words, words))
+}
+
 /// What these words after the command ask for: a word for JSON may be before or after the one that
-/// asks for a part of the answer.
+/// says what is asked.
 fn why_asked(alloc: Global, words: &[Word]) -> Result<Call, CallFault> {
     let (report, words) = cut_report(Report::Lines, words);
-    let (scope, words) = if let Some(rest) = behind(words, b"--words") {
-        (Scope::Words, rest)
-    } else if let Some(rest) = behind(words, b"--switches") {
-        (Scope::Switches, rest)
-    } else {
-        (Scope::Whole, words)
-    };
+    let (scope, words) = cut_scope(alloc, words)?;
     let (report, words) = cut_report(report, words);
     Ok(Call::Why {
         view: View { scope, report },

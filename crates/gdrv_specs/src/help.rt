@@ -9,7 +9,7 @@ Usage: gdrv-specs check [--json] [-Werror] [-Wno-NAME]... [--gcc] [--over FILE].
        gdrv-specs plan [--json | --sh] LINE...
        gdrv-specs after LINE... [--fail PLACE=ANSWER]...
        gdrv-specs diff [--full] FILE FILE [-- LINE...]
-       gdrv-specs why [--json] [--words | --switches] LINE...
+       gdrv-specs why [--json] [--switches | --of=WORD | --not=WORD] LINE...
 gdrv-specs prints what gdrv would do with a line. It starts nothing and makes no
 file.
 
@@ -25,11 +25,11 @@ file.
                   what differs between the texts; the status is 1 if any does
   diff --full     print after them the commands
   why             print the commands of the line, and under each its words with
-                  the parts of texts that they are from; then which texts pass
-                  each switch on, test it or hide it, and which later switch
-                  cancels it
-  why --words     print the first half of that
-  why --switches  print the second half of that
+                  the parts of texts that they are from
+  why --of=WORD   print this of one word, and the tests that chose it
+  why --not=WORD  print the tests that kept a word away
+  why --switches  print what passes each switch on, tests it or hides it, and
+                  which later switch cancels it
   why --json      print any of these as JSON
 
 The words of LINE are those of gdrv, -specs=FILE among them. The manual page

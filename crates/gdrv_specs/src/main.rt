@@ -91,7 +91,7 @@ fn act(rt: &HostRuntime, sys: &mut HostSystem, call: Call) -> Result<Outcome, Al
         }
         Call::Differ(comparison) => tell_difference(alloc, sys, &comparison, clock_seed(rt)?),
         Call::Check(request) => tell_check(alloc, sys, &request),
-        Call::Why { view, line } => tell_why(alloc, sys, view, line, clock_seed(rt)?),
+        Call::Why { view, line } => tell_why(alloc, sys, &view, line, clock_seed(rt)?),
     })
 }
 

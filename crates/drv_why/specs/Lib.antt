@@ -1,9 +1,0 @@
-pub mod Causes
-pub mod Code
-pub mod Fates
-pub mod FatesJson
-pub mod Origins
-pub mod Taken
-pub mod Traces
-pub mod Walks
-pub mod Whole

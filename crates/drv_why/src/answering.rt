@@ -1,0 +1,105 @@
+//! An answer about the plan of a line, by what its run noted.
+
+use crate::files::Files;
+use crate::report::Report;
+use crate::texts::Texts;
+use drv_args::Line;
+use drv_check::Source;
+use drv_machine::Trace;
+use drv_specs::SpecSet;
+use drv_words::{Plan, Word};
+use json::Pretty;
+use std::alloc::{AllocError, Global};
+
+/// What is asked.
+#[derive(Clone, Copy)]
+pub enum Asked<'a> {
+    /// Where each word of the commands is from.
+    Words,
+    /// What became of each switch of the line.
+    Switches,
+    /// Where a word is from, and which tests chose it.
+    Of(&'a [u8]),
+    /// Which tests kept a word away.
+    Not(&'a [u8]),
+}
+
+/// A line and its plan, with what its run noted.
+#[derive(Clone, Copy)]
+pub struct Explained<'a> {
+    pub line: &'a Line,
+    pub set: &'a SpecSet,
+    pub plan: &'a Plan,
+    /// One for each job, in their order, then that of the link.
+    pub traces: &'a [Option<Trace>],
+    /// The files that the line loads, in their order.
+    pub sources: &'a [Source],
+}
+
+/// What is explained, and the texts that it was made of.
+#[derive(Clone, Copy)]
+pub(crate) struct View<'a> {
+    pub(crate) alloc: Global,
+    pub(crate) explained: &'a Explained<'a>,
+    pub(crate) files: &'a Files<'a>,
+    pub(crate) texts: &'a Texts<'a>,
+}
+
+impl<'a> View<'a> {
+    /// What the run of the text of a job, or of the link after them, noted.
+    pub(crate) fn trace(&self, place: usize) -> Option<&'a Trace> {
+        match self.explained.traces.get(place) {
+            Some(Some(trace)) => Some(trace),
+            Some(None) | None => None,
+        }
+    }
+
+    /// The answer as lines.
+    fn lines(&self, asked: Asked<'_>) -> Result<Vec<u8>, AllocError> {
+        match asked {
+            Asked::Words => self.words_text(None),
+            Asked::Switches => self.switches_text(None),
+            Asked::Of(word) => self.words_text(Some(word)),
+            Asked::Not(word) => self.away_text(word),
+        }
+    }
+
+    /// The answer as JSON, and a newline at its end.
+    fn json(&self, asked: Asked<'_>) -> Result<Vec<u8>, AllocError> {
+        let mut out = Pretty::new(self.alloc);
+        match asked {
+            Asked::Words => self.put_commands(&mut out, None)?,
+            Asked::Switches => self.put_switches(&mut out)?,
+            Asked::Of(word) => self.put_commands(&mut out, Some(word))?,
+            Asked::Not(word) => self.put_away(&mut out, word)?,
+        }
+        let mut text = out.into_inner();
+        text.push(b'\n')?;
+        Ok(text)
+    }
+}
+
+/// The answer about a line and its plan, in a form. Words of a file that `%@` makes have no origin.
+pub fn answer(
+    alloc: Global,
+    report: Report,
+    asked: Asked<'_>,
+    explained: &Explained<'_>,
+) -> Result<Word, AllocError> {
+    let files = Files::new(alloc, explained.sources)?;
+    let mut texts = Texts::new(alloc, explained, &files)?;
+    if matches!(asked, Asked::Not(_)) {
+        texts.add_named(alloc, explained, &files)?;
+    }
+    let view = View {
+        alloc,
+        explained,
+        files: &files,
+        texts: &texts,
+    };
+    let text = match report {
+        Report::Lines => view.lines(asked)?,
+        Report::Json => view.json(asked)?,
+    };
+    Ok(Word::from_vec(text))
+}
