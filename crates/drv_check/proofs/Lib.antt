@@ -11,10 +11,7 @@ mod Judged
 mod LinesNumbered
 mod LoadedInOrder
 mod Lost
-mod MarkLaws
-mod MarkSteps
 mod Marks
-mod Namings
 mod OwnTrees
 mod PieceSteps
 mod PiecesChecked
@@ -22,7 +19,6 @@ mod PiecesRead
 mod RefusedFirst
 mod SpotLaws
 mod TextOrigins
-mod TextsReached
 mod TokenMarks
 mod Unreached
 mod UntilBad

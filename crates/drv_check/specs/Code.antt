@@ -1,4 +1,3 @@
 -- How the code reads and keeps what it checks. No public contract rests on these.
-pub mod Deeds
 pub mod OwnTrees
 pub mod Recovering

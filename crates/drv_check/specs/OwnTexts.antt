@@ -1,14 +1,12 @@
-use Rattle.drv_check.specs.MarkedParts.{is_star}
 use Rattle.drv_check.specs.Points.{body_start, is_addition}
 use Rattle.drv_specs.specs.Directives.{is_colon}
-use Rattle.drv_specs.specs.Sets.{is_no_text}
 use Rattle.drv_syntax.specs.Parsed.{tree_of}
 use Rattle.drv_syntax.specs.Tree.{Items, none}
 use Rattle.std.specs.List.{position}
-use Rattle.std.specs.Prelude.{◌+◌, ◌||◌, Bool, List, None, Option, Some, drop, if◌then◌else◌, not, slice_get, ℕ}
+use Rattle.std.specs.Prelude.{◌+◌, Bool, List, None, Option, Some, drop, if◌then◌else◌, ℕ}
 
 -- The text that a piece gives, read alone (GCC manual, "Spec Files"): its body, or what its body adds to a text.
--- For clauses of src/own_text.rt, src/run_texts.rt, src/marking.rt and src/naming.rt.
+-- For clauses of src/own_text.rt.
 
 -- how many bytes the + of an addition takes: they are not of its text
 abbrev pub plus_length : Bool → ℕ
@@ -32,7 +30,3 @@ tree_after (Some at) text = tree_of (own_text text)
 -- the tree of the text that a piece gives
 abbrev pub own_tree : List ℕ → Items
 own_tree text = tree_after (position is_colon text) text
-
--- whether a text with this head is run: the text of a pair isn't where it names a language, or a compiler that is not installed
-abbrev pub is_run : List ℕ → List ℕ → Bool
-is_run head text = is_star (slice_get head 0) || not (is_no_text text)

@@ -5,14 +5,12 @@ ghost use Rattle.drv_check.specs.Branches.{covers, names_all};
 ghost use Rattle.drv_check.specs.Checked.{checked};
 ghost use Rattle.drv_check.specs.Coverage.{is_true, pattern_of};
 ghost use Rattle.drv_check.specs.LoadingOrder.{loaded_pieces};
-ghost use Rattle.drv_check.specs.MarkWords.{Marked, marked_text};
 ghost use Rattle.drv_check.specs.Numbers.{AreRead};
 ghost use Rattle.drv_check.specs.Origins.{byte_at, spot_at, text_spots};
 ghost use Rattle.drv_check.specs.Pieces.{pieces_of};
 ghost use Rattle.drv_check.specs.declared.findings.Checking.{Checking};
 ghost use Rattle.drv_check.specs.declared.findings.Source.{Source};
 ghost use Rattle.drv_check.specs.declared.findings.Spot.{Spot};
-ghost use Rattle.drv_check.specs.declared.marking.MarkedPart.{MarkedPart};
 ghost use Rattle.drv_check.specs.declared.unused_text.Names.{Names};
 ghost use Rattle.drv_match.specs.Matching.{is_named};
 ghost use Rattle.drv_search.specs.Search.{prefixes_of};
@@ -65,12 +63,4 @@ pub fn spots_have_bytes()
     ensures { (sources : List Source) (head text : List ℕ) (n : ℕ) (spot : Spot)
         → spot_at (text_spots sources (loaded_pieces sources) head text) (length text) n ≡ Some spot
         → byte_at sources spot ≡ slice_get text n }
-{}
-
-/// The law that a dump with marks is that dump with marks between its bytes, as many as there are
-/// parts and numbered one after another. It takes and gives nothing.
-#[tactic(auto, using(crate::proofs::MarkLaws::marks_in_order))]
-pub fn marks_are_in_order()
-    ensures { (dump : List ℕ) (parts : List MarkedPart)
-        → Marked 0 (length parts) dump (marked_text dump parts) }
 {}

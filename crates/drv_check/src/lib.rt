@@ -47,20 +47,6 @@ pub use escaping::visible;
 pub use told::{Place, Report, Told, push_back, push_front, report_text};
 pub use told_json::report_json;
 
-// The texts of a set: which of them a plan can use, what in them names switches, and marks before their parts.
-mod compared;
-mod mark_reading;
-mod mark_words;
-mod marking;
-mod naming;
-mod reached;
-mod run_texts;
-
-pub use mark_words::marked_text;
-pub use marking::{Joint, MarkedPart, marked_parts};
-pub use naming::{Deed, Naming, namings_of};
-pub use reached::{Roots, reached_dump};
-
 // Which texts of two sets differ.
 mod differing;
 
@@ -70,6 +56,6 @@ pub use differing::texts_difference;
 mod laws;
 
 pub use laws::{
-    covered_tests_are_true, first_fault_is_refusal, marks_are_in_order, pieces_are_directives,
+    covered_tests_are_true, first_fault_is_refusal, pieces_are_directives,
     spots_have_bytes,
 };
