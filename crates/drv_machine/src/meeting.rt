@@ -89,6 +89,9 @@ impl<'a> Sight<'a> {
 
     /// Whether the test at a place is true; nothing where a function answers it.
     fn holds(&self, test: usize) -> Option<bool> {
+        if test >= self.text.tokens().len() {
+            return None;
+        }
         let pattern = self.pattern(test)?;
         let input = self.context.input();
         let holds = match self.text.asks(test) {
