@@ -56,6 +56,5 @@ pub use differing::texts_difference;
 mod laws;
 
 pub use laws::{
-    covered_tests_are_true, first_fault_is_refusal, pieces_are_directives,
-    spots_have_bytes,
+    covered_tests_are_true, first_fault_is_refusal, pieces_are_directives, spots_have_bytes,
 };

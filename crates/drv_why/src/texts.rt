@@ -4,7 +4,7 @@ use crate::answering::Explained;
 use crate::files::{Files, Place};
 use crate::parts::Extent;
 use drv_args::Input;
-use drv_check::{Spots, spot_at, spots_of};
+use drv_check::{Spot, spot_at, spots_of};
 use drv_machine::Trace;
 use drv_plan::{Chosen, PlanFault, language};
 use drv_specs::SpecSet;
@@ -21,7 +21,7 @@ pub(crate) struct Known<'a> {
     /// What precedes the colon where a file puts it, as `*cc1` or `.c`.
     pub(crate) head: Word,
     pub(crate) tree: &'a SpecTree,
-    spots: Spots<'a>,
+    spots: Vec<Spot>,
     /// Where another one names it, if it was not run.
     pub(crate) from: Option<Naming>,
 }
@@ -265,7 +265,7 @@ impl<'a> Known<'a> {
     pub(crate) fn part(&'a self, files: &'a Files<'a>, extent: Extent) -> Part<'a> {
         let bytes = self.tree.text();
         let written = bytes.get(extent.start..extent.end).unwrap_or(&[]);
-        let place = match spot_at(&self.spots, bytes.len(), extent.start) {
+        let place = match spot_at(self.spots.as_slice(), bytes.len(), extent.start) {
             Some(spot) => files.place(spot),
             None => None,
         };
