@@ -4,7 +4,7 @@ use Rattle.drv_cc.specs.declared.answer.Surroundings.{Surroundings}
 use Rattle.drv_compile.specs.Beside.{given_by, file_of_variable, spec_file, written_beside}
 use Rattle.drv_compile.specs.Compilers.{values}
 use Rattle.drv_compile.specs.Decides.{copies_of, decide, decided_around, decided_by, decided_over, decided_with, first_of, of_reading}
-use Rattle.drv_compile.specs.Decides.{surroundings}
+use Rattle.drv_compile.specs.Decides.{children_of, surroundings}
 use Rattle.drv_compile.specs.Parts.{texts_at, texts_of}
 use Rattle.drv_compile.specs.Places.{part_or_whole, texts_for}
 use Rattle.drv_compile.specs.Reading.{line_read}
@@ -75,7 +75,7 @@ compiler_given F specs words text lent compiler around programs libraries (Ok de
 
 -- For `decided_by` too: the surroundings that the code makes are those of the text.
 pub surrounded : (specs slice text compiler : List ℕ) (folders copies children : List (List ℕ)) (programs libraries : Option (List ℕ))
-    → slice ≡ specs → folders ≡ values (codes "folder ") text → copies ≡ copies_of slice text → children ≡ values (codes "child ") text
+    → slice ≡ specs → folders ≡ values (codes "folder ") text → copies ≡ copies_of slice text → children ≡ children_of text
     → record {
       compiler = compiler;
       folders = folders;

@@ -1,6 +1,5 @@
 pub mod Absent
 pub mod Begun
-pub mod ChildTexts
 pub mod CutLines
 pub mod Decided
 pub mod Done

@@ -9,7 +9,7 @@ use Rattle.drv_compile.specs.declared.deciding.SpecFile.{SpecFile}
 use Rattle.drv_compile.specs.declared.reading.Reading.{Reading}
 use Rattle.drv_system.specs.Facts.{Facts, variable_of}
 use Rattle.drv_system.specs.Known.{◌>>=◌, Is, Known, asked}
-use Rattle.std.specs.Prelude.{List, [], ◌∷◌, None, Option, Some, codes, map, ℕ}
+use Rattle.std.specs.Prelude.{List, [], ◌∷◌, ◌++◌, None, Option, Some, codes, map, ℕ}
 
 -- What the words of a line ask for, over the spec file of the call and the files beside it (this project's profile). One set of facts
 -- answers all questions; which are asked follows from what was answered before.
@@ -28,8 +28,12 @@ decided_around F file words around = line_read F file.path around words >>= λ r
 abbrev pub copies_of : List ℕ → List ℕ → List (List ℕ)
 copies_of specs text = map (companion specs) (values (codes "copies ") text)
 
+-- what the compiler gives its children: a line `child` has one thing. The words of the line's row follow them all
+abbrev pub children_of : List ℕ → List (List ℕ)
+children_of text = values (codes "child ") text ++ codes "\t\t--gdrv-row" ∷ []
+
 -- what a line is read in: the first compiler that the file names, what it says of that, and the two variables with paths. A line `folder`
--- has a folder of the compiler, and a line `child` what it gives its children
+-- has a folder of the compiler
 abbrev pub surroundings : List ℕ → List ℕ → List ℕ → Option (List ℕ) → Option (List ℕ) → Surroundings
 surroundings specs text compiler programs libraries =
     record {
@@ -38,7 +42,7 @@ surroundings specs text compiler programs libraries =
       copies = copies_of specs text;
       compiler_path = programs;
       library_path = libraries;
-      children = values (codes "child ") text;
+      children = children_of text;
     }
 
 -- the first of several values, if there is any

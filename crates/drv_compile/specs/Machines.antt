@@ -1,3 +1,5 @@
+use Rattle.bstr.specs.Find.{matches}
+use Rattle.bstr.specs.Text.{replaced_at}
 use Rattle.drv_args.specs.declared.items.Item.{Item}
 use Rattle.drv_args.specs.declared.option_table.Effect.TheVariants as effect
 use Rattle.drv_cc.specs.LineItems.{alone, item_of}
@@ -14,9 +16,9 @@ use Rattle.drv_compile.specs.declared.machines.MachineItems.{MachineItems}
 use Rattle.drv_words.specs.Bytes as byte
 use Rattle.drv_words.specs.Response.{marked}
 use Rattle.std.specs.Cmp.Lexicographic.{pointwise}
-use Rattle.std.specs.List.{flat_map, slice_split, starts_with}
-use Rattle.std.specs.Prelude.{◌≡◌, ◌==◌, ◌||◌, Bool, List, [], ◌∷◌, ◌++◌, None, Option, Some, codes, drop, if◌then◌else◌, length}
-use Rattle.std.specs.Prelude.{map, nat_eq, ℕ}
+use Rattle.std.specs.List.{flat_map, list_any, slice_split, starts_with}
+use Rattle.std.specs.Prelude.{◌≡◌, ◌==◌, ◌&&◌, ◌||◌, Bool, List, [], ◌∷◌, ◌++◌, None, Option, Some, codes, drop, if◌then◌else◌, length}
+use Rattle.std.specs.Prelude.{map, nat_eq, not, ℕ}
 
 -- The options of a line that choose its machine, and the words that gcc makes of them (GCC, "gcc.cc", DRIVER_SELF_SPECS and
 -- OPTION_DEFAULT_SPECS, set_multilib_dir; in no dump). The file beside the spec file may have rows: `machine`, these options with a blank
@@ -77,9 +79,13 @@ abbrev pub word_items : List ℕ → List Item
 word_items [] = []
 word_items (b ∷ word) = word_item (b ∷ word) ∷ []
 
--- the items of a row: its words have a tab between two
+-- the words of a row: there is a tab between two
+abbrev pub row_words : List ℕ → List (List ℕ)
+row_words row = slice_split (λ b. b == byte.tab) row
+
+-- the items of a row
 abbrev pub row_items : List ℕ → List Item
-row_items row = flat_map word_items (slice_split (λ b. b == byte.tab) row)
+row_items row = flat_map word_items (row_words row)
 
 -- what of a line is for no machine
 abbrev pub plain_item : Item → List Item
@@ -89,51 +95,61 @@ plain_item i = if is_machine i.option then [] else i ∷ []
 abbrev pub plain_items : List Item → List Item
 plain_items items = flat_map plain_item items
 
--- The children of a link get the line again, in COLLECT_GCC_OPTIONS (GCC, "gcc.cc", set_collect_gcc_options): there too the words of the
--- row are in the place of the line's options for the machine, behind the others. Options for a machine have no quotes.
+-- The children get the line again, in COLLECT_GCC_OPTIONS (GCC, "gcc.cc", set_collect_gcc_options). There an option for the machine stays
+-- in its place if the row has it too. The row's other words are where the compiler adds its own. Options for a machine have no quotes.
 
 -- a word as COLLECT_GCC_OPTIONS has it, after a blank
 abbrev pub quoted_word : List ℕ → List ℕ
 quoted_word word = codes " '" ++ word ++ codes "'"
 
--- a text without a part, at the first place where that is
-abbrev pub without : List ℕ → List ℕ → List ℕ
-without part [] = []
-without part (b ∷ text) = if starts_with nat_eq (b ∷ text) part then drop (length part) (b ∷ text) else b ∷ without part text
+-- a text with another one wherever it has this part
+abbrev pub replaced : List ℕ → List ℕ → List ℕ → List ℕ
+replaced text part other = replaced_at text (length part) other 0 (matches text part 0)
 
--- a text without a word of it, if that is an option for the machine
-abbrev pub without_option : Item → List ℕ → List ℕ
-without_option i text = if is_machine i.option then without (quoted_word (i.option ++ i.argument)) text else text
+-- whether a word is that of an item
+abbrev pub is_word : Item → List ℕ → Bool
+is_word i word = starts_with nat_eq word i.option && pointwise nat_eq (drop (length i.option) word) i.argument
 
--- a text without the options of a line for its machine
-abbrev pub without_options : List Item → List ℕ → List ℕ
-without_options [] text = text
-without_options (i ∷ items) text = without_options items (without_option i text)
+-- whether the row takes away an option for the machine: it isn't among the row's words
+abbrev pub goes : List ℕ → Item → Bool
+goes row i = is_machine i.option && not (list_any (is_word i) (row_words row))
+
+-- a text without an option that the row takes away
+abbrev pub without_option : List ℕ → Item → List ℕ → List ℕ
+without_option row i text = if goes row i then replaced text (quoted_word (i.option ++ i.argument)) [] else text
+
+-- a text without the options of a line that the row takes away
+abbrev pub without_options : List ℕ → List Item → List ℕ → List ℕ
+without_options row [] text = text
+without_options row (i ∷ items) text = without_options row items (without_option row i text)
 
 -- how a word of a row begins that is for the children alone: the spec file of a device
 abbrev pub child_option : List ℕ
 child_option = codes "--gdrv-child="
 
--- a word of a row for the children: they know none of this driver's own
-abbrev pub child_word : List ℕ → List ℕ
-child_word [] = []
-child_word (b ∷ word) =
+-- whether a word of a row isn't added for the children: they know none of this driver's own, and the line may have it already
+abbrev pub is_left_out : List Item → List ℕ → Bool
+is_left_out items word = starts_with nat_eq word (codes "--gdrv-") || list_any (λ i. is_word i word) items
+
+-- a word of a row for the children
+abbrev pub child_word : List Item → List ℕ → List ℕ
+child_word items [] = []
+child_word items (b ∷ word) =
     if starts_with nat_eq (b ∷ word) child_option then quoted_word (drop (length child_option) (b ∷ word))
-    else if starts_with nat_eq (b ∷ word) (codes "--gdrv-") then [] else quoted_word (b ∷ word)
+    else if is_left_out items (b ∷ word) then [] else quoted_word (b ∷ word)
 
 -- the words of a row for the children
-abbrev pub child_words : List ℕ → List ℕ
-child_words row = flat_map child_word (slice_split (λ b. b == byte.tab) row)
+abbrev pub child_words : List Item → List ℕ → List ℕ
+child_words items row = flat_map (child_word items) (row_words row)
 
--- words in a text before the word -dumpdir, which gcc's driver adds last, or behind all
-abbrev pub with_words : List ℕ → List ℕ → List ℕ
-with_words words [] = words
-with_words words (b ∷ text) =
-    if starts_with nat_eq (b ∷ text) (codes " '-dumpdir' '") then words ++ b ∷ text else b ∷ with_words words text
+-- what is in the place of the row's words: an option, as a line `child` gives it
+abbrev pub row_place : List ℕ
+row_place = codes " '--gdrv-row'"
 
 -- a line's switches for the children, by its row
 abbrev pub child_line : List Item → List ℕ → List ℕ → List ℕ
-child_line items row text = drop 1 (with_words (child_words row) (without_options items (byte.space ∷ text)))
+child_line items row text =
+    drop 1 (replaced (without_options row items (byte.space ∷ text)) row_place (child_words items row))
 
 -- a variable of the children, by the row of the line
 abbrev pub child_variable : List Item → List ℕ → Variable → Variable
@@ -170,8 +186,8 @@ pub data RowAsked (specs : List ℕ) (rows : Option (List ℕ)) (items : List It
   answered : {key answer : List ℕ} → row_of rows items ≡ Missing key
       → RowAsked specs rows items (Worded specs (drop 1 key) answer ∷ []) (row_among answer key)
 
--- the items of a line and the variables of its children by its row; where no line needs one, they stay
+-- the items of a line and the variables of its children by its row; where no line needs one, the items stay
 abbrev pub items_by : LineRow → List Item → List Variable → MachineItems
-items_by Unneeded items children = Made items children
+items_by Unneeded items children = Made items (map (child_variable [] []) children)
 items_by (Found row) items children = Made (row_items row ++ plain_items items) (map (child_variable items row) children)
 items_by (Missing key) items children = Lacks (drop 1 key)

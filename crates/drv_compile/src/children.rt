@@ -1,11 +1,14 @@
-//! The switches of a line for the children of its link, by the row for its machine.
+//! The switches of a line for its children, with the words of the row for its machine.
 
-ghost use Rattle.drv_compile.specs.Machines.{child_word, child_variable, child_words, child_line, quoted_word};
-ghost use Rattle.drv_compile.specs.Machines.{with_words, without, without_option, without_options};
+ghost use Rattle.drv_compile.specs.Machines.{child_line, child_variable, child_word, child_words};
+ghost use Rattle.drv_compile.specs.Machines.{goes, is_left_out, is_word, quoted_word, replaced};
+ghost use Rattle.drv_compile.specs.Machines.{row_words, without_option, without_options};
+ghost use Rattle.std.specs.List.{list_any};
 ghost use Rattle.std.specs.Prelude.{◌≡◌, ◌++◌, IfOk, OnOk, map};
 
 use crate::compilers::rest_of;
-use crate::machines::is_machine;
+use crate::machines::{is_machine, options_of};
+use bstr::ByteSlice;
 use drv_args::Item;
 use drv_cc::Variable;
 use drv_words::{Listing, Word};
@@ -20,45 +23,78 @@ fn push_quoted(text: &mut Word, word: &[u8]) -> Result<(), AllocError>
     text.extend_from_slice(b"'")
 }
 
-/// A text without a part, at the first place where that is.
-#[tactic(auto, using(crate::proofs::ChildTexts::part_here, crate::proofs::ChildTexts::byte_stays))]
-fn without(alloc: Global, text: &[u8], part: &[u8]) -> Result<Word, AllocError>
-    ensures { IfOk result (λ made. made ≡ without part.now text.now) }
+/// A text with another one wherever it has this part.
+fn replaced(alloc: Global, text: &[u8], part: &[u8], other: &[u8]) -> Result<Word, AllocError>
+    ensures { IfOk result (λ made. made ≡ replaced text.now part.now other.now) }
 {
-    let mut made = Word::empty(alloc);
-    let mut left = text;
-    while let [byte, rest @ ..] = left {
-        if left.starts_with(part) {
-            made.extend_from_slice(rest_of(part, left))?;
-            return Ok(made);
-        }
-        made.push(*byte)?;
-        left = rest;
-    }
-    Ok(made)
+    let bytes = text.replace(alloc, part, other)?;
+    Ok(Word::from_vec(bytes))
 }
 
-/// A text without a word of it, if that is an option for the machine.
-fn without_option(alloc: Global, item: &Item, text: Word) -> Result<Word, AllocError>
-    ensures { IfOk result (λ made. made ≡ without_option item.now text) }
+/// Whether a word is that of an item.
+fn is_word(item: &Item, word: &[u8]) -> bool
+    ensures { result ≡ is_word item.now word.now }
 {
-    if !is_machine(item.option.as_bytes()) {
+    let option = item.option.as_bytes();
+    word.starts_with(option) && rest_of(option, word) == item.argument.as_bytes()
+}
+
+/// Whether a row has the word of an item.
+fn has_word(row: &[u8], item: &Item) -> bool
+    ensures { result ≡ list_any (is_word item.now) (row_words row.now) }
+{
+    row.split(|byte| *byte == b'\t')
+        .any(|word| is_word(item, word))
+}
+
+/// Whether a line has a word.
+fn is_given(items: &[Item], word: &[u8]) -> bool
+    ensures { result ≡ list_any (λ i. is_word i word.now) items.now }
+{
+    items.iter().any(|item| is_word(item, word))
+}
+
+/// Whether a word of a row isn't added for the children: it is one of this driver's own, or the line
+/// has it already.
+fn is_left_out(items: &[Item], word: &[u8]) -> bool
+    ensures { result ≡ is_left_out items.now word.now }
+{
+    word.starts_with(b"--gdrv-") || is_given(items, word)
+}
+
+/// Whether the row takes away an option for the machine.
+fn goes(row: &[u8], item: &Item) -> bool
+    ensures { result ≡ goes row.now item.now }
+{
+    is_machine(item.option.as_bytes()) && !has_word(row, item)
+}
+
+/// A text without an option that the row takes away.
+fn without_option(alloc: Global, row: &[u8], item: &Item, text: Word) -> Result<Word, AllocError>
+    ensures { IfOk result (λ made. made ≡ without_option row.now item.now text) }
+{
+    if !goes(row, item) {
         return Ok(text);
     }
     let mut word = item.option.clone()?;
     word.extend_from_slice(item.argument.as_bytes())?;
     let mut quoted = Word::empty(alloc);
     push_quoted(&mut quoted, word.as_bytes())?;
-    without(alloc, text.as_bytes(), quoted.as_bytes())
+    replaced(alloc, text.as_bytes(), quoted.as_bytes(), b"")
 }
 
-/// A text without the options of a line for its machine.
-fn without_options(alloc: Global, items: &[Item], text: Word) -> Result<Word, AllocError>
-    ensures { IfOk result (λ made. made ≡ without_options items.now text) }
+/// A text without the options of a line that the row takes away.
+fn without_options(
+    alloc: Global,
+    row: &[u8],
+    items: &[Item],
+    text: Word,
+) -> Result<Word, AllocError>
+    ensures { IfOk result (λ made. made ≡ without_options row.now items.now text) }
 {
     let mut left = text;
     for item in items {
-        left = without_option(alloc, item, left)?;
+        left = without_option(alloc, row, item, left)?;
     }
     Ok(left)
 }
@@ -66,13 +102,13 @@ fn without_options(alloc: Global, items: &[Item], text: Word) -> Result<Word, Al
 /// How the word of a row begins that is for the children alone.
 const CHILD: &[u8] = b"--gdrv-child=";
 
-/// Adds a word of a row, unless it is one of this driver's own.
-fn push_child_word(text: &mut Word, word: &[u8]) -> Result<(), AllocError>
-    ensures { OnOk result (text.new ≡ text.old ++ child_word word.now) }
+/// Adds a word of a row for the children.
+fn push_child_word(items: &[Item], text: &mut Word, word: &[u8]) -> Result<(), AllocError>
+    ensures { OnOk result (text.new ≡ text.old ++ child_word items.now word.now) }
 {
     if word.starts_with(CHILD) {
         push_quoted(text, rest_of(CHILD, word))
-    } else if word.is_empty() || word.starts_with(b"--gdrv-") {
+    } else if word.is_empty() || is_left_out(items, word) {
         Ok(())
     } else {
         push_quoted(text, word)
@@ -80,37 +116,14 @@ fn push_child_word(text: &mut Word, word: &[u8]) -> Result<(), AllocError>
 }
 
 /// The words of a row for the children.
-fn child_words(alloc: Global, row: &[u8]) -> Result<Word, AllocError>
-    ensures { IfOk result (λ words. words ≡ child_words row.now) }
+fn child_words(alloc: Global, items: &[Item], row: &[u8]) -> Result<Word, AllocError>
+    ensures { IfOk result (λ words. words ≡ child_words items.now row.now) }
 {
     let mut words = Word::empty(alloc);
     for word in row.split(|byte| *byte == b'\t') {
-        push_child_word(&mut words, word)?;
+        push_child_word(items, &mut words, word)?;
     }
     Ok(words)
-}
-
-/// The word before which the words of a row are: the driver says last where dumps go.
-const LAST: &[u8] = b" '-dumpdir' '";
-
-/// A text with words before that word, or behind all.
-#[tactic(auto, using(crate::proofs::ChildTexts::words_here, crate::proofs::ChildTexts::byte_before))]
-fn with_words(alloc: Global, text: &[u8], words: &[u8]) -> Result<Word, AllocError>
-    ensures { IfOk result (λ made. made ≡ with_words words.now text.now) }
-{
-    let mut made = Word::empty(alloc);
-    let mut left = text;
-    while let [byte, rest @ ..] = left {
-        if left.starts_with(LAST) {
-            made.extend_from_slice(words)?;
-            made.extend_from_slice(left)?;
-            return Ok(made);
-        }
-        made.push(*byte)?;
-        left = rest;
-    }
-    made.extend_from_slice(words)?;
-    Ok(made)
 }
 
 /// The switches of a line for the children, by its row.
@@ -119,10 +132,10 @@ fn child_line(alloc: Global, items: &[Item], row: &[u8], text: &[u8]) -> Result<
 {
     let mut spaced = Word::from_bytes(alloc, b" ")?;
     spaced.extend_from_slice(text)?;
-    let others = without_options(alloc, items, spaced)?;
-    let words = child_words(alloc, row)?;
-    let line = with_words(alloc, others.as_bytes(), words.as_bytes())?;
-    Word::from_bytes(alloc, line.as_bytes().get(1..).unwrap_or(&[]))
+    let left = without_options(alloc, row, items, spaced)?;
+    let words = child_words(alloc, items, row)?;
+    let line = replaced(alloc, left.as_bytes(), b" '--gdrv-row'", words.as_bytes())?;
+    options_of(alloc, line.as_bytes())
 }
 
 /// A variable of the children, by the row of the line.

@@ -3,9 +3,8 @@
 // In clauses: `Asked` says that a call only asked, and that the table has the answers. `Tells` says
 // that a result is that of a definition, by any facts that extend what is known.
 ghost use Rattle.drv_compile.specs.Compilers.{values};
-ghost use Rattle.drv_compile.specs.Decides.{copies_of, decide, decided_around, decided_over};
-ghost use Rattle.drv_compile.specs.Decides.{decided_with};
-ghost use Rattle.drv_compile.specs.Decides.{of_reading};
+ghost use Rattle.drv_compile.specs.Decides.{children_of, copies_of, decide, decided_around};
+ghost use Rattle.drv_compile.specs.Decides.{decided_over, decided_with, of_reading};
 ghost use Rattle.drv_search.specs.Code.Telling.{Tells};
 ghost use Rattle.drv_system.specs.Code.Asked.{Asked};
 ghost use Rattle.drv_system.specs.Facts.{variable_of};
@@ -121,6 +120,15 @@ fn copies_of(alloc: Global, specs: &[u8], text: &[u8]) -> Result<Listing<Word>, 
     Ok(copies)
 }
 
+/// What a compiler gives its children by a text about it, and last the place of a row's words.
+fn children_of(alloc: Global, text: &[u8]) -> Result<Listing<Word>, AllocError>
+    ensures { IfOk result (λ children. children ≡ children_of text.now) }
+{
+    let mut children = values(alloc, b"child ", text)?;
+    children.push(Word::from_bytes(alloc, b"\t\t--gdrv-row")?)?;
+    Ok(children)
+}
+
 /// The decision by the compiler that a text names, if it names one.
 #[tactic(auto, using(drv_system::proofs::AskedCalls::asked_further))]
 fn decided_by<S: System>(
@@ -141,7 +149,7 @@ fn decided_by<S: System>(
     };
     let folders = values(alloc, b"folder ", text)?;
     let copies = copies_of(alloc, path.as_bytes(), text)?;
-    let children = values(alloc, b"child ", text)?;
+    let children = children_of(alloc, text)?;
     let compiler_path = variable(alloc, b"COMPILER_PATH", outside)?;
     let library_path = variable(alloc, b"LIBRARY_PATH", outside)?;
     let around = Surroundings {

@@ -209,7 +209,7 @@ fn push_all_plain(items: &[Item], plain: &mut Listing<Item>) -> Result<(), Alloc
     Ok(())
 }
 
-/// The options of a key, without the blank before them.
+/// The options of a key or of a line, without the blank before them.
 pub(crate) fn options_of(alloc: Global, key: &[u8]) -> Result<Word, AllocError>
     ensures { IfOk result (λ options. options ≡ drop 1 key.now) }
 {
@@ -279,8 +279,8 @@ fn with_row(
     Ok(MachineItems::Made(Listing::from_vec(made), told))
 }
 
-/// The items of a line and the variables of its children by its row. Where no line needs one, they
-/// stay.
+/// The items of a line and the variables of its children by its row. Where no line needs one, the
+/// items stay.
 pub(crate) fn items_by(
     alloc: Global,
     row: LineRow,
@@ -290,7 +290,10 @@ pub(crate) fn items_by(
     ensures { IfOk result (λ made. made ≡ items_by row items children) }
 {
     match row {
-        LineRow::Unneeded => Ok(MachineItems::Made(items, children)),
+        LineRow::Unneeded => {
+            let told = child_variables(alloc, &[], b"", children.as_slice())?;
+            Ok(MachineItems::Made(items, told))
+        }
         LineRow::Found(row) => with_row(
             alloc,
             row.as_bytes(),

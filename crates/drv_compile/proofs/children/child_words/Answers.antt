@@ -16,4 +16,4 @@ returns c =
     (ap split_done given.into_iter_gives ∙ made.done) (ap split_callee given.into_iter_gives ∙ made.closure)
     (λ x b q k. search (rules, tests)))
     c.loop-word.yielded _ c.loop-word.yielded_by _ _ c.in-None.is c.next.ensures.steps in
-    c.loop-word.invariant ∙ ap (flat_map child_word) all.0
+    c.loop-word.invariant ∙ ap (flat_map (child_word c.args.items.now)) all.0

@@ -3,4 +3,4 @@ use Rattle.drv_compile.specs.Machines.{without_options}
 use Rattle.std.proofs.Common.{◌≡◌, drop}
 
 abbrev pub invariant-loop-item : goal.invariant-loop-item
-invariant-loop-item l = without_options (drop l.item-index l.items) l.left ≡ without_options l.items l.fn.text
+invariant-loop-item l = without_options l.row (drop l.item-index l.items) l.left ≡ without_options l.row l.items l.fn.text
