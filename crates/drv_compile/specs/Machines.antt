@@ -16,7 +16,7 @@ use Rattle.drv_compile.specs.declared.machines.MachineItems.{MachineItems}
 use Rattle.drv_words.specs.Bytes as byte
 use Rattle.drv_words.specs.Response.{marked}
 use Rattle.std.specs.Cmp.Lexicographic.{pointwise}
-use Rattle.std.specs.List.{flat_map, list_any, slice_split, starts_with}
+use Rattle.std.specs.List.{filter, flat_map, list_any, slice_split, starts_with}
 use Rattle.std.specs.Prelude.{◌≡◌, ◌==◌, ◌&&◌, ◌||◌, Bool, List, [], ◌∷◌, ◌++◌, None, Option, Some, codes, drop, if◌then◌else◌, length}
 use Rattle.std.specs.Prelude.{map, nat_eq, not, ℕ}
 
@@ -87,13 +87,9 @@ row_words row = slice_split (λ b. b == byte.tab) row
 abbrev pub row_items : List ℕ → List Item
 row_items row = flat_map word_items (row_words row)
 
--- what of a line is for no machine
-abbrev pub plain_item : Item → List Item
-plain_item i = if is_machine i.option then [] else i ∷ []
-
 -- the items of a line without its options for the machine, whose place the row's words take
 abbrev pub plain_items : List Item → List Item
-plain_items items = flat_map plain_item items
+plain_items items = filter (λ i. not (is_machine i.option)) items
 
 -- The children get the line again, in COLLECT_GCC_OPTIONS (GCC, "gcc.cc", set_collect_gcc_options). There an option for the machine stays
 -- in its place if the row has it too. The row's other words are where the compiler adds its own. Options for a machine have no quotes.

@@ -7,8 +7,8 @@ use Rattle.drv_compile.specs.Compilers.{values}
 use Rattle.drv_compile.specs.Decides.{first_of}
 use Rattle.drv_words.specs.Bytes as byte
 use Rattle.drv_words.specs.FileNames.{base}
-use Rattle.std.specs.List.{flat_map, list_any}
-use Rattle.std.specs.Prelude.{◌==◌, Bool, List, [], ◌∷◌, ◌++◌, None, Option, Some, codes, if◌then◌else◌, ℕ}
+use Rattle.std.specs.List.{list_any}
+use Rattle.std.specs.Prelude.{◌==◌, Bool, List, [], ◌∷◌, ◌++◌, None, Option, Some, codes, if◌then◌else◌, map, ℕ}
 
 -- The name of a program that a line links: with the machine's suffix of programs, if it has none (GCC, "gcc.cc", convert_filename). The
 -- file beside the spec file may have a line `suffix .exe`.
@@ -36,8 +36,8 @@ abbrev pub argument_of : List ℕ → Item → List ℕ
 argument_of suffix i = argument_by i.effect suffix i.argument
 
 -- an item whose output has the suffix
-abbrev pub with_suffix : List ℕ → Item → List Item
-with_suffix suffix i = record i { argument = argument_of suffix i } ∷ []
+abbrev pub with_suffix : List ℕ → Item → Item
+with_suffix suffix i = record i { argument = argument_of suffix i }
 
 -- the options by which nothing is linked, as that function counts them
 abbrev pub is_unlinked : Item → Bool
@@ -45,7 +45,7 @@ is_unlinked i = is_among (texts (codes "-c -S -E")) i.option
 
 -- the items of a line that links, with the suffix at their output; other lines stay as they are
 abbrev pub suffixed_items : List ℕ → List Item → List Item
-suffixed_items suffix items = if list_any is_unlinked items then items else flat_map (with_suffix suffix) items
+suffixed_items suffix items = if list_any is_unlinked items then items else map (with_suffix suffix) items
 
 -- the items of a line by the suffix that a file names, if it names one
 abbrev pub suffixed_if : Option (List ℕ) → List Item → List Item

@@ -2,7 +2,7 @@
 
 ghost use Rattle.drv_compile.specs.Machines.{chooser_word, chooser_words};
 ghost use Rattle.drv_compile.specs.Machines.{folder_item, is_machine, key_of, key_word};
-ghost use Rattle.drv_compile.specs.Machines.{found_or_missing, items_by, plain_item, row_among};
+ghost use Rattle.drv_compile.specs.Machines.{found_or_missing, items_by, plain_items, row_among};
 ghost use Rattle.drv_compile.specs.Machines.{row_beginning, row_in, row_items, row_of, word_item};
 ghost use Rattle.drv_compile.specs.Machines.{word_items};
 ghost use Rattle.drv_compile.specs.Suffixes.{suffixed_by};
@@ -178,35 +178,13 @@ fn row_items(alloc: Global, row: &[u8]) -> Result<Listing<Item>, AllocError>
     Ok(items)
 }
 
-/// An item with another argument.
-pub(crate) fn with_argument(item: &Item, argument: Word) -> Result<Item, AllocError>
-    ensures { IfOk result (λ made. made ≡ record item.now { argument = argument }) }
+/// The items that are for no machine.
+fn plain_items(items: Listing<Item>) -> Listing<Item>
+    ensures { result ≡ plain_items items }
 {
-    Ok(Item {
-        effect: item.effect,
-        option: item.option.clone()?,
-        argument,
-    })
-}
-
-/// Adds an item that is for no machine.
-fn push_plain(item: &Item, items: &mut Listing<Item>) -> Result<(), AllocError>
-    ensures { OnOk result (items.new ≡ items.old ++ plain_item item.now) }
-{
-    if !is_machine(item.option.as_bytes()) {
-        items.push(with_argument(item, item.argument.clone()?)?)?;
-    }
-    Ok(())
-}
-
-/// Adds the items that are for no machine.
-fn push_all_plain(items: &[Item], plain: &mut Listing<Item>) -> Result<(), AllocError>
-    ensures { OnOk result (plain.new ≡ plain.old ++ flat_map plain_item items.now) }
-{
-    for item in items {
-        push_plain(item, plain)?;
-    }
-    Ok(())
+    let mut plain = items.into_vec();
+    plain.retain(|item| !is_machine(item.option.as_bytes()));
+    Listing::from_vec(plain)
 }
 
 /// The options of a key or of a line, without the blank before them.
@@ -265,17 +243,14 @@ pub(crate) fn row_of(
 fn with_row(
     alloc: Global,
     row: &[u8],
-    items: &[Item],
+    items: Listing<Item>,
     children: &[Variable],
 ) -> Result<MachineItems, AllocError>
-    ensures { IfOk result (λ made. made ≡ items_by (Found row.now) items.now children.now) }
+    ensures { IfOk result (λ made. made ≡ items_by (Found row.now) items children.now) }
 {
-    let mut plain = Listing::new(alloc);
-    push_all_plain(items, &mut plain)?;
-    let words = row_items(alloc, row)?;
-    let told = child_variables(alloc, items, row, children)?;
-    let mut made = words.into_vec();
-    made.append(&mut plain.into_vec())?;
+    let told = child_variables(alloc, items.as_slice(), row, children)?;
+    let mut made = row_items(alloc, row)?.into_vec();
+    made.append(&mut plain_items(items).into_vec())?;
     Ok(MachineItems::Made(Listing::from_vec(made), told))
 }
 
@@ -294,12 +269,7 @@ pub(crate) fn items_by(
             let told = child_variables(alloc, &[], b"", children.as_slice())?;
             Ok(MachineItems::Made(items, told))
         }
-        LineRow::Found(row) => with_row(
-            alloc,
-            row.as_bytes(),
-            items.as_slice(),
-            children.as_slice(),
-        ),
+        LineRow::Found(row) => with_row(alloc, row.as_bytes(), items, children.as_slice()),
         LineRow::Missing(key) => {
             let options = options_of(alloc, key.as_bytes())?;
             Ok(MachineItems::Lacks(options))

@@ -3,12 +3,11 @@
 ghost use Rattle.drv_compile.specs.Suffixes.{argument_of, has_dot, is_no_file, is_unlinked};
 ghost use Rattle.drv_compile.specs.Suffixes.{name_with_suffix};
 ghost use Rattle.drv_compile.specs.Suffixes.{suffixed_by, suffixed_items, with_suffix};
-ghost use Rattle.std.specs.List.{flat_map, list_any};
+ghost use Rattle.std.specs.List.{list_any};
 ghost use Rattle.std.specs.Option.{option_copied};
-ghost use Rattle.std.specs.Prelude.{◌≡◌, ◌++◌, IfOk, OnOk};
+ghost use Rattle.std.specs.Prelude.{◌≡◌, IfOk};
 
 use crate::compilers::first_value;
-use crate::machines::with_argument;
 use drv_args::{Effect, Item};
 use drv_words::{Listing, Word, base};
 use std::alloc::{AllocError, Global};
@@ -63,26 +62,15 @@ fn are_unlinked(items: &[Item]) -> bool
     items.iter().any(is_unlinked)
 }
 
-/// Adds an item with this argument.
-fn push_suffixed(item: &Item, suffix: &[u8], made: &mut Listing<Item>) -> Result<(), AllocError>
-    ensures { OnOk result (made.new ≡ made.old ++ with_suffix suffix.now item.now) }
+/// An item, if it names the output with a suffix there.
+fn with_suffix(item: &Item, suffix: &[u8]) -> Result<Item, AllocError>
+    ensures { IfOk result (λ made. made ≡ with_suffix suffix.now item.now) }
 {
-    made.push(with_argument(item, argument_of(item, suffix)?)?)?;
-    Ok(())
-}
-
-/// Adds the items of a line, the name of a program with this suffix.
-fn push_all_suffixed(
-    items: &[Item],
-    suffix: &[u8],
-    made: &mut Listing<Item>,
-) -> Result<(), AllocError>
-    ensures { OnOk result (made.new ≡ made.old ++ flat_map (with_suffix suffix.now) items.now) }
-{
-    for item in items {
-        push_suffixed(item, suffix, made)?;
-    }
-    Ok(())
+    Ok(Item {
+        effect: item.effect,
+        option: item.option.clone()?,
+        argument: argument_of(item, suffix)?,
+    })
 }
 
 /// The items of a line, the name of the program that it links with this suffix.
@@ -97,7 +85,9 @@ fn suffixed_items(
         return Ok(items);
     }
     let mut made = Listing::new(alloc);
-    push_all_suffixed(items.as_slice(), suffix, &mut made)?;
+    for item in items.as_slice() {
+        made.push(with_suffix(item, suffix)?)?;
+    }
     Ok(made)
 }
 
