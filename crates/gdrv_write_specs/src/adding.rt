@@ -1,14 +1,13 @@
 //! The words for options of a machine are added beside a spec file, or printed.
 
-use crate::asking::{joined, text};
+use crate::asking::{Gcc, text};
 use crate::cache::{keep_row, kept_row};
-use crate::checking::Pair;
 use crate::choosing::{key_by, misfit_in};
 use crate::fault::Fault;
-use crate::names::sort_lines;
 use crate::natives::with_natives;
 use crate::placing::{driver_at, stem_of};
 use crate::rows::{Row, push_names, push_row, row_of};
+use crate::texts::{joined, lines_of, sorted_lines};
 use crate::work_folder::{WorkFolder, join, try_place, write};
 use drv_gcc::values;
 use drv_words::{Listing, Word};
@@ -26,8 +25,8 @@ const ENDINGS: [&[u8]; 7] = [
     b".c.all",
 ];
 
-/// The lines of a file before its mark.
-fn lines_of(rt: &HostRuntime, path: &Word) -> Result<Listing<Word>, Fault> {
+/// The lines of a file before its mark, as a text.
+fn lines_in(rt: &HostRuntime, path: &Word) -> Result<Word, Fault> {
     let Ok(content) = fs::read(rt, text(path.as_bytes())?) else {
         return Err(Fault::NoSpecs(path.clone()?));
     };
@@ -37,17 +36,7 @@ fn lines_of(rt: &HostRuntime, path: &Word) -> Result<Listing<Word>, Fault> {
             lines.push(line)?;
         }
     }
-    Ok(lines)
-}
-
-/// A text of lines.
-fn joined_lines(alloc: Global, lines: &[Word]) -> Result<Word, Fault> {
-    let mut whole = Word::empty(alloc);
-    for line in lines {
-        whole.extend_from_slice(line.as_bytes())?;
-        whole.push(b'\n')?;
-    }
-    Ok(whole)
+    lines_of(rt.alloc(), lines.as_slice())
 }
 
 /// How the row of these options begins.
@@ -55,93 +44,16 @@ pub fn row_head(alloc: Global, key: &Word) -> Result<Word, Fault> {
     joined(alloc, &[b"machine ".as_slice(), key.as_bytes(), b"\t"])
 }
 
-/// The lines of which none is a row of these options.
-fn other_lines(alloc: Global, lines: &[Word], key: &Word) -> Result<Listing<Word>, Fault> {
+/// A text without the row of these options.
+fn without_row(alloc: Global, lines: &Word, key: &Word) -> Result<Word, Fault> {
     let beginning = row_head(alloc, key)?;
     let mut others = Listing::new(alloc);
-    for line in lines {
-        if !line.as_bytes().starts_with(beginning.as_bytes()) {
-            others.push(line.clone()?)?;
+    for line in values(alloc, b"", lines.as_bytes())?.into_vec() {
+        if !line.is_empty() && !line.as_bytes().starts_with(beginning.as_bytes()) {
+            others.push(line)?;
         }
     }
-    Ok(others)
-}
-
-/// Copies the files of a spec file into a folder of work.
-fn copy_files(rt: &HostRuntime, work: &WorkFolder, stem: &Word) -> Result<(), Fault> {
-    for ending in ENDINGS {
-        let path = join(rt.alloc(), stem, ending)?;
-        if let Ok(content) = fs::read(rt, text(path.as_bytes())?) {
-            write(
-                rt,
-                &join(rt.alloc(), &work.stem, ending)?,
-                content.as_slice(),
-            )?;
-        }
-    }
-    Ok(())
-}
-
-/// The row of these options, for a gcc with these folders.
-fn row_for(pair: Pair<'_>, folders: &[Word], key: &Word) -> Result<Row, Fault> {
-    let asked = pair.gcc_with(key);
-    let (_, probes) = with_natives(asked, asked.own_texts()?)?;
-    match row_of(asked, probes.as_slice(), folders)? {
-        Some(row) => Ok(row),
-        None => Err(Fault::NoRow(key.clone()?)),
-    }
-}
-
-/// Adds a row to these lines of the file that names the gcc, and its options to the names.
-fn put_row(
-    rt: &HostRuntime,
-    work: &WorkFolder,
-    stem: &Word,
-    lines: &[Word],
-    row: &Row,
-) -> Result<(), Fault> {
-    let alloc = rt.alloc();
-    let others = other_lines(alloc, lines, &row.key)?;
-    let mut whole = joined_lines(alloc, others.as_slice())?;
-    push_row(&mut whole, row)?;
-    work.put(rt, b".gcc", &whole)?;
-    let options = lines_of(rt, &join(alloc, stem, b".options")?)?;
-    let mut names = joined_lines(alloc, options.as_slice())?;
-    push_names(&mut names, row)?;
-    work.put(rt, b".options", &sort_lines(alloc, &names)?)
-}
-
-/// The row of these options, which a folder of work has then. Its plans are compared with gcc's.
-fn tried_row(pair: Pair<'_>, stem: &Word, lines: &[Word], key: &Word) -> Result<Row, Fault> {
-    let Pair { rt, work, .. } = pair;
-    copy_files(rt, work, stem)?;
-    let whole = joined_lines(rt.alloc(), lines)?;
-    let folders = values(rt.alloc(), b"folder ", whole.as_bytes())?;
-    let row = row_for(pair, folders.as_slice(), key)?;
-    put_row(rt, work, stem, lines, &row)?;
-    if pair.is_other(key)? {
-        return Err(Fault::NoRow(key.clone()?));
-    }
-    Ok(row)
-}
-
-/// Puts the row of these options in place.
-fn add_in(pair: Pair<'_>, stem: &Word, lines: &[Word], key: &Word) -> Result<(), Fault> {
-    let Pair { rt, work, .. } = pair;
-    let _row = tried_row(pair, stem, lines, key)?;
-    work.place_file(rt, stem, b".options")?;
-    work.place_file(rt, stem, b".gcc")
-}
-
-/// The gcc of a file that names one and has rows.
-fn gcc_with_rows(alloc: Global, path: &Word, lines: &[Word]) -> Result<Word, Fault> {
-    let whole = joined_lines(alloc, lines)?;
-    let gccs = values(alloc, b"compiler ", whole.as_bytes())?;
-    let rows = values(alloc, b"machine", whole.as_bytes())?;
-    match (gccs.as_slice(), rows.as_slice()) {
-        ([gcc, ..], [_, ..]) => Ok(gcc.clone()?),
-        _ => Err(Fault::NoRows(path.clone()?)),
-    }
+    lines_of(alloc, others.as_slice())
 }
 
 /// What is asked for a row.
@@ -150,24 +62,33 @@ struct Question {
     /// The spec file without its ending.
     stem: Word,
     /// The lines of the file beside it that names the gcc.
-    lines: Listing<Word>,
+    lines: Word,
     /// That gcc.
     gcc: Word,
     /// The options.
     key: Word,
 }
 
+/// The gcc of a file that names one and has rows.
+fn gcc_with_rows(alloc: Global, path: &Word, lines: &Word) -> Result<Word, Fault> {
+    let gccs = values(alloc, b"compiler ", lines.as_bytes())?;
+    let rows = values(alloc, b"machine", lines.as_bytes())?;
+    match (gccs.as_slice(), rows.as_slice()) {
+        ([gcc, ..], [_, ..]) => Ok(gcc.clone()?),
+        _ => Err(Fault::NoRows(path.clone()?)),
+    }
+}
+
 /// The question for the row of these options by the gcc of a spec file.
 fn question_of(rt: &HostRuntime, specs: &Word, options: &[Word]) -> Result<Question, Fault> {
     let stem = stem_of(rt, specs)?;
     let path = join(rt.alloc(), &stem, b".gcc")?;
-    let lines = lines_of(rt, &path)?;
-    let gcc = gcc_with_rows(rt.alloc(), &path, lines.as_slice())?;
-    let whole = joined_lines(rt.alloc(), lines.as_slice())?;
-    if let Some(misfit) = misfit_in(rt.alloc(), whole.as_bytes(), options)? {
+    let lines = lines_in(rt, &path)?;
+    let gcc = gcc_with_rows(rt.alloc(), &path, &lines)?;
+    if let Some(misfit) = misfit_in(rt.alloc(), lines.as_bytes(), options)? {
         return Err(Fault::NotMachine(misfit));
     }
-    let key = key_by(rt.alloc(), whole.as_bytes(), options)?;
+    let key = key_by(rt.alloc(), lines.as_bytes(), options)?;
     Ok(Question {
         stem,
         lines,
@@ -176,41 +97,80 @@ fn question_of(rt: &HostRuntime, specs: &Word, options: &[Word]) -> Result<Quest
     })
 }
 
+impl Question {
+    /// The gcc, to be asked with the options.
+    fn gcc_in<'a>(&'a self, rt: &'a HostRuntime, work: &'a WorkFolder) -> Gcc<'a> {
+        Gcc {
+            rt,
+            work,
+            path: &self.gcc,
+            options: self.key.as_bytes(),
+        }
+    }
+
+    /// Copies the files of the spec file into a folder of work.
+    fn copy_files(&self, rt: &HostRuntime, work: &WorkFolder) -> Result<(), Fault> {
+        for ending in ENDINGS {
+            let path = join(rt.alloc(), &self.stem, ending)?;
+            if let Ok(content) = fs::read(rt, text(path.as_bytes())?) {
+                let copy = join(rt.alloc(), &work.stem, ending)?;
+                write(rt, &copy, content.as_slice())?;
+            }
+        }
+        Ok(())
+    }
+
+    /// The row that the gcc makes of its options.
+    fn row(&self, gcc: Gcc<'_>) -> Result<Row, Fault> {
+        let folders = values(gcc.alloc(), b"folder ", self.lines.as_bytes())?;
+        let (_, probes) = with_natives(gcc, gcc.own_texts()?)?;
+        match row_of(gcc, probes.as_slice(), folders.as_slice())? {
+            Some(row) => Ok(row),
+            None => Err(Fault::NoRow(self.key.clone()?)),
+        }
+    }
+
+    /// Adds a row to the lines of the file that names the gcc, and its options to the names.
+    fn put_row(&self, gcc: Gcc<'_>, row: &Row) -> Result<(), Fault> {
+        let (rt, alloc) = (gcc.rt, gcc.alloc());
+        let mut lines = without_row(alloc, &self.lines, &self.key)?;
+        push_row(&mut lines, row)?;
+        gcc.work.put(rt, b".gcc", &lines)?;
+        let mut names = lines_in(rt, &join(alloc, &self.stem, b".options")?)?;
+        push_names(&mut names, row)?;
+        let sorted = sorted_lines(alloc, names.as_bytes())?;
+        gcc.work
+            .put(rt, b".options", &lines_of(alloc, sorted.as_slice())?)
+    }
+
+    /// The row, which a folder of work has then. Its plans are compared with gcc's.
+    fn tried_row(&self, gcc: Gcc<'_>) -> Result<Row, Fault> {
+        self.copy_files(gcc.rt, gcc.work)?;
+        let row = self.row(gcc)?;
+        self.put_row(gcc, &row)?;
+        if gcc.is_other()? {
+            return Err(Fault::NoRow(self.key.clone()?));
+        }
+        Ok(row)
+    }
+
+    /// Puts the row in place.
+    fn add_row(&self, gcc: Gcc<'_>) -> Result<(), Fault> {
+        let _row = self.tried_row(gcc)?;
+        gcc.work.place_file(gcc.rt, &self.stem, b".options")?;
+        gcc.work.place_file(gcc.rt, &self.stem, b".gcc")
+    }
+}
+
 /// Asks the gcc of a spec file for the words that it makes of these options, and adds them beside
 /// that file. If its plans by them differ from gcc's, nothing is written.
 pub fn add_words(rt: &HostRuntime, specs: &Word, options: &[Word]) -> Result<(), Fault> {
-    let Question {
-        stem,
-        lines,
-        gcc,
-        key,
-    } = question_of(rt, specs, options)?;
-    try_place(rt, &stem)?;
+    let question = question_of(rt, specs, options)?;
+    try_place(rt, &question.stem)?;
     let work = WorkFolder::new(rt, &driver_at(rt)?)?;
-    let pair = Pair {
-        rt,
-        work: &work,
-        gcc: &gcc,
-    };
-    let done = add_in(pair, &stem, lines.as_slice(), &key);
+    let done = question.add_row(question.gcc_in(rt, &work));
     work.remove(rt);
     done
-}
-
-/// Asks the gcc of a spec file for the words of a question, and gives them as a row.
-fn asked_row(rt: &HostRuntime, question: &Question) -> Result<Word, Fault> {
-    let work = WorkFolder::new(rt, &driver_at(rt)?)?;
-    let pair = Pair {
-        rt,
-        work: &work,
-        gcc: &question.gcc,
-    };
-    let lines = question.lines.as_slice();
-    let tried = tried_row(pair, &question.stem, lines, &question.key);
-    work.remove(rt);
-    let mut text = Word::empty(rt.alloc());
-    push_row(&mut text, &tried?)?;
-    Ok(text)
 }
 
 /// The words that the gcc of a spec file makes of these options, as a row: one that is kept, or else
@@ -222,7 +182,11 @@ pub fn row_text(rt: &HostRuntime, specs: &Word, options: &[Word]) -> Result<Word
     if let Some(row) = kept_row(rt, stem, gcc, key)? {
         return Ok(row);
     }
-    let row = asked_row(rt, &question)?;
+    let work = WorkFolder::new(rt, &driver_at(rt)?)?;
+    let tried = question.tried_row(question.gcc_in(rt, &work));
+    work.remove(rt);
+    let mut row = Word::empty(rt.alloc());
+    push_row(&mut row, &tried?)?;
     keep_row(rt, stem, gcc, &row)?;
     Ok(row)
 }

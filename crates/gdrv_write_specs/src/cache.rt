@@ -5,40 +5,33 @@
 //! again.
 
 use crate::adding::row_head;
-use crate::asking::{joined, text};
+use crate::asking::text;
 use crate::fault::Fault;
-use crate::finding::has_bytes;
 use crate::placing::stamp_of;
+use crate::texts::{has_bytes, joined};
 use crate::work_folder::{make_all, put_in_place};
 use drv_gcc::{replace, values};
 use drv_words::Word;
 use std::env::var;
 use std::fs;
 
-/// The folder in which a user has caches: that of this variable with this after it; empty if the
-/// variable names none.
-fn folder_below(rt: &HostRuntime, variable: &str, rest: &[u8]) -> Result<Word, Fault> {
-    match var(rt, variable) {
-        Ok(value) if value.as_bytes().starts_with(b"/") => {
-            let mut folder = Word::from_bytes(rt.alloc(), value.as_bytes())?;
-            folder.extend_from_slice(rest)?;
-            Ok(folder)
+/// The variables that may name the folder in which a user has caches, and what follows there.
+const FOLDERS: [(&str, &[u8]); 2] = [("XDG_CACHE_HOME", b"/gdrv"), ("HOME", b"/.cache/gdrv")];
+
+/// The folder of the rows, if a variable names one.
+fn folder(rt: &HostRuntime) -> Result<Option<Word>, Fault> {
+    for (variable, rest) in FOLDERS {
+        if let Ok(value) = var(rt, variable)
+            && value.as_bytes().starts_with(b"/")
+        {
+            return Ok(Some(joined(rt.alloc(), &[value.as_bytes(), rest])?));
         }
-        _ => Ok(Word::empty(rt.alloc())),
     }
+    Ok(None)
 }
 
-/// The folder of the rows; empty if no variable names one.
-fn folder(rt: &HostRuntime) -> Result<Word, Fault> {
-    let own = folder_below(rt, "XDG_CACHE_HOME", b"/gdrv")?;
-    if own.is_empty() {
-        return folder_below(rt, "HOME", b"/.cache/gdrv");
-    }
-    Ok(own)
-}
-
-/// The file of the rows for a spec file, which is named without its ending: its path is the name,
-/// with another byte for each slash.
+/// The file of the rows in a folder for a spec file, which is named without its ending: its path is
+/// the name, with another byte for each slash.
 fn path_in(rt: &HostRuntime, folder: &Word, stem: &Word) -> Result<Word, Fault> {
     let name = replace(rt.alloc(), stem.as_bytes(), b"/", b"%")?;
     joined(
@@ -53,10 +46,10 @@ fn first_line(rt: &HostRuntime, stem: &Word, gcc: &Word) -> Result<Word, Fault> 
     let alloc = rt.alloc();
     let beside = joined(alloc, &[stem.as_bytes(), b".gcc"])?;
     let mut mark = Word::empty(alloc);
-    if let Ok(content) = fs::read(rt, text(beside.as_bytes())?) {
-        if let Some(last) = values(alloc, b"# whole ", content.as_slice())?.pop() {
-            mark = last;
-        }
+    if let Ok(content) = fs::read(rt, text(beside.as_bytes())?)
+        && let Some(last) = values(alloc, b"# whole ", content.as_slice())?.pop()
+    {
+        mark = last;
     }
     let of_gcc = stamp_of(rt, gcc.as_bytes())?;
     let of_file = stamp_of(rt, beside.as_bytes())?;
@@ -73,10 +66,10 @@ fn first_line(rt: &HostRuntime, stem: &Word, gcc: &Word) -> Result<Word, Fault> 
 
 /// The rows that are kept with this first line; empty if there are none.
 fn kept(rt: &HostRuntime, path: &Word, first: &Word) -> Result<Word, Fault> {
-    if let Ok(content) = fs::read(rt, text(path.as_bytes())?) {
-        if let Some(rows) = content.as_slice().strip_prefix(first.as_bytes()) {
-            return Ok(Word::from_bytes(rt.alloc(), rows)?);
-        }
+    if let Ok(content) = fs::read(rt, text(path.as_bytes())?)
+        && let Some(rows) = content.as_slice().strip_prefix(first.as_bytes())
+    {
+        return Ok(Word::from_bytes(rt.alloc(), rows)?);
     }
     Ok(Word::empty(rt.alloc()))
 }
@@ -88,25 +81,25 @@ pub fn kept_row(
     gcc: &Word,
     key: &Word,
 ) -> Result<Option<Word>, Fault> {
-    let path = path_in(rt, &folder(rt)?, stem)?;
+    let Some(folder) = folder(rt)? else {
+        return Ok(None);
+    };
+    let path = path_in(rt, &folder, stem)?;
     let rows = kept(rt, &path, &first_line(rt, stem, gcc)?)?;
     let head = row_head(rt.alloc(), key)?;
-    let mut words = values(rt.alloc(), head.as_bytes(), rows.as_bytes())?;
-    match words.pop() {
+    match values(rt.alloc(), head.as_bytes(), rows.as_bytes())?.pop() {
         Some(words) => Ok(Some(joined(rt.alloc(), &[head.as_bytes(), words.as_bytes(), b"\n"])?)),
         None => Ok(None),
     }
 }
 
-/// Whether a row is for the machine of the call, which may be another one where the cache is read.
-fn is_of_call(row: &Word) -> bool {
-    has_bytes(row.as_bytes(), b"=native")
-}
-
-/// Keeps a row for a spec file and its gcc, beside others, if that can be done.
+/// Keeps a row for a spec file and its gcc, beside others, if that can be done. A row may be for the
+/// machine of the call, and the cache be read on another one: that is not kept.
 pub fn keep_row(rt: &HostRuntime, stem: &Word, gcc: &Word, row: &Word) -> Result<(), Fault> {
-    let folder = folder(rt)?;
-    if folder.is_empty() || is_of_call(row) {
+    let Some(folder) = folder(rt)? else {
+        return Ok(());
+    };
+    if has_bytes(row.as_bytes(), b"=native") {
         return Ok(());
     }
     let path = path_in(rt, &folder, stem)?;

@@ -1,12 +1,12 @@
 //! The plans by a spec file are compared with those of the gcc.
 
-use crate::asking::{Said, ask, commands, joined};
+use crate::asking::{Gcc, commands};
 use crate::fault::Fault;
-use crate::refusing::{Answer, answer_to};
-use crate::work_folder::WorkFolder;
+use crate::finding::has_word;
+use crate::names::unknown_of;
+use crate::texts::joined;
 use drv_gcc::same_commands;
-use drv_words::{Listing, Word};
-use std::alloc::Global;
+use drv_words::{Listing, Word, split};
 
 /// The lines that must have gcc's plan: each way to compile, to assemble and to link.
 const LINES: [&[u8]; 31] = [
@@ -61,65 +61,20 @@ const ROOT_LINES: [&[u8]; 3] = [
 const MACHINE_LINES: [&[u8]; 3] = [b"-c x.c -o made", b"-c x.S -o made", b"x.o -o made"];
 
 /// Options that gcc's driver takes only where its texts name them, or for some machines (`-G`).
-const NAMED: [&[u8]; 15] = [
-    b"-G",
-    b"-nolibc",
-    b"-pthread",
-    b"-rdynamic",
-    b"-symbolic",
-    b"-p",
-    b"-pg",
-    b"-profile",
-    b"-pie",
-    b"-no-pie",
-    b"-static-pie",
-    b"-static",
-    b"-shared",
-    b"-static-libgcc",
-    b"-shared-libgcc",
-];
+const NAMED: &[u8] = b"-G -nolibc -pthread -rdynamic -symbolic -p -pg -profile -pie -no-pie \
+-static-pie -static -shared -static-libgcc -shared-libgcc";
 
-/// A line that links, and one that compiles.
+/// A line that links, and the options other than `-m..` by which a gcc may choose other words there: a
+/// line with one has gcc's plan, or is refused.
 const LINKED: &[u8] = b"x.c -o made";
 
+const LINK_OPTIONS: &[u8] = b"-fopenmp -fopenacc -fpic -fPIC -fpie -fPIE -fno-pic -fno-PIC \
+-fno-pie -fno-PIE -pie -no-pie -static -shared -Ofast -Os -ffast-math -fno-fast-math";
+
+/// A line that compiles, and such options there.
 const COMPILED: &[u8] = b"-c x.c -o made";
 
-/// Options other than `-m..` by which a gcc may choose other words for its machine, each with the line
-/// in which it is compared, and its pattern: a line with one has gcc's plan, or is refused.
-const OTHERS: [(&[u8], &[u8], &[u8]); 20] = [
-    (LINKED, b"-fopenmp", b"-fopenmp"),
-    (LINKED, b"-fopenacc", b"-fopenacc"),
-    (LINKED, b"-fpic", b"-fpic"),
-    (LINKED, b"-fPIC", b"-fPIC"),
-    (LINKED, b"-fpie", b"-fpie"),
-    (LINKED, b"-fPIE", b"-fPIE"),
-    (LINKED, b"-fno-pic", b"-fno-pic"),
-    (LINKED, b"-fno-PIC", b"-fno-PIC"),
-    (LINKED, b"-fno-pie", b"-fno-pie"),
-    (LINKED, b"-fno-PIE", b"-fno-PIE"),
-    (LINKED, b"-pie", b"-pie"),
-    (LINKED, b"-no-pie", b"-no-pie"),
-    (LINKED, b"-static", b"-static"),
-    (LINKED, b"-shared", b"-shared"),
-    (LINKED, b"-Ofast", b"-Ofast"),
-    (LINKED, b"-Os", b"-Os"),
-    (LINKED, b"-ffast-math", b"-ffast-math"),
-    (LINKED, b"-fno-fast-math", b"-fno-fast-math"),
-    (COMPILED, b"-fgnu-tm", b"-fgnu-tm"),
-    (
-        COMPILED,
-        b"-ftree-parallelize-loops=2",
-        b"-ftree-parallelize-loops=*",
-    ),
-];
-
-/// Two drivers that are compared in a folder of work.
-#[derive(Clone, Copy)]
-pub struct Pair<'a> {
-    pub rt: &'a HostRuntime,
-    pub work: &'a WorkFolder,
-    pub gcc: &'a Word,
-}
+const COMPILE_OPTIONS: &[u8] = b"-fgnu-tm -ftree-parallelize-loops=2";
 
 /// How two drivers take a line.
 #[derive(Clone, Copy)]
@@ -132,27 +87,23 @@ enum Verdict {
     Other,
 }
 
-/// A line with an option, if one is given, by which a driver shows its plan.
-fn shown_line(alloc: Global, line: &[u8], option: &[u8]) -> Result<Word, Fault> {
-    joined(alloc, &[b"-### ".as_slice(), line, b" ", option])
+/// The pattern by which an option is refused: with any value, if it has one.
+fn pattern_of(gcc: Gcc<'_>, option: &[u8]) -> Result<Word, Fault> {
+    match option.strip_suffix(b"=2".as_slice()) {
+        Some(name) => joined(gcc.alloc(), &[name, b"=*"]),
+        None => Ok(Word::from_bytes(gcc.alloc(), option)?),
+    }
 }
 
-impl<'a> Pair<'a> {
-    /// What a program shows for a line.
-    fn show(self, program: &Word, line: &Word) -> Result<Said, Fault> {
-        ask(self.rt, &self.work.lines, program, line.as_bytes())
-    }
-
-    /// How the two drivers take a line with an option.
-    fn verdict(self, line: &[u8], option: &[u8]) -> Result<Verdict, Fault> {
-        let alloc = self.rt.alloc();
-        let shown = shown_line(alloc, line, option)?;
-        let ours = self.show(&self.work.driver, &shown)?;
-        let theirs = self.show(self.gcc, &shown)?;
-        if !theirs.is_done || !ours.is_done {
-            return Ok(if ours.is_done {
-                Verdict::Other
-            } else if theirs.is_done {
+impl<'a> Gcc<'a> {
+    /// How this driver and the gcc take a line with the gcc's options.
+    fn verdict(self, line: &[u8]) -> Result<Verdict, Fault> {
+        let alloc = self.alloc();
+        let shown = joined(alloc, &[b"-### ".as_slice(), line, b" ", self.options])?;
+        let ours = self.ask_driver(shown.as_bytes())?;
+        let theirs = self.with(b"").ask(shown.as_bytes())?;
+        if !ours.is_done {
+            return Ok(if theirs.is_done {
                 Verdict::Refused
             } else {
                 Verdict::Same
@@ -160,7 +111,7 @@ impl<'a> Pair<'a> {
         }
         let one = commands(alloc, ours.err.as_bytes())?;
         let other = commands(alloc, theirs.err.as_bytes())?;
-        let is_same = same_commands(one.as_slice(), other.as_slice());
+        let is_same = theirs.is_done && same_commands(one.as_slice(), other.as_slice());
         Ok(if is_same {
             Verdict::Same
         } else {
@@ -168,97 +119,94 @@ impl<'a> Pair<'a> {
         })
     }
 
-    /// Adds a line if its plans differ, or one driver refuses it.
-    fn add_unlike(self, line: &[u8], lines: &mut Listing<Word>) -> Result<(), Fault> {
-        match self.verdict(line, b"")? {
-            Verdict::Same => Ok(()),
-            Verdict::Refused | Verdict::Other => {
-                Ok(lines.push(Word::from_bytes(self.rt.alloc(), line)?)?)
+    /// Whether a line has another plan than gcc's, which this driver would carry out.
+    pub fn is_line_other(self, line: &[u8]) -> Result<bool, Fault> {
+        Ok(matches!(self.verdict(line)?, Verdict::Other))
+    }
+
+    /// Whether one of some lines has another plan than gcc's, which this driver would carry out.
+    fn is_any_other(self, lines: &[&[u8]]) -> Result<bool, Fault> {
+        for line in lines {
+            if self.is_line_other(line)? {
+                return Ok(true);
             }
         }
-    }
-
-    /// Adds a line if its plans differ.
-    fn add_other(self, line: &[u8], lines: &mut Listing<Word>) -> Result<(), Fault> {
-        match self.verdict(line, b"")? {
-            Verdict::Same | Verdict::Refused => Ok(()),
-            Verdict::Other => Ok(lines.push(Word::from_bytes(self.rt.alloc(), line)?)?),
-        }
-    }
-
-    /// The lines whose plans differ.
-    pub fn differences(self) -> Result<Listing<Word>, Fault> {
-        let mut lines = Listing::new(self.rt.alloc());
-        for line in LINES {
-            self.add_unlike(line, &mut lines)?;
-        }
-        for line in FOLDER_LINES {
-            self.add_other(line, &mut lines)?;
-        }
-        Ok(lines)
-    }
-
-    /// The lines with options for a machine whose plans differ, or that one driver refuses.
-    pub fn differences_with(self, options: &Word) -> Result<Listing<Word>, Fault> {
-        let mut lines = Listing::new(self.rt.alloc());
-        for line in MACHINE_LINES {
-            let whole = joined(self.rt.alloc(), &[line, b" ", options.as_bytes()])?;
-            self.add_unlike(whole.as_bytes(), &mut lines)?;
-        }
-        Ok(lines)
-    }
-
-    /// Whether the gcc compiles with options.
-    pub fn takes(self, options: &Word) -> Result<bool, Fault> {
-        let line = shown_line(self.rt.alloc(), COMPILED, options.as_bytes())?;
-        Ok(self.show(self.gcc, &line)?.is_done)
+        Ok(false)
     }
 
     /// Whether a line with another root has another plan than gcc's.
     pub fn is_rooted_otherwise(self) -> Result<bool, Fault> {
-        for line in ROOT_LINES {
-            if let Verdict::Other = self.verdict(line, b"")? {
-                return Ok(true);
-            }
-        }
-        Ok(false)
+        self.is_any_other(&ROOT_LINES)
     }
 
-    /// Whether a line has another plan than gcc's, which this driver would carry out.
-    pub fn is_line_other(self, line: &[u8]) -> Result<bool, Fault> {
-        Ok(matches!(self.verdict(line, b"")?, Verdict::Other))
+    /// Whether the options for a machine give another plan than gcc's.
+    pub fn is_other(self) -> Result<bool, Fault> {
+        self.is_any_other(&MACHINE_LINES)
     }
 
-    /// Whether an option for a machine gives another plan than gcc's, which this driver would carry
-    /// out.
-    pub fn is_other(self, option: &Word) -> Result<bool, Fault> {
-        for line in MACHINE_LINES {
-            if let Verdict::Other = self.verdict(line, option.as_bytes())? {
-                return Ok(true);
+    /// Adds those of some lines whose plans differ, or that this driver alone refuses.
+    fn add_unlike(self, lines: &[&[u8]], unlike: &mut Listing<Word>) -> Result<(), Fault> {
+        for line in lines {
+            if !matches!(self.verdict(line)?, Verdict::Same) {
+                let whole = joined(self.alloc(), &[*line, b" ", self.options])?;
+                unlike.push(Word::from_bytes(self.alloc(), whole.as_bytes().trim_ascii())?)?;
             }
         }
-        Ok(false)
+        Ok(())
+    }
+
+    /// The lines whose plans differ, also of those with these options for a machine.
+    pub fn differences(self, options: &[u8]) -> Result<Listing<Word>, Fault> {
+        let mut lines = Listing::new(self.alloc());
+        self.add_unlike(&LINES, &mut lines)?;
+        for line in FOLDER_LINES {
+            if self.is_line_other(line)? {
+                lines.push(Word::from_bytes(self.alloc(), line)?)?;
+            }
+        }
+        if !options.is_empty() {
+            self.with(options).add_unlike(&MACHINE_LINES, &mut lines)?;
+        }
+        Ok(lines)
+    }
+
+    /// Whether the gcc compiles with its options.
+    pub fn compiles(self) -> Result<bool, Fault> {
+        Ok(self.ask(b"-### -c x.c -o made")?.is_done)
+    }
+
+    /// Adds the options with which a line would be carried out otherwise, each as a pattern names it.
+    fn add_chosen(
+        self,
+        line: &[u8],
+        options: &[u8],
+        others: &mut Listing<Word>,
+    ) -> Result<(), Fault> {
+        for option in split(self.alloc(), options)?.as_slice() {
+            if self.with(option.as_bytes()).is_line_other(line)? {
+                others.push(pattern_of(self, option.as_bytes())?)?;
+            }
+        }
+        Ok(())
     }
 
     /// The options for no machine that this driver would carry out otherwise, each as a pattern
     /// names it.
     pub fn chosen_otherwise(self) -> Result<Listing<Word>, Fault> {
-        let mut others = Listing::new(self.rt.alloc());
-        for (line, option, pattern) in OTHERS {
-            if let Verdict::Other = self.verdict(line, option)? {
-                others.push(Word::from_bytes(self.rt.alloc(), pattern)?)?;
-            }
-        }
+        let mut others = Listing::new(self.alloc());
+        self.add_chosen(LINKED, LINK_OPTIONS, &mut others)?;
+        self.add_chosen(COMPILED, COMPILE_OPTIONS, &mut others)?;
         Ok(others)
     }
 
     /// The options that the gcc lacks because its texts don't name them.
     pub fn unnamed_options(self) -> Result<Listing<Word>, Fault> {
-        let mut lacking = Listing::new(self.rt.alloc());
-        for option in NAMED {
-            let word = Word::from_bytes(self.rt.alloc(), option)?;
-            if let Answer::Lacks = answer_to(self, &word)? {
-                lacking.push(word)?;
+        let named = split(self.alloc(), NAMED)?;
+        let unknown = unknown_of(self, named.as_slice())?;
+        let mut lacking = Listing::new(self.alloc());
+        for option in named.into_vec() {
+            if has_word(unknown.as_slice(), option.as_bytes()) {
+                lacking.push(option)?;
             }
         }
         Ok(lacking)

@@ -1,11 +1,11 @@
 //! What a gcc gives its children: variables. A line `child` has one, after the options of a line by
 //! which it is given or not.
 
-use crate::asked::Asked;
-use crate::asking::joined;
-use crate::checking::Pair;
+use crate::asking::Gcc;
 use crate::choosing::add_option;
 use crate::fault::Fault;
+use crate::rows::{SHOWING, multilibs};
+use crate::texts::add_all;
 use drv_gcc::values;
 use drv_words::Word;
 
@@ -20,58 +20,34 @@ const VARIABLES: [&[u8]; 4] = [
 /// The variable of the folders of libraries.
 const LIBRARIES: &[u8] = b"LIBRARY_PATH=";
 
-/// Adds a line: the option that a line of gcc needs, those that leave the variable out, and that.
-fn push_line(text: &mut Word, needed: &[u8], others: &[u8], variable: &[u8]) -> Result<(), Fault> {
-    for part in [
-        b"child ".as_slice(),
-        needed,
-        b"\t",
-        others,
-        b"\t",
-        variable,
-        b"\n",
-    ] {
-        text.extend_from_slice(part)?;
+/// Adds the line for the folders of libraries of a gcc with its options, if it names some. Lines with
+/// other options have others.
+fn push_path(gcc: Gcc<'_>, text: &mut Word, others: &[u8]) -> Result<(), Fault> {
+    let shown = gcc.ask(SHOWING)?;
+    if let Some(path) = values(gcc.alloc(), LIBRARIES, shown.err.as_bytes())?.pop() {
+        add_all(text, &[b"child ", gcc.options, b"\t", others, b"\t"])?;
+        add_all(text, &[LIBRARIES, path.as_bytes(), b"\n"])?;
     }
     Ok(())
 }
 
-/// Adds the line for the folders of libraries of a gcc with its option, if it names some.
-fn push_path(asked: Asked<'_>, text: &mut Word, others: &[u8]) -> Result<(), Fault> {
-    let shown = asked.ask(b"-### -c -x c /dev/null")?;
-    let mut paths = values(asked.alloc(), LIBRARIES, shown.err.as_bytes())?;
-    match paths.pop() {
-        Some(path) => {
-            let variable = joined(asked.alloc(), &[LIBRARIES, path.as_bytes()])?;
-            push_line(text, asked.option.as_bytes(), others, variable.as_bytes())
-        }
-        None => Ok(()),
-    }
-}
-
 /// Adds the lines for what a gcc says of itself and gives its children, the folders of libraries
-/// also for each of these options of one word that has libraries of its own.
-pub fn push_children(
-    pair: Pair<'_>,
-    text: &mut Word,
-    said: &[Word],
-    libraries: &[Word],
-) -> Result<(), Fault> {
+/// also for each option of one word that has libraries of its own.
+pub fn push_children(gcc: Gcc<'_>, text: &mut Word, said: &[Word]) -> Result<(), Fault> {
     for line in said {
         if VARIABLES
             .iter()
             .any(|name| line.as_bytes().starts_with(name))
         {
-            push_line(text, b"", b"", line.as_bytes())?;
+            add_all(text, &[b"child \t\t", line.as_bytes(), b"\n"])?;
         }
     }
-    let mut options = Word::empty(pair.rt.alloc());
-    for option in libraries {
+    let mut others = Word::empty(gcc.alloc());
+    for option in multilibs(gcc)?.as_slice() {
         if !option.as_bytes().contains(&b' ') {
-            push_path(pair.gcc_with(option), text, b"")?;
-            add_option(&mut options, option.as_bytes())?;
+            push_path(gcc.with(option.as_bytes()), text, b"")?;
+            add_option(&mut others, option.as_bytes())?;
         }
     }
-    let none = Word::empty(pair.rt.alloc());
-    push_path(pair.gcc_with(&none), text, options.as_bytes())
+    push_path(gcc, text, others.as_bytes())
 }

@@ -1,9 +1,10 @@
 //! Options for no machine by which a gcc chooses words for its machine.
 
-use crate::checking::Pair;
+use crate::asking::Gcc;
 use crate::fault::Fault;
 use crate::finding::has_word;
 use crate::rows::switches_of;
+use crate::texts::{add_all, joined};
 use drv_gcc::values;
 use drv_words::{Listing, Word, split};
 use std::alloc::Global;
@@ -53,24 +54,23 @@ fn first_alike(choosers: &[Chooser], words: &[Word], option: &Word) -> Result<Wo
 }
 
 /// The options by which a gcc chooses words for its machine.
-pub fn choosers_of(pair: Pair<'_>) -> Result<Listing<Chooser>, Fault> {
-    let alloc = pair.rt.alloc();
+pub fn choosers_of(gcc: Gcc<'_>) -> Result<Listing<Chooser>, Fault> {
+    let alloc = gcc.alloc();
     let mut choosers: Listing<Chooser> = Listing::new(alloc);
-    let none = Word::empty(alloc);
-    let Some(usual) = switches_of(pair.gcc_with(&none))? else {
+    let Some(usual) = switches_of(gcc)? else {
         return Ok(choosers);
     };
     for option in CHOOSERS {
-        let option = Word::from_bytes(alloc, option)?;
-        if let Some(words) = switches_of(pair.gcc_with(&option))? {
-            if !are_alike(words.as_slice(), usual.as_slice()) {
-                let first = first_alike(choosers.as_slice(), words.as_slice(), &option)?;
-                choosers.push(Chooser {
-                    option,
-                    first,
-                    words,
-                })?;
-            }
+        if let Some(words) = switches_of(gcc.with(option))?
+            && !are_alike(words.as_slice(), usual.as_slice())
+        {
+            let option = Word::from_bytes(alloc, option)?;
+            let first = first_alike(choosers.as_slice(), words.as_slice(), &option)?;
+            choosers.push(Chooser {
+                option,
+                first,
+                words,
+            })?;
         }
     }
     Ok(choosers)
@@ -113,19 +113,11 @@ fn fits(alloc: Global, text: &[u8], option: &[u8]) -> Result<bool, Fault> {
     let is_machine = option.starts_with(b"-m")
         || option == b"-EB".as_slice()
         || option == b"-EL".as_slice();
-    if is_machine {
-        return Ok(true);
+    if is_machine || !is_chooser(option) {
+        return Ok(is_machine);
     }
-    let mut line = Word::from_bytes(alloc, option)?;
-    line.push(b' ')?;
-    let keys = values(alloc, b"key ", text)?;
-    Ok(
-        is_chooser(option)
-            && keys
-                .as_slice()
-                .iter()
-                .any(|key| key.as_bytes().starts_with(line.as_bytes())),
-    )
+    let head = joined(alloc, &[b"key ".as_slice(), option, b" "])?;
+    Ok(!values(alloc, head.as_bytes(), text)?.is_empty())
 }
 
 /// The first of these options for which no row can be, by the lines of a text. A word without one is
@@ -167,11 +159,8 @@ pub fn key_by(alloc: Global, text: &[u8], options: &[Word]) -> Result<Word, Faul
 /// Adds the lines of these options.
 pub fn push_choosers(text: &mut Word, choosers: &[Chooser]) -> Result<(), Fault> {
     for it in choosers {
-        text.extend_from_slice(b"key ")?;
-        text.extend_from_slice(it.option.as_bytes())?;
-        text.push(b' ')?;
-        text.extend_from_slice(it.first.as_bytes())?;
-        text.push(b'\n')?;
+        let (option, first) = (it.option.as_bytes(), it.first.as_bytes());
+        add_all(text, &[b"key ", option, b" ", first, b"\n"])?;
     }
     Ok(())
 }

@@ -1,16 +1,13 @@
 //! The spec files of a gcc's devices. It reads one for each line: that of the device which an option
 //! of the line names, or of a usual one.
 
-use crate::asked::Asked;
-use crate::asking::{ask, joined, text};
+use crate::asking::{Gcc, text};
 use crate::fault::Fault;
-use crate::finding::has_bytes;
-use crate::names::sort_lines;
 use crate::natives::add_probe;
 use crate::programs::names_in;
+use crate::texts::{add_all, has_bytes, joined, numbered, sorted_lines};
 use drv_gcc::values;
 use drv_words::{Listing, Word, split_at_last};
-use itoa::Buffer;
 use std::fs;
 
 /// Whether a spec file, or an option with one, is that of a device.
@@ -34,42 +31,22 @@ const PASSED: &[u8] = b"*pass_avrlibc_devicelib:\n%{!nodevicelib:%{-gdrv-fn";
 
 const PASSED_REST: &[u8] = b"=-l*:-plugin-opt=-pass-through=-l%*}}\n\n";
 
-/// Adds the text of this name, for which rows have words under another.
-fn push_text<'x>(texts: &mut Word, name: &'x [u8], own: &'x Word) -> Result<(), Fault> {
-    let (before, after) = if name == LIBRARY {
-        (IN_LIBRARY, b")}\n\n".as_slice())
-    } else {
-        (b"".as_slice(), b")\n\n".as_slice())
-    };
-    for part in [
-        b"*".as_slice(),
-        name,
-        b":\n",
-        before,
-        b"%(",
-        own.as_bytes(),
-        after,
-    ] {
-        texts.extend_from_slice(part)?;
-    }
-    Ok(())
-}
-
-/// Adds the copy of a text for the linker's plugin, if it names a library.
-fn push_passed(texts: &mut Word, name: &[u8], number: usize) -> Result<(), Fault> {
-    if name == LIBRARY {
-        texts.extend_from_slice(PASSED)?;
-        texts.extend_from_slice(Buffer::new().format(number).as_bytes())?;
-        texts.extend_from_slice(PASSED_REST)?;
-    }
-    Ok(())
-}
-
-impl<'a> Asked<'a> {
+impl<'a> Gcc<'a> {
     /// The spec files that it reads for a line without options.
-    pub fn files_read(self) -> Result<Listing<Word>, Fault> {
-        let said = ask(self.rt, &self.work.lines, self.gcc, b"-v")?;
+    fn files_read(self) -> Result<Listing<Word>, Fault> {
+        let said = self.with(b"").ask(b"-v")?;
         Ok(values(self.alloc(), b"Reading specs from ", said.err.as_bytes())?)
+    }
+
+    /// The spec files that it reads for each line, as `musl-gcc` does, which calls another gcc.
+    pub fn own_files(self) -> Result<Listing<Word>, Fault> {
+        let mut files = Listing::new(self.alloc());
+        for path in self.files_read()?.into_vec() {
+            if !is_of_device(path.as_bytes()) {
+                files.push(path)?;
+            }
+        }
+        Ok(files)
     }
 
     /// The folder of its devices' spec files; empty if it has none.
@@ -97,50 +74,52 @@ impl<'a> Asked<'a> {
         Ok(devices)
     }
 
-    /// Adds the names of the texts that a device's spec file puts, a line each.
-    fn add_names(self, folder: &Word, device: &Word, names: &mut Word) -> Result<(), Fault> {
-        let path = joined(
-            self.alloc(),
-            &[folder.as_bytes(), b"/specs-", device.as_bytes()],
-        )?;
-        let content = fs::read(self.rt, text(path.as_bytes())?)?;
-        for line in values(self.alloc(), b"*", content.as_slice())?.as_slice() {
-            if let Some(name) = line.as_bytes().strip_suffix(b":".as_slice()) {
-                names.extend_from_slice(name)?;
-                names.push(b'\n')?;
-            }
-        }
-        Ok(())
-    }
-
     /// The names of the texts that spec files in a folder of devices put, but of that which gives
     /// options of a line.
     fn texts_in(self, folder: &Word) -> Result<Listing<Word>, Fault> {
         let mut names = Word::empty(self.alloc());
         for device in self.devices_in(folder)?.as_slice() {
-            self.add_names(folder, device, &mut names)?;
-        }
-        let lines = sort_lines(self.alloc(), &names)?;
-        let mut texts = Listing::new(self.alloc());
-        for name in values(self.alloc(), b"", lines.as_bytes())?.into_vec() {
-            if !name.is_empty() && name.as_bytes() != b"self_spec".as_slice() {
-                texts.push(name)?;
+            let parts = [folder.as_bytes(), b"/specs-", device.as_bytes()];
+            let content = fs::read(self.rt, text(joined(self.alloc(), &parts)?.as_bytes())?)?;
+            for line in values(self.alloc(), b"*", content.as_slice())?.as_slice() {
+                match line.as_bytes().strip_suffix(b":".as_slice()) {
+                    Some(name) if name != b"self_spec".as_slice() => {
+                        add_all(&mut names, &[name, b"\n"])?;
+                    }
+                    _ => {}
+                }
             }
         }
-        Ok(texts)
+        sorted_lines(self.alloc(), names.as_bytes())
     }
 
-    /// Adds a text of devices to a dump, and the probe that shows what it is for a line's device.
+    /// Adds a text of devices to a dump, for which rows have words under another name, and the probe
+    /// that shows what it is for a line's device.
     fn add_device_text(
         self,
-        name: &Word,
+        name: &[u8],
         texts: &mut Word,
         probes: &mut Listing<Word>,
     ) -> Result<(), Fault> {
-        let call = joined(self.alloc(), &[b"%(".as_slice(), name.as_bytes(), b")"])?;
-        push_passed(texts, name.as_bytes(), probes.len())?;
+        let number = numbered(self.alloc(), b"", probes.len())?;
+        let call = joined(self.alloc(), &[b"%(".as_slice(), name, b")"])?;
         let own = add_probe(self, &call, probes)?;
-        push_text(texts, name.as_bytes(), &own)
+        if name == LIBRARY {
+            add_all(texts, &[PASSED, number.as_bytes(), PASSED_REST])?;
+            return add_all(
+                texts,
+                &[
+                    b"*",
+                    name,
+                    b":\n",
+                    IN_LIBRARY,
+                    b"%(",
+                    own.as_bytes(),
+                    b")}\n\n",
+                ],
+            );
+        }
+        add_all(texts, &[b"*", name, b":\n%(", own.as_bytes(), b")\n\n"])
     }
 
     /// A dump with the texts that devices' spec files put. Rows have what they are for a line's device,
@@ -153,7 +132,7 @@ impl<'a> Asked<'a> {
         let mut texts = dump;
         texts.extend_from_slice(ALONE)?;
         for name in self.texts_in(&folder)?.as_slice() {
-            self.add_device_text(name, &mut texts, probes)?;
+            self.add_device_text(name.as_bytes(), &mut texts, probes)?;
         }
         Ok(texts)
     }

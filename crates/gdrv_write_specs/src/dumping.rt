@@ -1,10 +1,9 @@
 //! The texts of a gcc: its dump, and the spec files that it reads for each line.
 
-use crate::asked::{Asked, Places};
-use crate::asking::{ask, joined, text};
-use crate::devices::is_of_device;
+use crate::asking::{Gcc, text};
 use crate::fault::Fault;
 use crate::parts::dump_of;
+use crate::texts::{add_all, joined};
 use drv_gcc::{named_texts, replace, values};
 use drv_words::{Listing, Word};
 use std::fs;
@@ -16,35 +15,21 @@ const WITHOUT_FOLDERS: &[u8] = b"*refused_folders:\n\
 /// How a function begins that says a file's name if the file is there.
 const IF_EXISTS: &[u8] = b"%:if-exists(";
 
-impl<'a> Asked<'a> {
+impl<'a> Gcc<'a> {
     /// What the gcc dumps.
     fn dump(self) -> Result<Word, Fault> {
-        let said = ask(self.rt, &self.work.lines, self.gcc, b"-dumpspecs")?;
+        let said = self.with(b"").ask(b"-dumpspecs")?;
         if !said.is_done || said.out.is_empty() {
-            return Err(Fault::NoDump(self.gcc.clone()?));
+            return Err(Fault::NoDump(self.path.clone()?));
         }
         Ok(said.out)
     }
 
-    /// The spec files that it reads for each line, as `musl-gcc` does, which calls another gcc.
-    fn own_files(self) -> Result<Listing<Word>, Fault> {
-        let mut files = Listing::new(self.alloc());
-        for path in self.files_read()?.into_vec() {
-            if !is_of_device(path.as_bytes()) {
-                files.push(path)?;
-            }
-        }
-        Ok(files)
-    }
-
-    /// Where its texts look for its files: where it has them if such a file names some, since its
-    /// names may be those of folders.
-    pub fn places_of(self) -> Result<Places, Fault> {
-        Ok(if self.own_files()?.is_empty() {
-            Places::Searched
-        } else {
-            Places::Fixed
-        })
+    /// Whether its texts find its files where it has them, whatever the line says, and not where it
+    /// looks, also along the folders of the line: if such a file names some, since its names may be
+    /// those of folders.
+    pub fn has_fixed_places(self) -> Result<bool, Fault> {
+        Ok(!self.own_files()?.is_empty())
     }
 
     /// A dump and the texts of these files.
@@ -53,14 +38,12 @@ impl<'a> Asked<'a> {
         let mut whole = dump;
         for path in files {
             let Ok(content) = fs::read(self.rt, text(path.as_bytes())?) else {
-                return Err(Fault::BadDump(self.gcc.clone()?));
+                return Err(Fault::BadDump(self.path.clone()?));
             };
             if !values(alloc, b"%include", content.as_slice())?.is_empty() {
-                return Err(Fault::BadDump(self.gcc.clone()?));
+                return Err(Fault::BadDump(self.path.clone()?));
             }
-            whole.push(b'\n')?;
-            whole.extend_from_slice(content.as_slice())?;
-            whole.extend_from_slice(b"\n\n")?;
+            add_all(&mut whole, &[b"\n", content.as_slice(), b"\n\n"])?;
         }
         whole.extend_from_slice(WITHOUT_FOLDERS)?;
         dump_of(alloc, whole.as_bytes())

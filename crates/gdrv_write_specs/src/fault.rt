@@ -86,112 +86,110 @@ pub fn push_shown(shown: &mut Word, text: &[u8]) -> Result<(), AllocError> {
     Ok(())
 }
 
-/// A line of the program: its name, and this with a word between.
-fn line(alloc: Global, before: &[u8], word: &[u8], after: &[u8]) -> Result<Word, AllocError> {
+/// The beginning of a line of the program: its name, and this with a word between.
+fn begun(alloc: Global, before: &[u8], word: &[u8], after: &[u8]) -> Result<Word, AllocError> {
     let mut line = Word::from_bytes(alloc, b"gdrv-write-specs: ")?;
     for part in [before, word, after] {
         push_shown(&mut line, part)?;
     }
-    line.push(b'\n')?;
     Ok(line)
 }
 
-/// A line about a gcc.
-fn gcc_line(alloc: Global, gcc: &Word, after: &[u8]) -> Result<Word, AllocError> {
-    line(alloc, b"'", gcc.as_bytes(), after)
-}
-
-/// The lines about a gcc that has other plans for lines.
-fn differing_lines(alloc: Global, gcc: &Word, lines: &[Word]) -> Result<Word, AllocError> {
-    let before = b"no spec file for '".as_slice();
-    let after = b"': with it these lines would not have gcc's plan".as_slice();
-    let mut text = line(alloc, before, gcc.as_bytes(), after)?;
-    for line in lines {
-        text.extend_from_slice(b"    ")?;
-        push_shown(&mut text, line.as_bytes())?;
-        text.push(b'\n')?;
+/// What precedes the word of a fault in its line, that word, and what follows it.
+fn parts_of(fault: &Fault) -> (&[u8], &[u8], &[u8]) {
+    match fault {
+        Fault::Memory => (b"out of memory", b"", b""),
+        Fault::NoGcc(gcc) => (b"cannot start '", gcc.as_bytes(), b"'"),
+        Fault::NoDump(gcc) => (
+            b"'",
+            gcc.as_bytes(),
+            b"' prints no spec texts (-dumpspecs): it is no gcc",
+        ),
+        Fault::BadDump(gcc) => (
+            b"'",
+            gcc.as_bytes(),
+            b"' prints spec texts that can't be read",
+        ),
+        Fault::NoOptions(gcc) => (b"'", gcc.as_bytes(), b"' lists no options"),
+        Fault::NoPlan(gcc) => (
+            b"'",
+            gcc.as_bytes(),
+            b"' plans no compilation and link of C",
+        ),
+        Fault::NoDriver => (b"cannot find gdrv-cc, by which it compares plans", b"", b""),
+        Fault::NoPlace(path) => (b"cannot write '", path.as_bytes(), b"'"),
+        Fault::NoSpecs(path) => (b"cannot read '", path.as_bytes(), b"'"),
+        Fault::NoRows(path) => (
+            b"'",
+            path.as_bytes(),
+            b"' has no rows, so no words can be added: \
+'gdrv-write-specs -o X.specs GCC OPTION..' writes a file that serves these options, if it can",
+        ),
+        Fault::NotMachine(option) => (
+            b"no words for '",
+            option.as_bytes(),
+            b"': it is no option for a machine of this gcc",
+        ),
+        Fault::NoRow(key) => (
+            b"no words for '",
+            key.as_bytes(),
+            b"': the gcc refuses them, or its plan would be another one",
+        ),
+        Fault::Refuses(gcc, _) => (b"'", gcc.as_bytes(), b"' refuses '"),
+        Fault::Differs(gcc, _) => (
+            b"no spec file for '",
+            gcc.as_bytes(),
+            b"': with it these lines would not have gcc's plan",
+        ),
+        Fault::TooMuch(question) => (b"'", question.as_bytes(), b"' prints more than 1 MiB"),
+        Fault::TooSlow(question) => (
+            b"'",
+            question.as_bytes(),
+            b"' doesn't answer within 60 seconds",
+        ),
+        Fault::Other => (b"the system refused a call", b"", b""),
     }
-    Ok(text)
 }
 
 impl Fault {
     /// What the user reads.
     pub fn text(&self, alloc: Global) -> Result<Word, AllocError> {
-        match self {
-            Fault::Memory => line(alloc, b"out of memory", b"", b""),
-            Fault::NoGcc(gcc) => line(alloc, b"cannot start '", gcc.as_bytes(), b"'"),
-            Fault::NoDump(gcc) => {
-                gcc_line(
-                    alloc,
-                    gcc,
-                    b"' prints no spec texts (-dumpspecs): it is no gcc",
-                )
-            }
-            Fault::BadDump(gcc) => gcc_line(alloc, gcc, b"' prints spec texts that can't be read"),
-            Fault::NoOptions(gcc) => gcc_line(alloc, gcc, b"' lists no options"),
-            Fault::NoPlan(gcc) => gcc_line(alloc, gcc, b"' plans no compilation and link of C"),
-            Fault::NoDriver => line(
-                alloc,
-                b"cannot find gdrv-cc, by which it compares plans",
-                b"",
-                b"",
-            ),
-            Fault::NoPlace(path) => line(alloc, b"cannot write '", path.as_bytes(), b"'"),
-            Fault::NoSpecs(path) => line(alloc, b"cannot read '", path.as_bytes(), b"'"),
-            Fault::NoRows(path) => line(
-                alloc,
-                b"'",
-                path.as_bytes(),
-                b"' has no rows, so no words can be added: \
-'gdrv-write-specs -o X.specs GCC OPTION..' writes a file that serves these options, if it can",
-            ),
-            Fault::NotMachine(option) => line(
-                alloc,
-                b"no words for '",
-                option.as_bytes(),
-                b"': it is no option for a machine of this gcc",
-            ),
-            Fault::NoRow(key) => line(
-                alloc,
-                b"no words for '",
-                key.as_bytes(),
-                b"': the gcc refuses them, or its plan would be another one",
-            ),
-            Fault::Refuses(gcc, options) => {
-                let mut rest = Word::from_bytes(alloc, b"' refuses '")?;
-                rest.extend_from_slice(options.as_bytes())?;
-                rest.push(b'\'')?;
-                gcc_line(alloc, gcc, rest.as_bytes())
-            }
-            Fault::Differs(gcc, lines) => differing_lines(alloc, gcc, lines.as_slice()),
-            Fault::TooMuch(question) => gcc_line(alloc, question, b"' prints more than 1 MiB"),
-            Fault::TooSlow(question) => {
-                gcc_line(alloc, question, b"' doesn't answer within 60 seconds")
-            }
-            Fault::Other => line(alloc, b"the system refused a call", b"", b""),
+        let (before, word, after) = parts_of(self);
+        let mut text = begun(alloc, before, word, after)?;
+        if let Fault::Refuses(_, options) = self {
+            push_shown(&mut text, options.as_bytes())?;
+            text.push(b'\'')?;
         }
+        text.push(b'\n')?;
+        if let Fault::Differs(_, lines) = self {
+            for line in lines.as_slice() {
+                text.extend_from_slice(b"    ")?;
+                push_shown(&mut text, line.as_bytes())?;
+                text.push(b'\n')?;
+            }
+        }
+        Ok(text)
     }
 }
 
 /// What the user reads of a call that asks for nothing.
 pub fn misuse_text(alloc: Global, fault: &CallFault) -> Result<Word, AllocError> {
-    match fault {
-        CallFault::Memory => line(alloc, b"out of memory", b"", b""),
-        CallFault::Misused => {
-            line(
-                alloc,
-                b"expected [--force] [-o X.specs] GCC [OPTION..], --add X.specs OPTION.., --row X.specs OPTION.., --help or --version",
-                b"",
-                b"",
-            )
-        }
-        CallFault::NotSpecs(path) => {
-            line(
-                alloc,
-                b"the name of a spec file ends in .specs: '",
-                path.as_bytes(),
-                b"'",
-            )
-        }
-    }
+    let mut text = match fault {
+        CallFault::Memory => begun(alloc, b"out of memory", b"", b"")?,
+        CallFault::Misused => begun(
+            alloc,
+            b"expected [--force] [-o X.specs] GCC [OPTION..], --add X.specs OPTION.., \
+--row X.specs OPTION.., --help or --version",
+            b"",
+            b"",
+        )?,
+        CallFault::NotSpecs(path) => begun(
+            alloc,
+            b"the name of a spec file ends in .specs: '",
+            path.as_bytes(),
+            b"'",
+        )?,
+    };
+    text.push(b'\n')?;
+    Ok(text)
 }

@@ -9,16 +9,6 @@ pub fn has_word(words: &[Word], word: &[u8]) -> bool {
     words.iter().any(|it| it.as_bytes() == word)
 }
 
-/// Whether a text has these bytes.
-pub fn has_bytes(text: &[u8], bytes: &[u8]) -> bool {
-    for at in 0..text.len() {
-        if text.get(at..).unwrap_or(b"").starts_with(bytes) {
-            return true;
-        }
-    }
-    false
-}
-
 /// Whether a program has this name, alone or after that of a target: `as`, `bpf-as`.
 fn is_called(program: &[u8], name: &[u8]) -> bool {
     match base(program).strip_suffix(name) {
@@ -27,70 +17,49 @@ fn is_called(program: &[u8], name: &[u8]) -> bool {
     }
 }
 
-/// The last command of a program of this name, with its words.
-pub fn command_named<'a>(commands: &'a [Listing<Word>], name: &[u8]) -> Option<&'a [Word]> {
-    let mut found = None;
+/// The last command of a program of this name, with its words; empty where there is none.
+pub fn command_named<'a>(commands: &'a [Listing<Word>], name: &[u8]) -> &'a [Word] {
+    let mut found = [].as_slice();
     for command in commands {
         if let [program, ..] = command.as_slice() {
             if is_called(program.as_bytes(), name) {
-                found = Some(command.as_slice());
+                found = command.as_slice();
             }
         }
     }
     found
 }
 
+/// The words after the first that is this one.
+pub fn words_after<'a>(words: &'a [Word], before: &[u8]) -> &'a [Word] {
+    match words.iter().position(|word| word.as_bytes() == before) {
+        Some(at) => words
+            .get(at..)
+            .and_then(|rest| rest.get(1..))
+            .unwrap_or(&[]),
+        None => &[],
+    }
+}
+
+/// The words from one on and before another.
+pub fn words_between<'a>(words: &'a [Word], from: &[u8], to: &[u8]) -> &'a [Word] {
+    let rest = words_after(words, from);
+    let end = rest.iter().position(|word| word.as_bytes() == to);
+    rest.get(..end.unwrap_or(rest.len())).unwrap_or(rest)
+}
+
 /// The word after this one; empty where there is none.
 pub fn word_after(alloc: Global, words: &[Word], before: &[u8]) -> Result<Word, Fault> {
-    let mut is_next = false;
-    for word in words {
-        if is_next {
-            return Ok(word.clone()?);
-        }
-        is_next = word.as_bytes() == before;
+    match words_after(words, before) {
+        [word, ..] => Ok(word.clone()?),
+        [] => Ok(Word::empty(alloc)),
     }
-    Ok(Word::empty(alloc))
 }
 
 /// The first word that begins so; empty where there is none.
 pub fn word_beginning(alloc: Global, words: &[Word], start: &[u8]) -> Result<Word, Fault> {
-    for word in words {
-        if word.as_bytes().starts_with(start) {
-            return Ok(word.clone()?);
-        }
+    match words.iter().find(|word| word.as_bytes().starts_with(start)) {
+        Some(word) => Ok(word.clone()?),
+        None => Ok(Word::empty(alloc)),
     }
-    Ok(Word::empty(alloc))
-}
-
-/// The path in the first word that begins so; empty where there is none. The slash belongs to it.
-pub fn word_after_start(alloc: Global, words: &[Word], start: &[u8]) -> Result<Word, Fault> {
-    for word in words {
-        if let Some(rest) = word.as_bytes().strip_prefix(start) {
-            let mut path = Word::from_bytes(alloc, b"/")?;
-            path.extend_from_slice(rest)?;
-            return Ok(path);
-        }
-    }
-    Ok(Word::empty(alloc))
-}
-
-/// The words from one on and before another.
-pub fn words_between(
-    alloc: Global,
-    words: &[Word],
-    from: &[u8],
-    to: &[u8],
-) -> Result<Listing<Word>, Fault> {
-    let mut found = Listing::new(alloc);
-    let mut is_inside = false;
-    for word in words {
-        if is_inside && word.as_bytes() == to {
-            return Ok(found);
-        }
-        if is_inside {
-            found.push(word.clone()?)?;
-        }
-        is_inside = is_inside || word.as_bytes() == from;
-    }
-    Ok(found)
 }

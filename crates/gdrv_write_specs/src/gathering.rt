@@ -1,15 +1,14 @@
 //! What is known of a gcc is gathered from its answers.
 
-use crate::asked::Asked;
-use crate::asking::{commands, joined};
-use crate::checking::Pair;
+use crate::asking::{Gcc, commands};
 use crate::choosing::{Chooser, choosers_of, key_by, push_choosers};
 use crate::fault::Fault;
-use crate::finding::{command_named, has_bytes, has_word, word_beginning};
-use crate::libraries::{Libraries, LibraryText, only};
+use crate::finding::{command_named, has_word, word_beginning};
+use crate::libraries::{Libraries, LibraryText, only, paths_of};
 use crate::natives::{row_values, with_natives};
 use crate::programs::is_folder;
-use crate::rows::{Row, keys_of, rows_of};
+use crate::rows::{Row, rows_of};
+use crate::texts::{cut_at, has_bytes, joined};
 use crate::vendors::{VendorsFile, copies_in};
 use crate::wording::{own_records, with_other_words};
 use drv_dump::{OurDump, pass_libraries, translate_dump};
@@ -21,15 +20,14 @@ use std::alloc::Global;
 pub const PROBE: &[u8] =
     b"*link_command:\nPROBE-D %D\n\n*cpp_unique_options:\nPROBE-I %I PROBE-END\n\n";
 
-/// Adds the folders of a path that are there, and that a list lacks.
-fn add_folders(rt: &HostRuntime, path: &[u8], folders: &mut Listing<Word>) -> Result<(), Fault> {
-    for folder in path.split(|byte| *byte == b':') {
-        if is_folder(rt, folder)? && !has_word(folders.as_slice(), folder) {
-            folders.push(Word::from_bytes(rt.alloc(), folder)?)?;
-        }
-    }
-    Ok(())
-}
+/// The line of a compilation whose plan names the programs and the folders.
+const COMPILING: &[u8] = b"-### -c x.c -o x.o";
+
+/// Files that tell which of gcc's folders are of use.
+const FILES: [&[u8]; 4] = [b"libgcc.a", b"crti.o", b"crt0.o", b"nosys.specs"];
+
+/// Programs that tell it, too.
+const PROGRAMS: [&[u8]; 4] = [b"cc1", b"as", b"ld", b"objcopy"];
 
 /// Whether some of these files are in a folder.
 fn is_used(folder: &[u8], files: &[Word]) -> bool {
@@ -37,46 +35,6 @@ fn is_used(folder: &[u8], files: &[Word]) -> bool {
         Some(name) => !name.contains(&b'/') && !name.is_empty(),
         None => false,
     })
-}
-
-/// Files that tell which of gcc's folders are of use.
-const FILES: [&[u8]; 4] = [b"libgcc.a", b"crti.o", b"crt0.o", b"nosys.specs"];
-
-/// The programs and files of a gcc that its texts name.
-fn files_of(asked: Asked<'_>, names: &[Word]) -> Result<Listing<Word>, Fault> {
-    let mut files = Listing::new(asked.alloc());
-    for name in names {
-        files.push(asked.path_of(name.as_bytes())?)?;
-    }
-    for name in FILES {
-        files.push(asked.path_of(name)?)?;
-    }
-    for name in [b"cc1".as_slice(), b"as", b"ld", b"objcopy"] {
-        files.push(asked.answer(b"-print-prog-name=", name)?)?;
-    }
-    Ok(files)
-}
-
-/// Those of gcc's folders that have one of these files.
-fn used_folders(folders: &[Word], files: &[Word], alloc: Global) -> Result<Listing<Word>, Fault> {
-    let mut used = Listing::new(alloc);
-    for folder in folders {
-        if is_used(folder.as_bytes(), files) {
-            used.push(folder.clone()?)?;
-        }
-    }
-    Ok(used)
-}
-
-/// The folders in which gcc looks for programs and for files.
-fn folders_of(rt: &HostRuntime, shown: &[u8]) -> Result<Listing<Word>, Fault> {
-    let mut folders = Listing::new(rt.alloc());
-    for key in [b"COMPILER_PATH=".as_slice(), b"LIBRARY_PATH=".as_slice()] {
-        for path in values(rt.alloc(), key, shown)?.as_slice() {
-            add_folders(rt, path.as_bytes(), &mut folders)?;
-        }
-    }
-    Ok(folders)
 }
 
 /// What is known of a gcc.
@@ -94,8 +52,6 @@ pub struct Gathered {
     pub rows: Listing<Row>,
     /// The key of the options that the user names.
     pub key: Word,
-    /// Lines for the user about what its spec file leaves out.
-    pub notes: Word,
 }
 
 /// The texts of a dump in this driver's language, and of it what they lack.
@@ -107,21 +63,7 @@ struct Translated {
     probes: Listing<Word>,
 }
 
-/// The root that the linker is given without an option, and whether it is given that of the line.
-#[derive(Drop)]
-struct Roots {
-    own: Word,
-    is_rooted: bool,
-}
-
-/// Programs, and the folders that have them.
-#[derive(Drop)]
-struct Tools {
-    programs: Programs,
-    folders: Listing<Word>,
-}
-
-impl<'a> Asked<'a> {
+impl<'a> Gcc<'a> {
     /// Its texts in this driver's language.
     fn translate(self) -> Result<Translated, Fault> {
         let alloc = self.alloc();
@@ -130,7 +72,7 @@ impl<'a> Asked<'a> {
             translate_dump(alloc, dump.as_bytes()),
             pass_libraries(alloc, dump.as_bytes()),
         ) else {
-            return Err(Fault::BadDump(self.gcc.clone()?));
+            return Err(Fault::BadDump(self.path.clone()?));
         };
         Ok(Translated {
             texts: with_other_words(alloc, &texts)?,
@@ -140,58 +82,67 @@ impl<'a> Asked<'a> {
         })
     }
 
-    /// The root that the linker is given; empty if none.
-    fn root_with(self, words: &[u8]) -> Result<Word, Fault> {
-        let line = joined(self.alloc(), &[b"-### x.o -o x ".as_slice(), words])?;
-        let planned = self.plan(line.as_bytes())?;
-        let link = match planned.as_slice().last() {
-            Some(link) => link.as_slice(),
-            None => &[],
-        };
-        word_beginning(self.alloc(), link, b"--sysroot=")
-    }
-
-    /// The roots of a link.
-    fn roots(self) -> Result<Roots, Fault> {
-        let words = joined(
-            self.alloc(),
-            &[b"--sysroot=".as_slice(), self.work.root.as_bytes()],
-        )?;
-        let own = self.root_with(b"")?;
-        let is_rooted = self.root_with(words.as_bytes())?.as_bytes() == words.as_bytes();
-        Ok(Roots { own, is_rooted })
-    }
-
     /// What the assembler is given for `-g`; empty if nothing.
     fn records(self) -> Result<Word, Fault> {
         let planned = self.plan(b"-### -g -c x.c -o x.o")?;
-        let assembler = command_named(planned.as_slice(), b"as").unwrap_or(&[]);
+        let assembler = command_named(planned.as_slice(), b"as");
         word_beginning(self.alloc(), assembler, b"--gdwarf")
     }
 
-    /// The programs by the plans of a compilation, of which this is shown, and of a link.
-    fn all_programs(self, shown: &Word) -> Result<Programs, Fault> {
-        let compiling = commands(self.alloc(), shown.as_bytes())?;
-        let linking = self.plan(b"-### x.o -o x")?;
-        let (Some([cc1, ..]), Some([assembler, ..]), Some(link)) = (
-            command_named(compiling.as_slice(), b"cc1"),
-            command_named(compiling.as_slice(), b"as"),
-            linking.as_slice().last(),
-        ) else {
-            return Err(Fault::NoPlan(self.gcc.clone()?));
-        };
-        self.programs(cc1, assembler, link.as_slice())
+    /// Whether a link is given the root that its line names.
+    fn is_rooted(self) -> Result<bool, Fault> {
+        let root = joined(self.alloc(), &[b"--sysroot=", self.work.root.as_bytes()])?;
+        let link = self.link(root.as_bytes())?;
+        let given = word_beginning(self.alloc(), link.as_slice(), b"--sysroot=")?;
+        Ok(given.as_bytes() == root.as_bytes())
     }
 
-    /// The programs, and the folders that are of use.
-    fn tools(self, names: &[Word]) -> Result<Tools, Fault> {
-        let shown = self.ask(b"-### -c x.c -o x.o")?.err;
-        let folders = folders_of(self.rt, shown.as_bytes())?;
-        let files = files_of(self, names)?;
-        Ok(Tools {
-            folders: used_folders(folders.as_slice(), files.as_slice(), self.alloc())?,
-            programs: self.all_programs(&shown)?,
-        })
+    /// The programs by the plans of a compilation and of a link.
+    fn all_programs(self) -> Result<Programs, Fault> {
+        let compiling = self.plan(COMPILING)?;
+        let link = self.link(b"")?;
+        match (
+            command_named(compiling.as_slice(), b"cc1"),
+            command_named(compiling.as_slice(), b"as"),
+            link.as_slice(),
+        ) {
+            ([cc1, ..], [assembler, ..], [_, ..]) => self.programs(cc1, assembler, link.as_slice()),
+            _ => Err(Fault::NoPlan(self.path.clone()?)),
+        }
+    }
+
+    /// The programs and files that the texts name by these names, and others that tell which folders
+    /// are of use.
+    fn files(self, names: &[Word]) -> Result<Listing<Word>, Fault> {
+        let mut files = paths_of(self, names)?;
+        for name in FILES {
+            files.push(self.path_of(name)?)?;
+        }
+        for name in PROGRAMS {
+            files.push(self.answer(b"-print-prog-name=", name)?)?;
+        }
+        Ok(files)
+    }
+
+    /// The folders in which it looks for programs and for files, of those that are there and have some
+    /// that the texts name: each once.
+    fn folders(self, names: &[Word]) -> Result<Listing<Word>, Fault> {
+        let shown = self.ask(COMPILING)?.err;
+        let files = self.files(names)?;
+        let mut folders = Listing::new(self.alloc());
+        for key in [b"COMPILER_PATH=".as_slice(), b"LIBRARY_PATH="] {
+            for path in values(self.alloc(), key, shown.as_bytes())?.as_slice() {
+                for folder in path.as_bytes().split(|byte| *byte == b':') {
+                    if is_used(folder, files.as_slice())
+                        && is_folder(self.rt, folder)?
+                        && !has_word(folders.as_slice(), folder)
+                    {
+                        folders.push(Word::from_bytes(self.alloc(), folder)?)?;
+                    }
+                }
+            }
+        }
+        Ok(folders)
     }
 
     /// The named texts: of files, of what functions give, and of the records of an assembly.
@@ -223,13 +174,10 @@ fn have_test(alloc: Global, texts: &[u8], switch: &[u8]) -> Result<bool, Fault> 
 /// Whether texts test a word that gcc adds for its machine, or one with its name and any value.
 fn test_word(alloc: Global, texts: &[u8], word: &[u8]) -> Result<bool, Fault> {
     let switch = word.get(1..).unwrap_or(b"");
-    let mut any = Word::empty(alloc);
-    if let Some(at) = switch.iter().position(|byte| *byte == b'=') {
-        any = joined(alloc, &[switch.get(..at).unwrap_or(b""), b"=*"])?;
-    }
+    let any = joined(alloc, &[cut_at(b'=', switch).0, b"=*"])?;
     Ok(
         have_test(alloc, texts, switch)?
-            || (!any.is_empty() && have_test(alloc, texts, any.as_bytes())?),
+            || (switch.contains(&b'=') && have_test(alloc, texts, any.as_bytes())?),
     )
 }
 
@@ -240,15 +188,13 @@ fn alone_by(alloc: Global, texts: &[u8], rows: &[Row]) -> Result<Alone, Fault> {
         return Ok(Alone::Refused);
     };
     let other = replace(alloc, texts, OF_NATIVE, b"")?;
-    let mut words = Listing::new(alloc);
     for word in row.words.as_slice() {
         let is_front = word.as_bytes().starts_with(b"--gdrv-");
         if is_front || test_word(alloc, other.as_bytes(), word.as_bytes())? {
             return Ok(Alone::Refused);
         }
-        words.push(word.clone()?)?;
     }
-    Ok(Alone::Served(words))
+    Ok(Alone::Served(row.words.clone()?))
 }
 
 /// How texts name side files.
@@ -260,96 +206,55 @@ fn side_files_of(texts: &[u8]) -> SideFiles {
     }
 }
 
-/// The rows of a gcc, with the options for no machine that are in their keys, and the key of the
-/// options that the user names.
-#[derive(Drop)]
-struct Keyed {
-    choosers: Listing<Chooser>,
-    key: Word,
-    rows: Listing<Row>,
-}
-
-/// Asks for the rows of a gcc with these folders, also for that of these options.
-fn with_keys(
-    pair: Pair<'_>,
-    probes: &[Word],
-    folders: &[Word],
-    options: &[Word],
-) -> Result<Keyed, Fault> {
-    let alloc = pair.rt.alloc();
-    let none = Word::empty(alloc);
-    let choosers = choosers_of(pair)?;
-    let mut lines = Word::empty(alloc);
-    push_choosers(&mut lines, choosers.as_slice())?;
-    let key = key_by(alloc, lines.as_bytes(), options)?;
-    let keys = keys_of(pair.gcc_with(&none), choosers.as_slice(), &key)?;
-    let rows = rows_of(pair, probes, folders, keys.as_slice())?;
-    Ok(Keyed {
-        choosers,
-        key,
-        rows,
-    })
-}
-
-/// What the spec file of a gcc with these texts and rows is made of.
+/// What the spec file of a gcc with these texts, folders and rows is made of.
 fn toolchain_of(
-    pair: Pair<'_>,
-    asked: Asked<'_>,
+    gcc: Gcc<'_>,
     translated: &Translated,
-    tools: Tools,
+    names: Listing<Word>,
+    folders: Listing<Word>,
     rows: &[Row],
 ) -> Result<Toolchain, Fault> {
-    let alloc = asked.alloc();
-    let Tools { programs, folders } = tools;
-    let Roots { own, is_rooted } = asked.roots()?;
+    let alloc = gcc.alloc();
     let texts = translated.texts.as_bytes();
-    let names = named_texts(alloc, b"%(file_", texts)?;
-    let libraries = Libraries::of(pair, asked, names)?;
-    let included = asked.included_by(&translated.texts)?;
-    let named = asked.named(&libraries, translated.probes.as_slice())?;
-    let include_words = libraries.choice(alloc, LibraryText::Headers)?;
-    let link_folders = libraries.choice(alloc, LibraryText::Libraries)?;
-    let library = libraries.folder_text(alloc)?;
-    let alone = alone_by(alloc, texts, rows)?;
+    let libraries = Libraries::of(gcc, names)?;
     Ok(Toolchain {
         texts: translated.texts.clone()?,
         passed: translated.passed.clone()?,
-        named,
-        included,
+        named: gcc.named(&libraries, translated.probes.as_slice())?,
+        included: gcc.included_by(texts)?,
         folders,
-        sysroot: own,
-        is_rooted,
-        include_words,
-        link_folders,
-        programs,
-        refused: Listing::new(alloc),
-        alone,
-        library,
+        sysroot: word_beginning(alloc, gcc.link(b"")?.as_slice(), b"--sysroot=")?,
+        is_rooted: gcc.is_rooted()?,
+        include_words: libraries.choice(alloc, LibraryText::Headers)?,
+        link_folders: libraries.choice(alloc, LibraryText::Libraries)?,
+        programs: gcc.all_programs()?,
+        refused: gcc.unnamed_options()?,
+        alone: alone_by(alloc, texts, rows)?,
+        library: libraries.folder_text(alloc)?,
         side_files: side_files_of(texts),
     })
 }
 
+/// The key of these options where a gcc has these choosers.
+fn key_of(alloc: Global, choosers: &[Chooser], options: &[Word]) -> Result<Word, Fault> {
+    let mut lines = Word::empty(alloc);
+    push_choosers(&mut lines, choosers)?;
+    key_by(alloc, lines.as_bytes(), options)
+}
+
 /// Asks a gcc for all that its spec file is made of, and for its rows, also for that of these
 /// options.
-pub fn gather(pair: Pair<'_>, options: &[Word]) -> Result<Gathered, Fault> {
-    let alloc = pair.rt.alloc();
-    let option = Word::empty(alloc);
-    let plain = pair.gcc_with(&option);
-    let asked = Asked {
-        places: plain.places_of()?,
-        ..plain
-    };
-    let translated = asked.translate()?;
+pub fn gather(gcc: Gcc<'_>, options: &[Word]) -> Result<Gathered, Fault> {
+    let alloc = gcc.alloc();
+    let translated = gcc.translate()?;
     let names = named_texts(alloc, b"%(file_", translated.texts.as_bytes())?;
-    let tools = asked.tools(names.as_slice())?;
-    let folders = tools.folders.as_slice();
-    let copies = copies_in(pair.rt, folders)?;
-    let Keyed {
-        choosers,
-        key,
-        rows,
-    } = with_keys(pair, translated.probes.as_slice(), folders, options)?;
-    let toolchain = toolchain_of(pair, asked, &translated, tools, rows.as_slice())?;
+    let folders = gcc.folders(names.as_slice())?;
+    let copies = copies_in(gcc.rt, folders.as_slice())?;
+    let choosers = choosers_of(gcc)?;
+    let key = key_of(alloc, choosers.as_slice(), options)?;
+    let probes = translated.probes.as_slice();
+    let rows = rows_of(gcc, probes, folders.as_slice(), choosers.as_slice(), &key)?;
+    let toolchain = toolchain_of(gcc, &translated, names, folders, rows.as_slice())?;
     Ok(Gathered {
         toolchain,
         lacking: translated.lacking,
@@ -357,6 +262,5 @@ pub fn gather(pair: Pair<'_>, options: &[Word]) -> Result<Gathered, Fault> {
         choosers,
         rows,
         key,
-        notes: Word::empty(alloc),
     })
 }

@@ -1,11 +1,11 @@
 //! What a gcc finds for libraries: its own, and each in a folder of their own.
 
-use crate::asked::{Asked, Places};
-use crate::asking::joined;
-use crate::checking::Pair;
+use crate::asking::Gcc;
 use crate::fault::Fault;
 use crate::finding::{command_named, words_between};
-use crate::rows::{folder_switch, multilibs};
+use crate::natives::write_specs;
+use crate::rows::{folder_switch, library_of, multilibs};
+use crate::texts::{add_all, joined, numbered};
 use crate::work_folder::make_all;
 use drv_gcc::{
     Choice, ForMachine, NamedText, file_text, folder_text, libraries, placed_text, rooted_text,
@@ -31,8 +31,6 @@ pub struct Facts {
     shown: Folders,
     /// Where it has the files that its texts name.
     places: Listing<Word>,
-    /// The folders that these texts have by their numbers.
-    folders: Listing<Word>,
 }
 
 /// One of these texts.
@@ -46,70 +44,47 @@ pub enum LibraryText {
     Libraries,
 }
 
-/// The paths in which gcc looks for libraries below a root.
-fn library_paths(asked: Asked<'_>, root: &Word) -> Result<Listing<Word>, Fault> {
-    let alloc = asked.alloc();
-    let line = joined(
-        alloc,
-        &[b"-print-search-dirs --sysroot=".as_slice(), root.as_bytes()],
-    )?;
-    let said = asked.ask(line.as_bytes())?;
-    Ok(values(alloc, b"libraries: ", said.out.as_bytes())?)
-}
-
-/// Makes the folders of a path that are below a root.
-fn make_folders(rt: &HostRuntime, path: &[u8], root: &[u8]) -> Result<(), Fault> {
-    let folders = path.strip_prefix(b"=".as_slice()).unwrap_or(path);
-    for folder in folders.split(|byte| *byte == b':') {
-        if folder.starts_with(root) {
-            make_all(rt, folder)?;
+/// The folders that gcc looks for below a root are made there.
+fn make_below(gcc: Gcc<'_>, root: &Word) -> Result<(), Fault> {
+    let line = [b"-print-search-dirs --sysroot=".as_slice(), root.as_bytes()];
+    let said = gcc.ask(joined(gcc.alloc(), &line)?.as_bytes())?;
+    for path in values(gcc.alloc(), b"libraries: ", said.out.as_bytes())?.as_slice() {
+        let folders = path.as_bytes().strip_prefix(b"=".as_slice());
+        for folder in folders
+            .unwrap_or(path.as_bytes())
+            .split(|byte| *byte == b':')
+        {
+            if folder.starts_with(root.as_bytes()) {
+                make_all(gcc.rt, folder)?;
+            }
         }
     }
     Ok(())
 }
 
-/// The folders that gcc looks for below a root are made there.
-fn make_below(asked: Asked<'_>, root: &Word) -> Result<(), Fault> {
-    let paths = library_paths(asked, root)?;
-    for path in paths.as_slice() {
-        make_folders(asked.rt, path.as_bytes(), root.as_bytes())?;
-    }
-    Ok(())
-}
-
 /// The text for these words, of which one names gcc's own folder, and the last is apart.
-fn libraries_of(alloc: Global, own: &Word, words: &[Word], last: &Word) -> Result<Word, Fault> {
+fn libraries_of(alloc: Global, own: &Word, words: &[Word]) -> Result<Word, Fault> {
+    let Some((last, folders)) = words.split_last() else {
+        return Ok(libraries(alloc, &[], &[], b"")?);
+    };
     let own_word = joined(alloc, &[b"-L".as_slice(), own.as_bytes()])?;
-    let found = words
+    let found = folders
         .iter()
         .position(|it| it.as_bytes() == own_word.as_bytes());
-    let (before, rest) = words.split_at(found.unwrap_or(0).min(words.len()));
+    let (before, rest) = folders.split_at(found.unwrap_or(0).min(folders.len()));
     Ok(libraries(alloc, before, rest, last.as_bytes())?)
 }
 
-/// The text for the folders of headers in commands.
-fn headers_in(alloc: Global, commands: &[Listing<Word>]) -> Result<Word, Fault> {
-    let cc1 = command_named(commands, b"cc1").unwrap_or(&[]);
-    let headers = words_between(alloc, cc1, b"PROBE-I", b"PROBE-END")?;
-    Ok(words_text(alloc, headers.as_slice())?)
-}
-
-/// The text for the folders of libraries in commands.
-fn libraries_in(alloc: Global, own: &Word, commands: &[Listing<Word>]) -> Result<Word, Fault> {
-    let link = command_named(commands, b"PROBE-D").unwrap_or(&[]);
-    let mut folders = words_between(alloc, link, b"PROBE-D", b"")?;
-    let last = folders.pop().unwrap_or(Word::empty(alloc));
-    libraries_of(alloc, own, folders.as_slice(), &last)
-}
-
 /// The texts for the folders that gcc shows with these words.
-fn folders_with(asked: Asked<'_>, own: &Word, words: &[u8]) -> Result<Folders, Fault> {
-    let alloc = asked.alloc();
+fn folders_with(gcc: Gcc<'_>, own: &Word, words: &[u8]) -> Result<Folders, Fault> {
+    let alloc = gcc.alloc();
     let line = joined(alloc, &[b"-### -specs=probe x.c -o x ".as_slice(), words])?;
-    let probed = asked.plan(line.as_bytes())?;
+    let probed = gcc.plan(line.as_bytes())?;
+    let compiler = command_named(probed.as_slice(), b"cc1");
+    let linker = command_named(probed.as_slice(), b"PROBE-D");
     Ok(Folders {
-        headers: headers_in(alloc, probed.as_slice())?,
-        libraries: libraries_in(alloc, own, probed.as_slice())?,
+        headers: words_text(alloc, words_between(compiler, b"PROBE-I", b"PROBE-END"))?,
+        libraries: libraries_of(alloc, own, words_between(linker, b"PROBE-D", b""))?,
     })
 }
 
@@ -133,9 +108,9 @@ fn common_start(one: &[u8], other: &[u8]) -> usize {
     end
 }
 
-/// What a root is in a text of words.
-fn root_in_text(alloc: Global, root: &Word) -> Result<Word, Fault> {
-    let one = [root.clone()?];
+/// A word in a text of words.
+fn text_of(alloc: Global, word: &Word) -> Result<Word, Fault> {
+    let one = [word.clone()?];
     let written = words_text(alloc, &one)?;
     Ok(Word::from_bytes(alloc, written.as_bytes().trim_ascii())?)
 }
@@ -148,42 +123,35 @@ fn maybe_rooted(alloc: Global, plain: Word, rooted: &Word, root: &Word) -> Resul
     let end = common_start(plain.as_bytes(), rooted.as_bytes());
     let (start, own) = plain.as_bytes().split_at(end.min(plain.len()));
     let below = rooted.as_bytes().get(end..).unwrap_or(b"");
-    let name = root_in_text(alloc, root)?;
+    let name = text_of(alloc, root)?;
     let rest = rooted_text(alloc, own, below, name.as_bytes())?;
     joined(alloc, &[start, rest.as_bytes()])
 }
 
 /// The texts for the folders, also with another root.
-fn all_folders(asked: Asked<'_>, own: &Word) -> Result<Folders, Fault> {
-    let alloc = asked.alloc();
-    let root = &asked.work.root;
-    make_below(asked, root)?;
+fn all_folders(gcc: Gcc<'_>, own: &Word) -> Result<Folders, Fault> {
+    let alloc = gcc.alloc();
+    let root = &gcc.work.root;
+    make_below(gcc, root)?;
     let words = joined(alloc, &[b"--sysroot=".as_slice(), root.as_bytes()])?;
-    let plain = folders_with(asked, own, b"")?;
-    let rooted = folders_with(asked, own, words.as_bytes())?;
+    let plain = folders_with(gcc, own, b"")?;
+    let rooted = folders_with(gcc, own, words.as_bytes())?;
     Ok(Folders {
         headers: maybe_rooted(alloc, plain.headers, &rooted.headers, root)?,
         libraries: maybe_rooted(alloc, plain.libraries, &rooted.libraries, root)?,
     })
 }
 
-/// The folder of a file of this name.
+/// The folder of a file of this name, with its slash.
 fn folder_of<'a>(path: &'a [u8], name: &[u8]) -> Option<&'a [u8]> {
-    let folder = path.strip_suffix(name)?;
-    if folder.ends_with(b"/") {
-        Some(folder)
-    } else {
-        None
-    }
+    path.strip_suffix(name)
+        .filter(|folder| folder.ends_with(b"/"))
 }
 
 /// The number of a folder in a list, which then has it.
 fn number_of(alloc: Global, folders: &mut Listing<Word>, folder: &[u8]) -> Result<usize, Fault> {
-    let found = folders
-        .as_slice()
-        .iter()
-        .position(|it| it.as_bytes() == folder);
-    if let Some(number) = found {
+    let mut known = folders.as_slice().iter();
+    if let Some(number) = known.position(|it| it.as_bytes() == folder) {
         return Ok(number);
     }
     let number = folders.len();
@@ -205,52 +173,71 @@ fn own_place(
     Ok(placed_text(alloc, name, Buffer::new().format(number).as_bytes())?)
 }
 
-/// The text that finds a file. In a fixed place, and for libraries in a folder of their own, a file
-/// that gcc doesn't find has its plain name.
-fn place(asked: Asked<'_>, name: &Word, folders: &mut Listing<Word>) -> Result<Word, Fault> {
-    let alloc = asked.alloc();
-    let path = asked.path_of(name.as_bytes())?;
-    if let (true, Places::Searched) = (asked.option.is_empty(), asked.places) {
-        return own_place(alloc, name.as_bytes(), path.as_bytes(), folders);
+/// The paths of files of these names; empty where gcc doesn't find one. It is asked for all at once,
+/// by a spec file, and for one that it doesn't show so by itself.
+pub fn paths_of(gcc: Gcc<'_>, names: &[Word]) -> Result<Listing<Word>, Fault> {
+    let mut specs = Word::from_bytes(gcc.alloc(), b"*link_command:\nPROBE-F")?;
+    for name in names {
+        add_all(&mut specs, &[b" ", name.as_bytes(), b"%s"])?;
     }
-    let one = [if path.is_empty() { name.clone()? } else { path }];
-    let written = words_text(alloc, &one)?;
-    Ok(Word::from_bytes(alloc, written.as_bytes().trim_ascii())?)
+    specs.extend_from_slice(b"\n\n")?;
+    write_specs(gcc, b"files", &specs)?;
+    let planned = gcc.plan(b"-### x.o -o x -specs=files")?;
+    let mut shown = command_named(planned.as_slice(), b"PROBE-F").iter().skip(1);
+    let mut paths = Listing::new(gcc.alloc());
+    for name in names {
+        paths.push(match shown.next() {
+            Some(path) if path.as_bytes().starts_with(b"/") => path.clone()?,
+            Some(_) => Word::empty(gcc.alloc()),
+            None => gcc.path_of(name.as_bytes())?,
+        })?;
+    }
+    Ok(paths)
 }
 
-/// The texts that find files.
-fn places(
-    asked: Asked<'_>,
-    names: &[Word],
+/// The text that finds a file that gcc has at a path. In a fixed place, and for libraries in a folder
+/// of their own, one that it doesn't find has its plain name.
+fn place(
+    gcc: Gcc<'_>,
+    name: &Word,
+    path: &Word,
     folders: &mut Listing<Word>,
-) -> Result<Listing<Word>, Fault> {
-    let mut places = Listing::new(asked.alloc());
-    for name in names {
-        places.push(place(asked, name, folders)?)?;
+) -> Result<Word, Fault> {
+    if gcc.options.is_empty() && !gcc.has_fixed_places()? {
+        return own_place(gcc.alloc(), name.as_bytes(), path.as_bytes(), folders);
     }
-    Ok(places)
+    text_of(gcc.alloc(), if path.is_empty() { name } else { path })
 }
 
 /// The folder of gcc's own library.
-pub fn own_folder(asked: Asked<'_>) -> Result<Word, Fault> {
-    let path = asked.path_of(b"libgcc.a")?;
-    let bytes = path.as_bytes();
-    let folder = bytes.strip_suffix(b"/libgcc.a".as_slice()).unwrap_or(b"");
-    Ok(Word::from_bytes(asked.alloc(), folder)?)
-}
-
-/// What gcc finds with the options of these libraries, whose folder this is; empty for its own.
-fn facts_for(asked: Asked<'_>, own: &Word, names: &[Word], folder: Word) -> Result<Facts, Fault> {
-    let mut folders = Listing::new(asked.alloc());
-    Ok(Facts {
-        folder,
-        shown: all_folders(asked, own)?,
-        places: places(asked, names, &mut folders)?,
-        folders,
-    })
+fn own_folder(gcc: Gcc<'_>) -> Result<Word, Fault> {
+    let path = gcc.path_of(b"libgcc.a")?;
+    let folder = path.as_bytes().strip_suffix(b"/libgcc.a".as_slice());
+    Ok(Word::from_bytes(gcc.alloc(), folder.unwrap_or(b""))?)
 }
 
 impl Facts {
+    /// What gcc finds with its options, which are those of the libraries in this folder; empty for
+    /// its own. The folders are those that the texts have by their numbers.
+    fn of(
+        gcc: Gcc<'_>,
+        names: &[Word],
+        folder: Word,
+        folders: &mut Listing<Word>,
+    ) -> Result<Facts, Fault> {
+        let shown = all_folders(gcc, &own_folder(gcc.with(b""))?)?;
+        let mut places = Listing::new(gcc.alloc());
+        let paths = paths_of(gcc, names)?;
+        for (name, path) in names.iter().zip(paths.as_slice()) {
+            places.push(place(gcc, name, path, folders)?)?;
+        }
+        Ok(Facts {
+            folder,
+            shown,
+            places,
+        })
+    }
+
     /// One of the texts.
     fn text(&self, part: LibraryText) -> &[u8] {
         match part {
@@ -262,11 +249,6 @@ impl Facts {
             LibraryText::Libraries => self.shown.libraries.as_bytes(),
         }
     }
-
-    /// The test of the switch that names the folder.
-    fn test(&self, alloc: Global) -> Result<Word, Fault> {
-        folder_switch(alloc, &self.folder)
-    }
 }
 
 /// The libraries of a gcc.
@@ -274,6 +256,8 @@ impl Facts {
 pub struct Libraries {
     /// The files that its texts name.
     names: Listing<Word>,
+    /// The folders that these texts have by their numbers.
+    folders: Listing<Word>,
     /// Its own.
     own: Facts,
     /// Those in folders of their own.
@@ -282,17 +266,22 @@ pub struct Libraries {
 
 impl Libraries {
     /// What a gcc finds for its libraries, of the files that its texts name.
-    pub fn of(pair: Pair<'_>, asked: Asked<'_>, names: Listing<Word>) -> Result<Libraries, Fault> {
-        let alloc = asked.alloc();
-        let folder = own_folder(asked)?;
-        let own = facts_for(asked, &folder, names.as_slice(), Word::empty(alloc))?;
+    pub fn of(gcc: Gcc<'_>, names: Listing<Word>) -> Result<Libraries, Fault> {
+        let alloc = gcc.alloc();
+        let mut folders = Listing::new(alloc);
+        let own = Facts::of(gcc, names.as_slice(), Word::empty(alloc), &mut folders)?;
         let mut others = Listing::new(alloc);
-        for option in multilibs(asked)?.as_slice() {
-            let other = pair.gcc_with(option);
-            let place = other.answer(b"-print-multi-directory", b"")?;
-            others.push(facts_for(other, &folder, names.as_slice(), place)?)?;
+        for options in multilibs(gcc)?.as_slice() {
+            let other = gcc.with(options.as_bytes());
+            let folder = library_of(other)?;
+            others.push(Facts::of(other, names.as_slice(), folder, &mut folders)?)?;
         }
-        Ok(Libraries { names, own, others })
+        Ok(Libraries {
+            names,
+            folders,
+            own,
+            others,
+        })
     }
 
     /// A text for the gcc's own libraries, and those of which it is another one.
@@ -301,15 +290,13 @@ impl Libraries {
         for it in self.others.as_slice() {
             if it.text(part) != self.own.text(part) {
                 others.push(ForMachine {
-                    test: it.test(alloc)?,
+                    test: folder_switch(alloc, &it.folder)?,
                     text: Word::from_bytes(alloc, it.text(part))?,
                 })?;
             }
         }
-        Ok(Choice {
-            own: Word::from_bytes(alloc, self.own.text(part))?,
-            others,
-        })
+        let own = Word::from_bytes(alloc, self.own.text(part))?;
+        Ok(Choice { own, others })
     }
 
     /// The named texts of files, and of their folders.
@@ -321,7 +308,7 @@ impl Libraries {
                 choice: self.choice(alloc, LibraryText::Place(n))?,
             })?;
         }
-        for (n, folder) in self.own.folders.as_slice().iter().enumerate() {
+        for (n, folder) in self.folders.as_slice().iter().enumerate() {
             texts.push(NamedText {
                 name: numbered(alloc, b"in_", n)?,
                 choice: only(alloc, folder_text(alloc, folder.as_bytes())?),
@@ -333,14 +320,15 @@ impl Libraries {
     /// The text of the folder of a line's library.
     pub fn folder_text(&self, alloc: Global) -> Result<Word, Fault> {
         if self.others.is_empty() {
-            return joined(alloc, &[b".".as_slice()]);
+            return Ok(Word::from_bytes(alloc, b".")?);
         }
         let mut text = Word::from_bytes(alloc, b"%{")?;
         for it in self.others.as_slice() {
-            text.extend_from_slice(it.test(alloc)?.as_bytes())?;
-            text.push(b':')?;
-            text.extend_from_slice(it.folder.as_bytes())?;
-            text.push(b';')?;
+            let test = folder_switch(alloc, &it.folder)?;
+            add_all(
+                &mut text,
+                &[test.as_bytes(), b":", it.folder.as_bytes(), b";"],
+            )?;
         }
         text.extend_from_slice(b":.}")?;
         Ok(text)
@@ -353,9 +341,4 @@ pub fn only(alloc: Global, own: Word) -> Choice {
         own,
         others: Listing::new(alloc),
     }
-}
-
-/// A name that ends in a number.
-pub fn numbered(alloc: Global, name: &[u8], number: usize) -> Result<Word, Fault> {
-    joined(alloc, &[name, Buffer::new().format(number).as_bytes()])
 }

@@ -1,9 +1,8 @@
 //! The options that a gcc lists.
 
-use crate::asking::{ask, joined};
+use crate::asking::Gcc;
 use crate::fault::Fault;
-use crate::names::sort_lines;
-use crate::work_folder::WorkFolder;
+use crate::texts::{add_all, joined, lines_of, sorted_lines};
 use drv_words::Word;
 
 /// The classes of options in the help of a gcc.
@@ -48,49 +47,40 @@ fn option_in(line: &[u8]) -> Option<&[u8]> {
 
 /// Adds the option that turns another off, if that has one.
 fn push_negative(list: &mut Word, option: &[u8]) -> Result<(), Fault> {
-    let has_one = matches!(option, [b'-', b'f' | b'm' | b'W', _, ..]) && !option.contains(&b'=');
-    if has_one {
-        let (letter, name) = option.split_at(2.min(option.len()));
-        list.extend_from_slice(letter)?;
-        list.extend_from_slice(b"no-")?;
-        list.extend_from_slice(name)?;
-        list.push(b'\n')?;
+    match option {
+        [b'-', b'f' | b'm' | b'W', _, ..] if !option.contains(&b'=') => {
+            let (letter, name) = option.split_at(2.min(option.len()));
+            add_all(list, &[letter, b"no-", name, b"\n"])
+        }
+        _ => Ok(()),
     }
-    Ok(())
 }
 
-/// Adds the options in lines of help that begin so, and those that turn them off.
-fn push_helped(list: &mut Word, help: &[u8], beginning: &[u8]) -> Result<(), Fault> {
+/// Adds the options in lines of help, and those that turn them off.
+fn push_helped(list: &mut Word, help: &[u8]) -> Result<(), Fault> {
     for line in help.split(|byte| *byte == b'\n') {
-        match option_in(line) {
-            Some(option) if option.starts_with(beginning) => {
-                list.extend_from_slice(option)?;
-                list.push(b'\n')?;
-                push_negative(list, option)?;
-            }
-            _ => {}
+        if let Some(option) = option_in(line) {
+            add_all(list, &[option, b"\n"])?;
+            push_negative(list, option)?;
         }
     }
     Ok(())
 }
 
-/// What a gcc lists for this beginning of options. An older one has no `--completion=`, but help.
-pub fn option_list(
-    rt: &HostRuntime,
-    work: &WorkFolder,
-    gcc: &Word,
-    beginning: &[u8],
-) -> Result<Word, Fault> {
-    let question = joined(rt.alloc(), &[b"--completion=".as_slice(), beginning])?;
-    let said = ask(rt, &work.lines, gcc, question.as_bytes())?;
+/// The options that a gcc lists, with what it says of them. An older one has no `--completion=`, but
+/// help.
+pub fn option_list(gcc: Gcc<'_>) -> Result<Word, Fault> {
+    let said = gcc.ask(b"--completion=-")?;
     if said.is_done {
         return Ok(said.out);
     }
-    let mut list = Word::empty(rt.alloc());
+    let mut list = Word::empty(gcc.alloc());
     for class in CLASSES {
-        let question = joined(rt.alloc(), &[b"--help=".as_slice(), class])?;
-        let help = ask(rt, &work.lines, gcc, question.as_bytes())?;
-        push_helped(&mut list, help.out.as_bytes(), beginning)?;
+        let question = joined(gcc.alloc(), &[b"--help=".as_slice(), class])?;
+        push_helped(&mut list, gcc.ask(question.as_bytes())?.out.as_bytes())?;
     }
-    sort_lines(rt.alloc(), &list)
+    lines_of(
+        gcc.alloc(),
+        sorted_lines(gcc.alloc(), list.as_bytes())?.as_slice(),
+    )
 }

@@ -5,7 +5,6 @@
 #![tactic(auto)]
 
 mod adding;
-mod asked;
 mod asking;
 mod bounded;
 mod cache;
@@ -33,6 +32,7 @@ mod refusing;
 mod rows;
 mod shortening;
 mod temporary;
+mod texts;
 mod vendors;
 mod version;
 mod wording;
@@ -70,16 +70,11 @@ fn print(rt: &HostRuntime, text: &[u8]) -> ExitCode {
     }
 }
 
-/// Prints the version.
-fn print_version(rt: &HostRuntime) -> ExitCode {
-    let mut text = Word::empty(rt.alloc());
-    let made = text.extend_from_slice(b"gdrv-write-specs ").is_ok()
-        && text.extend_from_slice(VERSION.as_bytes()).is_ok()
-        && text.push(b'\n').is_ok();
-    if made {
-        print(rt, text.as_bytes())
-    } else {
-        refuse(rt, Err(AllocError))
+/// Prints a text that was made, or refuses for lack of memory.
+fn print_made(rt: &HostRuntime, text: Result<String, AllocError>) -> ExitCode {
+    match text {
+        Ok(text) => print(rt, text.as_bytes()),
+        Err(_) => refuse(rt, Err(AllocError)),
     }
 }
 
@@ -103,7 +98,9 @@ fn print_row(rt: &HostRuntime, row: Result<Word, Fault>) -> ExitCode {
 fn act(rt: &HostRuntime, call: Result<Call, CallFault>) -> ExitCode {
     match call {
         Ok(Call::Help) => print(rt, HELP),
-        Ok(Call::Version) => print_version(rt),
+        Ok(Call::Version) => {
+            print_made(rt, format!(in rt.alloc(); "gdrv-write-specs {VERSION}\n"))
+        }
         Ok(Call::Write(order)) => end_call(rt, write_file(rt, &order)),
         Ok(Call::Row(Fate::Added, path, options)) => {
             end_call(rt, add_words(rt, &path, options.as_slice()))

@@ -1,9 +1,9 @@
 //! The functions of a gcc's texts that only some gccs have.
 
-use crate::asked::Asked;
-use crate::asking::joined;
+use crate::asking::Gcc;
 use crate::fault::Fault;
-use crate::libraries::{numbered, only};
+use crate::libraries::only;
+use crate::texts::{add_all, joined, numbered};
 use crate::work_folder::write;
 use drv_gcc::{NamedText, named_texts, replace};
 use drv_words::{Listing, Word};
@@ -43,51 +43,46 @@ fn guarded(alloc: Global, function: &[u8], arguments: &[u8], call: &Word) -> Res
     joined(alloc, &[guard, b":", call.as_bytes(), b"}"])
 }
 
-/// Writes a spec file of this name for the texts of a gcc.
-fn write_specs(asked: Asked<'_>, name: &[u8], specs: &Word) -> Result<(), Fault> {
-    let path = joined(asked.alloc(), &[asked.work.lines.as_bytes(), b"/", name])?;
-    write(asked.rt, &path, specs.as_bytes())
+/// Writes a spec file of this name among the lines' files.
+pub fn write_specs(gcc: Gcc<'_>, name: &[u8], specs: &Word) -> Result<(), Fault> {
+    let path = joined(gcc.alloc(), &[gcc.work.lines.as_bytes(), b"/", name])?;
+    write(gcc.rt, &path, specs.as_bytes())
 }
 
-/// Adds the command that shows what the text of this name gives, with this beginning of its name.
-fn push_command(specs: &mut Word, beginning: &[u8], name: &Word) -> Result<(), Fault> {
-    for part in [beginning, b" %(", name.as_bytes(), b") PROBE-END\n"] {
-        specs.extend_from_slice(part)?;
-    }
-    Ok(())
-}
-
-/// Writes a spec file of this name that shows what a call gives, which is the text of this name.
-fn write_probe(asked: Asked<'_>, name: &Word, call: &Word) -> Result<(), Fault> {
-    let head = b"*".as_slice();
+/// Adds a spec file that shows what a call gives, and gives the name of the text for that.
+pub fn add_probe(gcc: Gcc<'_>, call: &Word, probes: &mut Listing<Word>) -> Result<Word, Fault> {
+    let name = numbered(gcc.alloc(), b"native_", probes.len())?;
     let mut specs = joined(
-        asked.alloc(),
-        &[
-            head,
-            name.as_bytes(),
-            b":\n",
-            call.as_bytes(),
-            b"\n\n*link_command:\n",
-        ],
+        gcc.alloc(),
+        &[b"*", name.as_bytes(), b":\n", call.as_bytes()],
     )?;
-    push_command(&mut specs, b"PROBE-V", name)?;
-    specs.push(b'\n')?;
-    write_specs(asked, name.as_bytes(), &specs)
+    let link = [
+        b"\n\n*link_command:\nPROBE-V %(",
+        name.as_bytes(),
+        b") PROBE-END\n\n",
+    ];
+    add_all(&mut specs, &link)?;
+    write_specs(gcc, name.as_bytes(), &specs)?;
+    probes.push(name.clone()?)?;
+    Ok(name)
 }
 
 /// Writes the spec file `natives`. Behind those of all probes it shows what each gives, by a command
 /// with the name of that.
-fn write_all(asked: Asked<'_>, probes: &[Word]) -> Result<(), Fault> {
-    let mut specs = Word::from_bytes(asked.alloc(), b"*link_command:\n")?;
+fn write_all(gcc: Gcc<'_>, probes: &[Word]) -> Result<(), Fault> {
+    let mut specs = Word::from_bytes(gcc.alloc(), b"*link_command:\n")?;
     for probe in probes {
-        let beginning = joined(asked.alloc(), &[b"PROBE-".as_slice(), probe.as_bytes()])?;
-        push_command(&mut specs, beginning.as_bytes(), probe)?;
+        let name = probe.as_bytes();
+        add_all(
+            &mut specs,
+            &[b"PROBE-", name, b" %(", name, b") PROBE-END\n"],
+        )?;
     }
     specs.push(b'\n')?;
-    write_specs(asked, b"natives", &specs)
+    write_specs(gcc, b"natives", &specs)
 }
 
-impl<'a> Asked<'a> {
+impl<'a> Gcc<'a> {
     /// The commands that show what all probes give: those before one that ends gcc.
     pub fn all_shown(self, probes: &[Word]) -> Result<Listing<Listing<Word>>, Fault> {
         if probes.is_empty() {
@@ -95,58 +90,44 @@ impl<'a> Asked<'a> {
         }
         let mut line = Word::from_bytes(self.alloc(), b"-### x.o -o x")?;
         for probe in probes {
-            line.extend_from_slice(b" -specs=")?;
-            line.extend_from_slice(probe.as_bytes())?;
+            add_all(&mut line, &[b" -specs=", probe.as_bytes()])?;
         }
         line.extend_from_slice(b" -specs=natives")?;
         self.plan(line.as_bytes())
     }
 }
 
-/// A dump with the text of this name in the places of a call.
-fn with_native(alloc: Global, dump: &Word, name: &Word, call: &Word) -> Result<Word, Fault> {
-    let other = joined(alloc, &[b"%(".as_slice(), name.as_bytes(), b")"])?;
-    Ok(replace(alloc, dump.as_bytes(), call.as_bytes(), other.as_bytes())?)
-}
-
-/// Adds a spec file that shows what a call gives, and gives the name of the text for that.
-pub fn add_probe(asked: Asked<'_>, call: &Word, probes: &mut Listing<Word>) -> Result<Word, Fault> {
-    let name = numbered(asked.alloc(), b"native_", probes.len())?;
-    write_probe(asked, &name, call)?;
-    probes.push(name.clone()?)?;
-    Ok(name)
-}
-
 /// A dump with named texts in the places of the calls of this function, and a spec file for each
 /// that shows what it gives.
 fn with_function(
-    asked: Asked<'_>,
+    gcc: Gcc<'_>,
     function: &[u8],
     dump: Word,
     probes: &mut Listing<Word>,
 ) -> Result<Word, Fault> {
-    let alloc = asked.alloc();
+    let alloc = gcc.alloc();
     let found = named_texts(alloc, function, dump.as_bytes())?;
     let mut texts = dump;
     for arguments in found.as_slice() {
         let call = joined(alloc, &[function, arguments.as_bytes(), b")"])?;
         let guarded = guarded(alloc, function, arguments.as_bytes(), &call)?;
-        let name = add_probe(asked, &guarded, probes)?;
-        texts = with_native(alloc, &texts, &name, &call)?;
+        let name = add_probe(gcc, &guarded, probes)?;
+        let other = joined(alloc, &[b"%(".as_slice(), name.as_bytes(), b")"])?;
+        texts = replace(alloc, texts.as_bytes(), call.as_bytes(), other.as_bytes())?;
     }
     Ok(texts)
 }
 
 /// A dump with named texts in the places of the calls of these functions, and a spec file for each
 /// that shows what it gives.
-pub fn with_natives(asked: Asked<'_>, dump: Word) -> Result<(Word, Listing<Word>), Fault> {
+pub fn with_natives(gcc: Gcc<'_>, dump: Word) -> Result<(Word, Listing<Word>), Fault> {
     let mut texts = dump;
-    let mut probes = Listing::new(asked.alloc());
+    let mut probes = Listing::new(gcc.alloc());
     for function in FUNCTIONS.as_slice() {
-        texts = with_function(asked, function, texts, &mut probes)?;
+        texts = with_function(gcc, function, texts, &mut probes)?;
     }
-    texts = asked.with_devices(texts, &mut probes)?;
-    write_all(asked, probes.as_slice())?;
+    texts = gcc.with_devices(texts, &mut probes)?;
+    write_all(gcc, probes.as_slice())?;
     Ok((texts, probes))
 }
 

@@ -1,11 +1,11 @@
 //! Options that newer gccs pass over or call by another name: an older one may take them as they are,
 //! or lack them.
 
-use crate::asking::{ask_words, commands};
-use crate::checking::Pair;
+use crate::asking::{Gcc, commands};
 use crate::fault::Fault;
 use crate::finding::has_word;
 use crate::refusing::refused_of;
+use crate::texts::{add_all, cut_at, joined};
 use drv_words::{Listing, Word, split};
 use std::alloc::Global;
 
@@ -56,108 +56,64 @@ const RENAMED: &[u8] = b"\
 -ftree-loop-linear>-floop-nest-optimize -fno-tree-loop-linear>-fno-loop-nest-optimize \
 -mprefer-avx128>-mprefer-vector-width=128 -mno-prefer-avx128>-mprefer-vector-width=256";
 
-/// The signs of options: a gcc takes one of two that differ in it alone.
-#[derive(Clone, Copy)]
-enum Sign {
-    /// `-fX`.
-    On,
-    /// `-fno-X`.
-    Off,
+/// An option, and the name by which newer gccs call it; empty where they pass it over.
+#[derive(Drop)]
+struct Entry {
+    option: Word,
+    name: Word,
 }
 
-/// The option of an entry, and the name by which newer gccs call it; none where they pass it over.
-fn parts(entry: &[u8]) -> (&[u8], &[u8]) {
-    match entry.iter().position(|byte| *byte == b'>') {
-        Some(at) => (
-            entry.get(..at).unwrap_or(b""),
-            entry.get(at + 1..).unwrap_or(b""),
-        ),
-        None => (entry, b""),
-    }
-}
-
-/// An option with a sign.
-fn with_sign(alloc: Global, option: &[u8], sign: Sign) -> Result<Word, Fault> {
-    let (letter, name) = option.split_at(2.min(option.len()));
-    let mut word = Word::from_bytes(alloc, letter)?;
-    if let Sign::Off = sign {
-        word.extend_from_slice(b"no-")?;
-    }
-    word.extend_from_slice(name)?;
-    Ok(word)
-}
-
-/// Whether an entry's option has a sign.
-fn has_sign(entry: &[u8], sign: Sign) -> bool {
-    let is_off = matches!(entry, [_, _, b'n', b'o', b'-', ..]);
-    match sign {
-        Sign::On => !is_off,
-        Sign::Off => is_off,
-    }
-}
+/// What follows the hyphen and the letter of options of a sign: a gcc takes one of two that differ
+/// in it alone.
+const SIGNS: [&[u8]; 2] = [b"", b"no-"];
 
 /// The entries of all options with a sign.
-fn entries(alloc: Global, sign: Sign) -> Result<Listing<Word>, Fault> {
+fn entries(alloc: Global, sign: &[u8]) -> Result<Listing<Entry>, Fault> {
     let mut entries = Listing::new(alloc);
     for option in split(alloc, PASSED_OVER)?.as_slice() {
-        entries.push(with_sign(alloc, option.as_bytes(), sign)?)?;
+        let (letter, name) = option.as_bytes().split_at(2.min(option.len()));
+        entries.push(Entry {
+            option: joined(alloc, &[letter, sign, name])?,
+            name: Word::empty(alloc),
+        })?;
     }
-    for entry in split(alloc, RENAMED)?.as_slice() {
-        if has_sign(entry.as_bytes(), sign) {
-            entries.push(entry.clone()?)?;
+    for renamed in split(alloc, RENAMED)?.as_slice() {
+        let (option, name) = cut_at(b'>', renamed.as_bytes());
+        let is_off = matches!(option, [_, _, b'n', b'o', b'-', ..]);
+        if is_off != sign.is_empty() {
+            entries.push(Entry {
+                option: Word::from_bytes(alloc, option)?,
+                name: Word::from_bytes(alloc, name)?,
+            })?;
         }
     }
     Ok(entries)
 }
 
 /// The options of these entries.
-fn options_of(alloc: Global, entries: &[Word]) -> Result<Listing<Word>, Fault> {
+fn options_of(alloc: Global, entries: &[Entry]) -> Result<Listing<Word>, Fault> {
     let mut options = Listing::new(alloc);
     for entry in entries {
-        options.push(Word::from_bytes(alloc, parts(entry.as_bytes()).0)?)?;
+        options.push(entry.option.clone()?)?;
     }
     Ok(options)
 }
 
-/// Entries, by what a gcc makes of their options.
-#[derive(Drop)]
-struct Sorted {
-    /// Those whose options it takes.
-    taken: Listing<Word>,
-    /// Those whose options it refuses.
-    lacking: Listing<Word>,
-}
-
-/// These entries, by what a gcc makes of their options.
-fn sorted_by(pair: Pair<'_>, entries: &[Word]) -> Result<Sorted, Fault> {
-    let alloc = pair.rt.alloc();
-    let refused = refused_of(pair, options_of(alloc, entries)?)?;
-    let mut sorted = Sorted {
-        taken: Listing::new(alloc),
-        lacking: Listing::new(alloc),
-    };
+/// The words of the commands by which a gcc compiles with the options of these entries, but for
+/// those that it refuses.
+fn words_with(gcc: Gcc<'_>, entries: &[Entry], refused: &[Word]) -> Result<Listing<Word>, Fault> {
+    let alloc = gcc.alloc();
+    let mut line = split(alloc, b"-### -S x.i -o made")?;
     for entry in entries {
-        if has_word(refused.as_slice(), parts(entry.as_bytes()).0) {
-            sorted.lacking.push(entry.clone()?)?;
-        } else {
-            sorted.taken.push(entry.clone()?)?;
+        if !has_word(refused, entry.option.as_bytes()) {
+            line.push(entry.option.clone()?)?;
         }
     }
-    Ok(sorted)
-}
-
-/// The words of the commands by which a gcc compiles with the options of these entries.
-fn words_for(pair: Pair<'_>, entries: &[Word]) -> Result<Listing<Word>, Fault> {
-    let alloc = pair.rt.alloc();
-    let mut line = split(alloc, b"-### -S x.i -o made")?;
-    for option in options_of(alloc, entries)?.as_slice() {
-        line.push(option.clone()?)?;
-    }
-    let shown = ask_words(pair.rt, &pair.work.lines, pair.gcc, line.as_slice())?;
+    let shown = gcc.ask_words(line.as_slice())?;
     let mut words = Listing::new(alloc);
-    for command in commands(alloc, shown.err.as_bytes())?.as_slice() {
-        for word in command.as_slice() {
-            words.push(word.clone()?)?;
+    for command in commands(alloc, shown.err.as_bytes())?.into_vec() {
+        for word in command.into_vec() {
+            words.push(word)?;
         }
     }
     Ok(words)
@@ -165,31 +121,27 @@ fn words_for(pair: Pair<'_>, entries: &[Word]) -> Result<Listing<Word>, Fault> {
 
 /// Whether a gcc that gives its compiler these words takes the option of an entry as it is: it is
 /// among them, or the other name is not.
-fn is_own(words: &[Word], entry: &[u8]) -> bool {
-    let (option, name) = parts(entry);
-    has_word(words, option) || (!name.is_empty() && !has_word(words, name))
+fn is_own(words: &[Word], entry: &Entry) -> bool {
+    let name = entry.name.as_bytes();
+    has_word(words, entry.option.as_bytes()) || (!name.is_empty() && !has_word(words, name))
 }
 
-/// Adds the options of these entries that a gcc takes as they are, each behind a blank.
-fn add_own(pair: Pair<'_>, taken: &[Word], line: &mut Word) -> Result<(), Fault> {
-    let words = words_for(pair, taken)?;
-    for entry in taken {
-        if is_own(words.as_slice(), entry.as_bytes()) {
-            line.push(b' ')?;
-            line.extend_from_slice(parts(entry.as_bytes()).0)?;
+/// Adds the options of a sign, each behind a blank: those that a gcc takes as they are, and then, with
+/// a mark, those that it refuses and newer gccs pass over.
+fn add_signed(gcc: Gcc<'_>, sign: &[u8], line: &mut Word) -> Result<(), Fault> {
+    let all = entries(gcc.alloc(), sign)?;
+    let refused = refused_of(gcc, options_of(gcc.alloc(), all.as_slice())?)?;
+    let words = words_with(gcc, all.as_slice(), refused.as_slice())?;
+    for entry in all.as_slice() {
+        let is_refused = has_word(refused.as_slice(), entry.option.as_bytes());
+        if !is_refused && is_own(words.as_slice(), entry) {
+            add_all(line, &[b" ".as_slice(), entry.option.as_bytes()])?;
         }
     }
-    Ok(())
-}
-
-/// Adds the options of these entries that newer gccs pass over, each behind a blank and with a mark.
-fn add_lacking(lacking: &[Word], line: &mut Word) -> Result<(), Fault> {
-    for entry in lacking {
-        let (option, name) = parts(entry.as_bytes());
-        if name.is_empty() {
-            line.push(b' ')?;
-            line.extend_from_slice(option)?;
-            line.push(b'?')?;
+    for entry in all.as_slice() {
+        let is_refused = has_word(refused.as_slice(), entry.option.as_bytes());
+        if is_refused && entry.name.is_empty() {
+            add_all(line, &[b" ".as_slice(), entry.option.as_bytes(), b"?"])?;
         }
     }
     Ok(())
@@ -198,13 +150,10 @@ fn add_lacking(lacking: &[Word], line: &mut Word) -> Result<(), Fault> {
 /// The line of the options that a gcc takes as they are where newer ones pass them over or call them
 /// by another name. Those that it refuses and newer ones pass over are in it too, with a mark. There
 /// is no line where there are none.
-pub fn own_line(pair: Pair<'_>) -> Result<Word, Fault> {
-    let alloc = pair.rt.alloc();
-    let mut line = Word::empty(alloc);
-    for sign in [Sign::On, Sign::Off] {
-        let sorted = sorted_by(pair, entries(alloc, sign)?.as_slice())?;
-        add_own(pair, sorted.taken.as_slice(), &mut line)?;
-        add_lacking(sorted.lacking.as_slice(), &mut line)?;
+pub fn own_line(gcc: Gcc<'_>) -> Result<Word, Fault> {
+    let mut line = Word::empty(gcc.alloc());
+    for sign in SIGNS {
+        add_signed(gcc, sign, &mut line)?;
     }
     if !line.is_empty() {
         line.push(b'\n')?;

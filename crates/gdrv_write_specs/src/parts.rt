@@ -3,9 +3,9 @@
 //! Words -gdrv-.. are the front's switches, as patterns name them: gdrv-cc(1), SWITCHES FOR SPEC
 //! TEXTS. docs/SPECS.md explains `%{..}`.
 
-use crate::asking::joined;
 use crate::fault::Fault;
 use crate::shortening::{Known, name_in, shorten, squeeze};
+use crate::texts::joined;
 use drv_dump::{Kind, read_text};
 use drv_words::{Listing, Word, copy_words, split};
 use std::alloc::Global;

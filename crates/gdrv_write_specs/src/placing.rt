@@ -1,27 +1,25 @@
 //! A spec file is written, tried and put in place.
 
-use crate::asking::{ask, joined, text};
+use crate::asking::{Gcc, text};
 use crate::calling::{Manner, Order};
-use crate::checking::Pair;
 use crate::children::push_children;
 use crate::choosing::{options_text, push_choosers};
 use crate::fault::{Fault, push_shown};
-use crate::finding::has_bytes;
 use crate::gathering::{Gathered, gather};
-use crate::names::{names_of, sort_lines};
+use crate::names::names_of;
 use crate::parts::{PARTS, part_of};
 use crate::programs::{is_file, program_at};
-use crate::rows::{multilibs, push_names, push_rows, rare_libraries, suffix_of};
+use crate::rows::{SHOWING, multilibs, push_names, push_row, rare_libraries, suffix_of};
+use crate::texts::{add_all, has_bytes, joined};
 use crate::vendors::COPIES;
-use crate::work_folder::{WorkFolder, absolute, join, try_place};
+use crate::work_folder::{WorkFolder, absolute, try_place};
 use drv_gcc::{gcc_file, spec_file, values};
 use drv_system::complain;
-use drv_words::{Listing, Word, base, copy_words, split_at_last};
+use drv_words::{Listing, Word, base, split_at_last};
 use itoa::Buffer;
-use std::alloc::Global;
 use std::env::current_exe;
-use std::fs;
 use std::os::unix::fs::MetadataExt;
+use std::{fs, mem};
 
 /// The path of a gcc: of this name or at this path, of `gcc` for `host`, or of TARGET-gcc for the
 /// name of a target.
@@ -37,66 +35,34 @@ fn gcc_at(rt: &HostRuntime, name: &Word) -> Result<Option<Word>, Fault> {
 
 /// The driver that plans by a spec file: beside this program, or along PATH.
 pub fn driver_at(rt: &HostRuntime) -> Result<Word, Fault> {
-    if let Ok(own) = current_exe(rt) {
-        if let Some((folder, _)) = split_at_last(b'/', own.as_str().as_bytes()) {
-            let path = joined(rt.alloc(), &[folder, b"/gdrv-cc"])?;
-            if is_file(rt, &path)? {
-                return Ok(path);
-            }
+    if let Ok(own) = current_exe(rt)
+        && let Some((folder, _)) = split_at_last(b'/', own.as_str().as_bytes())
+    {
+        let path = joined(rt.alloc(), &[folder, b"/gdrv-cc"])?;
+        if is_file(rt, &path)? {
+            return Ok(path);
         }
     }
     let name = Word::from_bytes(rt.alloc(), b"gdrv-cc")?;
     program_at(rt, &name)?.ok_or(Fault::NoDriver)
 }
 
-/// Adds the lines of a text that aren't empty.
-fn add_lines(alloc: Global, text: &[u8], lines: &mut Listing<Word>) -> Result<(), Fault> {
-    for line in text.split(|byte| *byte == b'\n') {
+/// What a gcc says of itself where commands are shown: its version, and the folders that it searches.
+fn say_of_itself(gcc: Gcc<'_>) -> Result<Listing<Word>, Fault> {
+    let alloc = gcc.alloc();
+    let mut lines = Listing::new(alloc);
+    for line in values(alloc, b"", gcc.ask(b"-v")?.err.as_bytes())?.into_vec() {
         if !line.is_empty() {
-            lines.push(Word::from_bytes(alloc, line)?)?;
+            lines.push(line)?;
         }
     }
-    Ok(())
-}
-
-/// Adds the values that a key has in a text, each with the key.
-fn add_values(
-    alloc: Global,
-    key: &[u8],
-    text: &[u8],
-    lines: &mut Listing<Word>,
-) -> Result<(), Fault> {
-    let values = values(alloc, key, text)?;
-    for value in values.as_slice() {
-        lines.push(joined(alloc, &[key, value.as_bytes()])?)?;
-    }
-    Ok(())
-}
-
-/// What a gcc says of itself where commands are shown: its version, and the folders that it searches.
-fn say_of_itself(pair: Pair<'_>) -> Result<Listing<Word>, Fault> {
-    let Pair { rt, work, gcc } = pair;
-    let mut lines = Listing::new(rt.alloc());
-    let version = ask(rt, &work.lines, gcc, b"-v")?;
-    add_lines(rt.alloc(), version.err.as_bytes(), &mut lines)?;
-    let shown = ask(rt, &work.lines, gcc, b"-### -c -x c /dev/null")?;
+    let shown = gcc.ask(SHOWING)?;
     for key in [b"COMPILER_PATH=".as_slice(), b"LIBRARY_PATH="] {
-        add_values(rt.alloc(), key, shown.err.as_bytes(), &mut lines)?;
+        for value in values(alloc, key, shown.err.as_bytes())?.as_slice() {
+            lines.push(joined(alloc, &[key, value.as_bytes()])?)?;
+        }
     }
     Ok(lines)
-}
-
-/// Writes the files beside the spec file.
-fn put_beside(pair: Pair<'_>, gathered: &Gathered) -> Result<(), Fault> {
-    let mut names = names_of(pair)?;
-    for row in gathered.rows.as_slice() {
-        push_names(&mut names, row)?;
-    }
-    pair.work.put(pair.rt, b".options", &sort_lines(pair.rt.alloc(), &names)?)?;
-    if !gathered.copies.is_empty() {
-        pair.work.put_copies(pair.rt, gathered.copies.as_slice())?;
-    }
-    put_gcc(pair, gathered)
 }
 
 /// What tells a file from one that takes its place: its size in bytes and the second of its last
@@ -106,42 +72,34 @@ pub fn stamp_of(rt: &HostRuntime, path: &[u8]) -> Result<Word, Fault> {
         return Ok(Word::from_bytes(rt.alloc(), b"-")?);
     };
     let size = if found.is_dir() { 0 } else { found.len() };
-    let mut stamp = Word::from_bytes(rt.alloc(), Buffer::new().format(size).as_bytes())?;
-    stamp.push(b':')?;
-    stamp.extend_from_slice(Buffer::new().format(found.mtime()).as_bytes())?;
-    Ok(stamp)
-}
-
-/// Adds a line of this key and value.
-fn push_line(lines: &mut Word, key: &[u8], value: &[u8]) -> Result<(), Fault> {
-    for part in [key, b" ", value, b"\n"] {
-        lines.extend_from_slice(part)?;
-    }
-    Ok(())
+    let (mut sizes, mut times) = (Buffer::new(), Buffer::new());
+    let stamp = [
+        sizes.format(size).as_bytes(),
+        b":",
+        times.format(found.mtime()).as_bytes(),
+    ];
+    joined(rt.alloc(), &stamp)
 }
 
 /// Adds a line `stamp PATH STAMP`, by which gdrv-cc sees that a file was changed.
 fn push_stamp(rt: &HostRuntime, lines: &mut Word, path: &[u8]) -> Result<(), Fault> {
     if path.starts_with(b"/") {
         let stamp = stamp_of(rt, path)?;
-        let stamped = joined(rt.alloc(), &[path, b" ", stamp.as_bytes()])?;
-        push_line(lines, b"stamp", stamped.as_bytes())?;
+        add_all(lines, &[b"stamp ", path, b" ", stamp.as_bytes(), b"\n"])?;
     }
     Ok(())
 }
 
 /// Adds the stamps of the gcc, of its cc1, of its folder, and of the spec file that it would read
 /// there.
-fn push_stamps(pair: Pair<'_>, cc1: &Word, lines: &mut Word) -> Result<(), Fault> {
-    push_stamp(pair.rt, lines, pair.gcc.as_bytes())?;
-    push_stamp(pair.rt, lines, cc1.as_bytes())?;
-    let headers = pair
-        .gcc_with(&Word::empty(pair.rt.alloc()))
-        .path_of(b"include")?;
+fn push_stamps(gcc: Gcc<'_>, cc1: &Word, lines: &mut Word) -> Result<(), Fault> {
+    push_stamp(gcc.rt, lines, gcc.path.as_bytes())?;
+    push_stamp(gcc.rt, lines, cc1.as_bytes())?;
+    let headers = gcc.path_of(b"include")?;
     if let Some(folder) = headers.as_bytes().strip_suffix(b"/include".as_slice()) {
-        push_stamp(pair.rt, lines, folder)?;
-        let specs = joined(pair.rt.alloc(), &[folder, b"/specs"])?;
-        push_stamp(pair.rt, lines, specs.as_bytes())?;
+        push_stamp(gcc.rt, lines, folder)?;
+        let specs = joined(gcc.alloc(), &[folder, b"/specs"])?;
+        push_stamp(gcc.rt, lines, specs.as_bytes())?;
     }
     Ok(())
 }
@@ -159,214 +117,177 @@ fn own_path(rt: &HostRuntime, gcc: &Word) -> Result<Word, Fault> {
 }
 
 /// Writes the file beside the spec file that names the gcc, and has its rows.
-fn put_gcc(pair: Pair<'_>, gathered: &Gathered) -> Result<(), Fault> {
-    let alloc = pair.rt.alloc();
-    let lines = say_of_itself(pair)?;
-    let gcc = own_path(pair.rt, pair.gcc)?;
+fn put_gcc(gcc: Gcc<'_>, gathered: &Gathered) -> Result<(), Fault> {
+    let said = say_of_itself(gcc)?;
+    let path = own_path(gcc.rt, gcc.path)?;
     let folders = gathered.toolchain.folders.as_slice();
-    let mut text = gcc_file(alloc, gcc.as_bytes(), folders, lines.as_slice())?;
-    push_stamps(pair, &gathered.toolchain.programs.compiler.path, &mut text)?;
-    let suffix = suffix_of(pair)?;
+    let mut text = gcc_file(gcc.alloc(), path.as_bytes(), folders, said.as_slice())?;
+    push_stamps(gcc, &gathered.toolchain.programs.compiler.path, &mut text)?;
+    let suffix = suffix_of(gcc)?;
     if !suffix.is_empty() {
-        push_line(&mut text, b"suffix", suffix.as_bytes())?;
+        add_all(&mut text, &[b"suffix ", suffix.as_bytes(), b"\n"])?;
     }
     if !gathered.copies.is_empty() {
-        push_line(&mut text, b"copies", COPIES)?;
+        add_all(&mut text, &[b"copies ", COPIES, b"\n"])?;
     }
-    let none = Word::empty(alloc);
-    let libraries = multilibs(pair.gcc_with(&none))?;
-    push_children(pair, &mut text, lines.as_slice(), libraries.as_slice())?;
+    push_children(gcc, &mut text, said.as_slice())?;
     push_choosers(&mut text, gathered.choosers.as_slice())?;
-    push_rows(&mut text, gathered.rows.as_slice())?;
-    pair.work.put(pair.rt, b".gcc", &text)
+    for row in gathered.rows.as_slice() {
+        push_row(&mut text, row)?;
+    }
+    gcc.work.put(gcc.rt, b".gcc", &text)
 }
 
-/// Notes a line that names some words to the user.
-fn note(notes: &mut Word, before: &[u8], names: &[Word]) -> Result<(), Fault> {
-    if names.is_empty() {
-        return Ok(());
+/// Writes the names of the options that the gcc takes, and those of its rows.
+fn put_options(gcc: Gcc<'_>, gathered: &Gathered) -> Result<(), Fault> {
+    let mut more = Word::empty(gcc.alloc());
+    for row in gathered.rows.as_slice() {
+        push_names(&mut more, row)?;
     }
-    notes.extend_from_slice(b"gdrv-write-specs: ")?;
-    notes.extend_from_slice(before)?;
-    for name in names {
-        notes.push(b' ')?;
-        push_shown(notes, name.as_bytes())?;
-    }
-    Ok(notes.push(b'\n')?)
-}
-
-/// Shows what was noted for the user.
-fn show_notes(rt: &HostRuntime, gathered: &Gathered) {
-    if !gathered.notes.is_empty() {
-        complain(rt, gathered.notes.as_bytes());
-    }
+    gcc.work
+        .put(gcc.rt, b".options", &names_of(gcc, more.as_bytes())?)
 }
 
 /// Writes the spec file in the folder of work, and its parts.
-fn put_specs(pair: Pair<'_>, gathered: &Gathered) -> Result<(), Fault> {
-    let alloc = pair.rt.alloc();
-    let specs = spec_file(alloc, &gathered.toolchain)?;
-    let rare = rare_libraries(pair)?;
+fn put_specs(gcc: Gcc<'_>, gathered: &Gathered) -> Result<(), Fault> {
+    let specs = spec_file(gcc.alloc(), &gathered.toolchain)?;
+    let rare = rare_libraries(gcc)?;
     for part in PARTS {
-        let text = part_of(alloc, &specs, &part, rare.as_slice())?;
-        pair.work.put_part(pair.rt, part.ending, text)?;
+        let text = part_of(gcc.alloc(), &specs, &part, rare.as_slice())?;
+        gcc.work.put_part(gcc.rt, part.ending, text)?;
     }
-    pair.work.put(pair.rt, b".specs", &specs)
+    gcc.work.put(gcc.rt, b".specs", &specs)
 }
 
-/// The lines whose plans differ, whatever the user said of them.
-fn judge(pair: Pair<'_>, manner: Manner, lines: &[Word], notes: &mut Word) -> Result<(), Fault> {
-    match manner {
-        Manner::Compared if !lines.is_empty() => {
-            let lines = copy_words(pair.rt.alloc(), lines)?;
-            Err(Fault::Differs(pair.gcc.clone()?, lines))
-        }
-        _ => note(notes, b"lines that have another plan than gcc's:", lines),
+/// Tells the user some words, after what they are.
+fn tell(gcc: Gcc<'_>, before: &[u8], words: &[Word]) -> Result<(), Fault> {
+    if words.is_empty() {
+        return Ok(());
     }
-}
-
-/// Has some options refused by name.
-fn refuse(gathered: &mut Gathered, options: Listing<Word>) -> Result<(), Fault> {
-    for option in options.into_vec() {
-        gathered.toolchain.refused.push(option)?;
+    let mut line = joined(gcc.alloc(), &[b"gdrv-write-specs: ", before])?;
+    for word in words {
+        line.push(b' ')?;
+        push_shown(&mut line, word.as_bytes())?;
     }
+    line.push(b'\n')?;
+    complain(gcc.rt, line.as_bytes());
     Ok(())
 }
 
 /// Has the options refused that are for no machine and would give other plans.
-fn refuse_others(pair: Pair<'_>, gathered: &mut Gathered) -> Result<(), Fault> {
-    let others = pair.chosen_otherwise()?;
+fn refuse_others(gcc: Gcc<'_>, gathered: &mut Gathered) -> Result<(), Fault> {
+    let others = gcc.chosen_otherwise()?;
     if others.is_empty() {
         return Ok(());
     }
-    note(
-        &mut gathered.notes,
-        b"refused by name, since they would make something else:",
-        others.as_slice(),
-    )?;
-    refuse(gathered, others)?;
-    put_specs(pair, gathered)
+    let before = b"refused by name, since they would make something else:".as_slice();
+    tell(gcc, before, others.as_slice())?;
+    for option in others.into_vec() {
+        gathered.toolchain.refused.push(option)?;
+    }
+    put_specs(gcc, gathered)
 }
 
-/// Compares the plans by the rows, and leaves out those that would give others.
-fn check_rows(pair: Pair<'_>, gathered: &mut Gathered) -> Result<(), Fault> {
-    let mut same = Listing::new(pair.rt.alloc());
-    let mut others = Listing::new(pair.rt.alloc());
-    for _ in 0..gathered.rows.as_slice().len() {
-        let Some(row) = gathered.rows.pop() else {
-            break;
-        };
-        if pair.is_other(&row.key)? {
+/// Refuses a gcc that has other plans for lines, also of those with these options, or tells them.
+fn compare(gcc: Gcc<'_>, manner: Manner, options: &[u8]) -> Result<(), Fault> {
+    let lines = gcc.differences(options)?;
+    match manner {
+        Manner::Compared if !lines.is_empty() => Err(Fault::Differs(gcc.path.clone()?, lines)),
+        _ => tell(
+            gcc,
+            b"lines that have another plan than gcc's:",
+            lines.as_slice(),
+        ),
+    }
+}
+
+/// Leaves out the rows that would give other plans. The others are in the opposite order then.
+fn check_rows(gcc: Gcc<'_>, gathered: &mut Gathered) -> Result<(), Fault> {
+    let mut others = Listing::new(gcc.alloc());
+    let rows = mem::replace(&mut gathered.rows, Listing::new(gcc.alloc()));
+    for row in rows.into_vec().into_iter().rev() {
+        if gcc.with(row.key.as_bytes()).is_other()? {
             others.push(row.key)?;
         } else {
-            same.push(row)?;
+            gathered.rows.push(row)?;
         }
     }
-    gathered.rows = same;
-    if pair.is_rooted_otherwise()? {
-        gathered.toolchain.is_rooted = false;
-        put_specs(pair, gathered)?;
-    }
-    note(
-        &mut gathered.notes,
+    tell(
+        gcc,
         b"no row, since it would make something else:",
         others.as_slice(),
-    )?;
-    put_gcc(pair, gathered)
+    )
 }
 
-/// Compares the plans by the copies of vendors' files, and leaves out those that would give others.
-fn check_copies(pair: Pair<'_>, gathered: &mut Gathered) -> Result<(), Fault> {
-    let none = Word::empty(pair.rt.alloc());
-    let keys = multilibs(pair.gcc_with(&none))?;
-    let mut same = Listing::new(pair.rt.alloc());
-    let mut others = Listing::new(pair.rt.alloc());
-    for _ in 0..gathered.copies.as_slice().len() {
-        let Some(copy) = gathered.copies.pop() else {
-            break;
-        };
-        if pair.is_copy_other(&copy, keys.as_slice())? {
-            pair.work.remove_copy(pair.rt, &copy.name)?;
+/// Leaves out the copies of vendors' files that would give other plans. The others are in the opposite
+/// order then.
+fn check_copies(gcc: Gcc<'_>, gathered: &mut Gathered) -> Result<(), Fault> {
+    let keys = multilibs(gcc)?;
+    let mut others = Listing::new(gcc.alloc());
+    let copies = mem::replace(&mut gathered.copies, Listing::new(gcc.alloc()));
+    for copy in copies.into_vec().into_iter().rev() {
+        if gcc.is_copy_other(&copy, keys.as_slice())? {
+            gcc.work.remove_copy(gcc.rt, &copy.name)?;
             others.push(copy.name)?;
         } else {
-            same.push(copy)?;
+            gathered.copies.push(copy)?;
         }
     }
-    gathered.copies = same;
-    note(
-        &mut gathered.notes,
+    tell(
+        gcc,
         b"no copy, since it would make something else:",
         others.as_slice(),
-    )?;
-    put_gcc(pair, gathered)
+    )
 }
 
-/// Compares the plans, also with these options, and leaves out what would give others.
-fn check(
-    pair: Pair<'_>,
-    manner: Manner,
-    options: &Word,
-    gathered: &mut Gathered,
-) -> Result<(), Fault> {
-    refuse_others(pair, gathered)?;
-    let mut others = pair.differences()?;
-    if !options.is_empty() {
-        for line in pair.differences_with(options)?.into_vec() {
-            others.push(line)?;
-        }
-    }
-    judge(pair, manner, others.as_slice(), &mut gathered.notes)?;
-    if !gathered.copies.is_empty() {
-        check_copies(pair, gathered)?;
-    }
-    check_rows(pair, gathered)
-}
-
-/// Makes the files of a gcc, of which this is known, and tries them, also with these options. The
-/// names of options come before the spec file: a line is refused for an option that is no name.
+/// Makes the files of a gcc, of which this is known, and tries them, also with these options.
+///
+/// The order matters. The names of options and the rows come before the spec file, since a line is
+/// refused for an option that is no name. Options are refused before lines are compared, and copies
+/// are compared before rows, whose lines need the spec file as it stays.
 fn put_gathered(
-    pair: Pair<'_>,
+    gcc: Gcc<'_>,
     manner: Manner,
-    options: &Word,
+    options: &[u8],
     gathered: &mut Gathered,
 ) -> Result<(), Fault> {
-    note(
-        &mut gathered.notes,
-        b"texts that cannot be translated, so lines that use them are refused:",
-        gathered.lacking.as_slice(),
-    )?;
-    put_beside(pair, gathered)?;
-    refuse(gathered, pair.unnamed_options()?)?;
-    put_specs(pair, gathered)?;
-    check(pair, manner, options, gathered)
-}
-
-/// Whether there is a row of a key.
-fn has_row(gathered: &Gathered) -> bool {
-    let mut rows = gathered.rows.as_slice().iter();
-    rows.any(|row| row.key.as_bytes() == gathered.key.as_bytes())
-}
-
-/// Makes the files of a gcc, and tries them.
-fn put_whole(pair: Pair<'_>, order: &Order) -> Result<(), Fault> {
-    let options = options_text(pair.rt.alloc(), order.options.as_slice())?;
-    if !options.is_empty() && !pair.takes(&options)? {
-        return Err(Fault::Refuses(pair.gcc.clone()?, options));
+    let lacking =
+        b"texts that cannot be translated, so lines that use them are refused:".as_slice();
+    tell(gcc, lacking, gathered.lacking.as_slice())?;
+    put_options(gcc, gathered)?;
+    gcc.work.put_copies(gcc.rt, gathered.copies.as_slice())?;
+    put_gcc(gcc, gathered)?;
+    put_specs(gcc, gathered)?;
+    refuse_others(gcc, gathered)?;
+    compare(gcc, manner, options)?;
+    check_copies(gcc, gathered)?;
+    put_gcc(gcc, gathered)?;
+    check_rows(gcc, gathered)?;
+    if gcc.is_rooted_otherwise()? {
+        gathered.toolchain.is_rooted = false;
+        put_specs(gcc, gathered)?;
     }
-    let mut gathered = gather(pair, order.options.as_slice())?;
-    let done = put_gathered(pair, order.manner, &options, &mut gathered);
-    show_notes(pair.rt, &gathered);
-    done?;
+    put_gcc(gcc, gathered)
+}
+
+/// Makes the files of a gcc in its folder of work, and tries them.
+fn put_whole(gcc: Gcc<'_>, order: &Order) -> Result<(), Fault> {
+    let options = options_text(gcc.alloc(), order.options.as_slice())?;
+    if !options.is_empty() && !gcc.with(options.as_bytes()).compiles()? {
+        return Err(Fault::Refuses(gcc.path.clone()?, options));
+    }
+    let mut gathered = gather(gcc, order.options.as_slice())?;
+    put_gathered(gcc, order.manner, options.as_bytes(), &mut gathered)?;
+    let key = gathered.key.as_bytes();
+    let has_row = gathered
+        .rows
+        .as_slice()
+        .iter()
+        .any(|row| row.key.as_bytes() == key);
     match order.manner {
-        Manner::Compared if !has_row(&gathered) => Err(Fault::NoRow(gathered.key)),
+        Manner::Compared if !has_row => Err(Fault::NoRow(gathered.key)),
         _ => Ok(()),
     }
-}
-
-/// Makes the files of a gcc in a folder of work, tries them, and puts them in place.
-fn write_in(pair: Pair<'_>, order: &Order, stem: &Word) -> Result<(), Fault> {
-    put_whole(pair, order)?;
-    pair.work.place(pair.rt, stem)
 }
 
 /// The path of a spec file without its ending.
@@ -380,18 +301,19 @@ pub fn stem_of(rt: &HostRuntime, output: &Word) -> Result<Word, Fault> {
 /// Writes the spec file of a gcc, and the files beside it. If its plans differ from gcc's, nothing
 /// is written.
 pub fn write_file(rt: &HostRuntime, order: &Order) -> Result<(), Fault> {
-    let Some(gcc) = gcc_at(rt, &order.gcc)? else {
+    let Some(path) = gcc_at(rt, &order.gcc)? else {
         return Err(Fault::NoGcc(order.gcc.clone()?));
     };
     let stem = stem_of(rt, &order.output)?;
     try_place(rt, &stem)?;
     let work = WorkFolder::new(rt, &driver_at(rt)?)?;
-    let pair = Pair {
+    let gcc = Gcc {
         rt,
         work: &work,
-        gcc: &gcc,
+        path: &path,
+        options: b"",
     };
-    let done = write_in(pair, order, &stem);
+    let done = put_whole(gcc, order).and_then(|()| work.place(rt, &stem));
     work.remove(rt);
     done
 }

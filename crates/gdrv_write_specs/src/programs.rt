@@ -1,12 +1,11 @@
 //! The programs of a gcc, and where programs are.
 
-use crate::asked::Asked;
-use crate::asking::{joined, text};
+use crate::asking::{Gcc, text};
 use crate::fault::Fault;
-use crate::finding::{word_after, word_after_start};
-use crate::names::sort_lines;
+use crate::finding::{word_after, word_beginning};
+use crate::texts::{add_all, joined, sorted_lines};
 use crate::work_folder::absolute;
-use drv_gcc::{Finding, Linker, Program, Programs, values};
+use drv_gcc::{Finding, Linker, Program, Programs};
 use drv_words::{Listing, Word, base};
 use std::env::var;
 use std::fs;
@@ -34,11 +33,10 @@ pub fn is_folder(rt: &HostRuntime, path: &[u8]) -> Result<bool, Fault> {
 pub fn names_in(rt: &HostRuntime, folder: &Word) -> Result<Listing<Word>, Fault> {
     let mut names = Word::empty(rt.alloc());
     for entry in fs::read_dir(rt, text(folder.as_bytes())?)? {
-        names.extend_from_slice(entry?.file_name().as_bytes())?;
-        names.push(b'\n')?;
+        let found = entry?;
+        add_all(&mut names, &[found.file_name().as_bytes(), b"\n"])?;
     }
-    let lines = sort_lines(rt.alloc(), &names)?;
-    Ok(values(rt.alloc(), b"", lines.as_bytes())?)
+    sorted_lines(rt.alloc(), names.as_bytes())
 }
 
 /// The path of a program that is looked for along PATH, or that has a path; none where it isn't
@@ -46,11 +44,8 @@ pub fn names_in(rt: &HostRuntime, folder: &Word) -> Result<Listing<Word>, Fault>
 pub fn program_at(rt: &HostRuntime, name: &Word) -> Result<Option<Word>, Fault> {
     if name.as_bytes().contains(&b'/') {
         let path = absolute(rt, name)?;
-        return Ok(if is_file(rt, &path)? {
-            Some(path)
-        } else {
-            None
-        });
+        let is_there = is_file(rt, &path)?;
+        return Ok(Some(path).filter(|_| is_there));
     }
     let Ok(folders) = var(rt, "PATH") else {
         return Ok(None);
@@ -76,7 +71,7 @@ fn finding_of(name: &[u8], shown: &[u8]) -> Finding {
     }
 }
 
-impl<'a> Asked<'a> {
+impl<'a> Gcc<'a> {
     /// A program of this name that gcc shows so: by its path, or by its plain name.
     fn program(self, name: &[u8], shown: &Word) -> Result<Program, Fault> {
         let finding = finding_of(name, shown.as_bytes());
@@ -112,6 +107,8 @@ impl<'a> Asked<'a> {
 
     /// The programs: those of the plan of a compilation, and those that gcc names.
     pub fn programs(self, cc1: &Word, assembler: &Word, link: &[Word]) -> Result<Programs, Fault> {
+        let wrapper = word_beginning(self.alloc(), link, b"-plugin-opt=/")?;
+        let wrapper = wrapper.as_bytes().strip_prefix(b"-plugin-opt=".as_slice());
         Ok(Programs {
             compiler: self.program(b"cc1", cc1)?,
             assembler: self.program(b"as", assembler)?,
@@ -119,7 +116,7 @@ impl<'a> Asked<'a> {
             linker: self.program_named(b"ld")?,
             linkers: self.linkers()?,
             plugin: word_after(self.alloc(), link, b"-plugin")?,
-            lto_wrapper: word_after_start(self.alloc(), link, b"-plugin-opt=/")?,
+            lto_wrapper: Word::from_bytes(self.alloc(), wrapper.unwrap_or(b""))?,
             plugin_folder: self.answer(b"-print-file-name=", b"plugin")?,
         })
     }

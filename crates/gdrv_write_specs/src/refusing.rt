@@ -1,9 +1,8 @@
 //! Which words of its line a gcc refuses.
 
-use crate::asking::{Said, ask_words};
-use crate::checking::Pair;
+use crate::asking::{Gcc, Said};
 use crate::fault::Fault;
-use crate::finding::has_bytes;
+use crate::texts::has_bytes;
 use drv_gcc::halve;
 use drv_words::{Listing, Word, split};
 use std::slice;
@@ -21,22 +20,22 @@ pub enum Answer {
 
 /// What a gcc says of these words. The input after each of them is the argument of an option that
 /// takes the next word.
-pub fn try_words(pair: Pair<'_>, words: &[Word]) -> Result<Said, Fault> {
-    let alloc = pair.rt.alloc();
+pub fn try_words(gcc: Gcc<'_>, words: &[Word]) -> Result<Said, Fault> {
+    let alloc = gcc.alloc();
     let mut line = split(alloc, b"-###")?;
     for word in words {
         line.push(word.clone()?)?;
         line.push(Word::from_bytes(alloc, b"-Wl,x")?)?;
     }
-    ask_words(pair.rt, &pair.work.lines, pair.gcc, line.as_slice())
+    gcc.ask_words(line.as_slice())
 }
 
 /// What a gcc says of an option that it does not know.
 pub const UNKNOWN: &[u8] = b"unrecognized command";
 
 /// What a gcc makes of a word.
-pub fn answer_to(pair: Pair<'_>, word: &Word) -> Result<Answer, Fault> {
-    let said = try_words(pair, slice::from_ref(word))?;
+pub fn answer_to(gcc: Gcc<'_>, word: &Word) -> Result<Answer, Fault> {
+    let said = try_words(gcc, slice::from_ref(word))?;
     Ok(if said.is_done {
         Answer::Takes
     } else if has_bytes(said.err.as_bytes(), UNKNOWN) {
@@ -54,37 +53,37 @@ const HALVINGS: usize = 20;
 
 /// Asks a gcc of words. Those that it refuses are halved.
 fn ask_of(
-    pair: Pair<'_>,
+    gcc: Gcc<'_>,
     words: &[Word],
     halves: &mut Listing<Listing<Word>>,
     refused: &mut Listing<Word>,
 ) -> Result<(), Fault> {
-    if AT_ONCE < words.len() || !try_words(pair, words)?.is_done {
-        halve(pair.rt.alloc(), words, halves, refused)?;
+    if AT_ONCE < words.len() || !try_words(gcc, words)?.is_done {
+        halve(gcc.alloc(), words, halves, refused)?;
     }
     Ok(())
 }
 
 /// Asks a gcc of each of these lists of words, and gives the halves of those that it refuses.
 fn halves_of(
-    pair: Pair<'_>,
+    gcc: Gcc<'_>,
     waiting: &[Listing<Word>],
     refused: &mut Listing<Word>,
 ) -> Result<Listing<Listing<Word>>, Fault> {
-    let mut halves = Listing::new(pair.rt.alloc());
+    let mut halves = Listing::new(gcc.alloc());
     for words in waiting {
-        ask_of(pair, words.as_slice(), &mut halves, refused)?;
+        ask_of(gcc, words.as_slice(), &mut halves, refused)?;
     }
     Ok(halves)
 }
 
 /// Those of these words that a gcc refuses, each by itself.
-pub fn refused_of(pair: Pair<'_>, words: Listing<Word>) -> Result<Listing<Word>, Fault> {
-    let mut refused = Listing::new(pair.rt.alloc());
-    let mut waiting = Listing::new(pair.rt.alloc());
+pub fn refused_of(gcc: Gcc<'_>, words: Listing<Word>) -> Result<Listing<Word>, Fault> {
+    let mut refused = Listing::new(gcc.alloc());
+    let mut waiting = Listing::new(gcc.alloc());
     waiting.push(words)?;
     for _ in 0..HALVINGS {
-        waiting = halves_of(pair, waiting.as_slice(), &mut refused)?;
+        waiting = halves_of(gcc, waiting.as_slice(), &mut refused)?;
     }
     Ok(refused)
 }

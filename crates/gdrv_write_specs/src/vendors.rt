@@ -1,13 +1,13 @@
 //! Copies of vendors' spec files in gcc's folders that have forms which this driver has in other
 //! words. The copy is found before the file by its name.
 
-use crate::asking::{joined, text};
-use crate::checking::Pair;
+use crate::asking::{Gcc, text};
 use crate::fault::Fault;
-use crate::finding::{has_bytes, has_word};
+use crate::finding::has_word;
 use crate::gluing::unglue;
 use crate::parts::add_body_line;
 use crate::programs::names_in;
+use crate::texts::{add_all, has_bytes, joined};
 use drv_dump::{Kind, read_text, translate_vendors};
 use drv_words::{Listing, Word};
 use std::alloc::Global;
@@ -52,15 +52,10 @@ fn is_whole_text(line: &[u8]) -> bool {
 
 /// The option that a test of a text is for.
 fn option_of(alloc: Global, test: &[u8]) -> Result<Word, Fault> {
-    let mut option = Word::from_bytes(alloc, b"-")?;
     match test.strip_suffix(b"*".as_slice()) {
-        Some(beginning) => {
-            option.extend_from_slice(beginning)?;
-            option.push(b'x')?;
-        }
-        None => option.extend_from_slice(test)?,
+        Some(beginning) => joined(alloc, &[b"-", beginning, b"x"]),
+        None => joined(alloc, &[b"-", test]),
     }
-    Ok(option)
 }
 
 /// Adds the options that a text tests.
@@ -100,8 +95,7 @@ impl Translating {
 
     /// Adds a line.
     fn push_line(&mut self, line: &[u8]) -> Result<(), Fault> {
-        self.content.extend_from_slice(line)?;
-        Ok(self.content.push(b'\n')?)
+        add_all(&mut self.content, &[line, b"\n"])
     }
 
     /// Adds a text that was read.
@@ -174,10 +168,10 @@ fn add_copies(
         let path = joined(rt.alloc(), &[folder.as_bytes(), name.as_bytes()])?;
         let is_specs = name.as_bytes().ends_with(b".specs");
         if is_specs && !has_word(seen.as_slice(), name.as_bytes()) {
-            if let Ok(content) = fs::read(rt, text(path.as_bytes())?) {
-                if let Some(copy) = copy_of(rt.alloc(), &name, content.as_slice())? {
-                    copies.push(copy)?;
-                }
+            if let Ok(content) = fs::read(rt, text(path.as_bytes())?)
+                && let Some(copy) = copy_of(rt.alloc(), &name, content.as_slice())?
+            {
+                copies.push(copy)?;
             }
             seen.push(name)?;
         }
@@ -203,23 +197,21 @@ const LINES: [&[u8]; 3] = [
 ];
 
 /// The line with a copy that is compared with each option of its texts, and for each library.
-const LINKED: &[u8] = b"x.c -o made -specs=";
+const LINKED: [&[u8]; 1] = [b"x.c -o made -specs="];
 
-impl<'a> Pair<'a> {
-    /// Whether a line with a spec file of this name and an option has another plan than gcc's.
-    fn is_other_with(self, line: &[u8], name: &Word, option: &Word) -> Result<bool, Fault> {
-        let whole = joined(
-            self.rt.alloc(),
-            &[line, name.as_bytes(), b" ", option.as_bytes()],
-        )?;
-        self.is_line_other(whole.as_bytes())
-    }
-
-    /// Whether a link with a spec file of this name and one of these options has another plan.
-    fn is_any_link_other(self, name: &Word, options: &[Word]) -> Result<bool, Fault> {
-        for option in options {
-            if self.is_other_with(LINKED, name, option)? {
-                return Ok(true);
+impl<'a> Gcc<'a> {
+    /// Whether one of some lines with a spec file of this name and one of these options has another
+    /// plan than gcc's.
+    fn is_other_with(self, lines: &[&[u8]], name: &Word, options: &[Word]) -> Result<bool, Fault> {
+        for line in lines {
+            let whole = joined(self.alloc(), &[*line, name.as_bytes()])?;
+            for option in options {
+                if self
+                    .with(option.as_bytes())
+                    .is_line_other(whole.as_bytes())?
+                {
+                    return Ok(true);
+                }
             }
         }
         Ok(false)
@@ -227,15 +219,11 @@ impl<'a> Pair<'a> {
 
     /// Whether a line with the copy has another plan, for one of these options for machines or none.
     pub fn is_copy_other(self, copy: &VendorsFile, keys: &[Word]) -> Result<bool, Fault> {
-        let none = Word::empty(self.rt.alloc());
-        for line in LINES {
-            if self.is_other_with(line, &copy.name, &none)? {
-                return Ok(true);
-            }
-        }
+        let none = [Word::empty(self.alloc())];
         Ok(
-            self.is_any_link_other(&copy.name, copy.options.as_slice())?
-                || self.is_any_link_other(&copy.name, keys)?,
+            self.is_other_with(&LINES, &copy.name, &none)?
+                || self.is_other_with(&LINKED, &copy.name, copy.options.as_slice())?
+                || self.is_other_with(&LINKED, &copy.name, keys)?,
         )
     }
 }

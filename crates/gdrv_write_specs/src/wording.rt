@@ -1,6 +1,7 @@
 //! Texts of gcc in other words than those of the table of forms.
 
 use crate::fault::Fault;
+use crate::texts::joined;
 use drv_gcc::replace;
 use drv_words::Word;
 use std::alloc::Global;
@@ -43,11 +44,11 @@ pub fn with_other_words(alloc: Global, texts: &Word) -> Result<Word, Fault> {
 /// The word for the records of an assembly where a line has no front: that of its `-gdwarf-N`, or
 /// else the one that a gcc hands on for `-g`.
 pub fn own_records(alloc: Global, usual: &[u8]) -> Result<Word, Fault> {
-    let mut text = Word::from_bytes(alloc, b"%{g0:;gdwarf-2:--gdwarf2;gdwarf-*:--gdwarf-%*")?;
-    if !usual.is_empty() {
-        text.extend_from_slice(b";:")?;
-        text.extend_from_slice(usual)?;
-    }
-    text.push(b'}')?;
-    Ok(text)
+    let between = if usual.is_empty() {
+        b"".as_slice()
+    } else {
+        b";:"
+    };
+    let given = b"%{g0:;gdwarf-2:--gdwarf2;gdwarf-*:--gdwarf-%*".as_slice();
+    joined(alloc, &[given, between, usual, b"}"])
 }

@@ -1,14 +1,16 @@
 //! The folder in which a spec file is written and tried before it is put in place.
 
-use crate::asking::{joined, text};
+use crate::asking::{Heard, text};
 use crate::fault::Fault;
 use crate::gathering::PROBE;
 use crate::programs::is_folder;
 use crate::temporary::{new_folder, new_path};
+use crate::texts::joined;
 use crate::vendors::{COPIES, VendorsFile};
 use drv_gcc::with_mark;
-use drv_words::Word;
+use drv_words::{Listing, Word};
 use std::alloc::Global;
+use std::cell::RefCell;
 use std::fs::File;
 use std::io::Write;
 use std::{env, fs};
@@ -26,6 +28,8 @@ pub struct WorkFolder {
     pub root: Word,
     /// The spec file that it finds, without the ending.
     pub stem: Word,
+    /// What the gcc that is asked there has said.
+    pub heard: RefCell<Listing<Heard>>,
 }
 
 /// The source that lines are tried with.
@@ -59,10 +63,10 @@ pub fn absolute(rt: &HostRuntime, path: &Word) -> Result<Word, Fault> {
         return Ok(path.clone()?);
     }
     let here = env::current_dir(rt)?;
-    let mut whole = Word::from_bytes(rt.alloc(), here.as_str().as_bytes())?;
-    whole.push(b'/')?;
-    whole.extend_from_slice(path.as_bytes())?;
-    Ok(whole)
+    joined(
+        rt.alloc(),
+        &[here.as_str().as_bytes(), b"/", path.as_bytes()],
+    )
 }
 
 /// Writes a file.
@@ -118,6 +122,7 @@ impl WorkFolder {
             driver: join(alloc, &path, b"/bin/checked-gdrv-cc")?,
             root: join(alloc, &path, b"/root")?,
             stem: join(alloc, &path, b"/share/gdrv/checked")?,
+            heard: RefCell::new(Listing::new(alloc)),
             path,
         })
     }
@@ -215,19 +220,17 @@ impl WorkFolder {
 
     /// The path of a copy of a vendor's file.
     fn copy_path(&self, rt: &HostRuntime, name: &Word) -> Result<Word, Fault> {
-        let folder = join(rt.alloc(), &self.stem, COPIES)?;
-        join(rt.alloc(), &folder, name.as_bytes())
+        joined(rt.alloc(), &[self.stem.as_bytes(), COPIES, name.as_bytes()])
     }
 
     /// Writes copies of vendors' files.
     pub fn put_copies(&self, rt: &HostRuntime, copies: &[VendorsFile]) -> Result<(), Fault> {
-        make_all(rt, join(rt.alloc(), &self.stem, COPIES)?.as_bytes())?;
+        if !copies.is_empty() {
+            make_all(rt, join(rt.alloc(), &self.stem, COPIES)?.as_bytes())?;
+        }
         for copy in copies {
-            write(
-                rt,
-                &self.copy_path(rt, &copy.name)?,
-                copy.content.as_bytes(),
-            )?;
+            let path = self.copy_path(rt, &copy.name)?;
+            write(rt, &path, copy.content.as_bytes())?;
         }
         Ok(())
     }
