@@ -15,19 +15,23 @@ use drv_words::Word;
 use std::env::var;
 use std::fs;
 
-/// The variables that may name the folder in which a user has caches, and what follows there.
-const FOLDERS: [(&str, &[u8]); 2] = [("XDG_CACHE_HOME", b"/gdrv"), ("HOME", b"/.cache/gdrv")];
+/// The folder in which a user has caches: that of this variable with this after it, if the variable
+/// names one.
+fn folder_below(rt: &HostRuntime, variable: &str, rest: &[u8]) -> Result<Option<Word>, Fault> {
+    match var(rt, variable) {
+        Ok(value) if value.as_bytes().starts_with(b"/") => {
+            Ok(Some(joined(rt.alloc(), &[value.as_bytes(), rest])?))
+        }
+        _ => Ok(None),
+    }
+}
 
 /// The folder of the rows, if a variable names one.
 fn folder(rt: &HostRuntime) -> Result<Option<Word>, Fault> {
-    for (variable, rest) in FOLDERS {
-        if let Ok(value) = var(rt, variable)
-            && value.as_bytes().starts_with(b"/")
-        {
-            return Ok(Some(joined(rt.alloc(), &[value.as_bytes(), rest])?));
-        }
+    match folder_below(rt, "XDG_CACHE_HOME", b"/gdrv")? {
+        Some(own) => Ok(Some(own)),
+        None => folder_below(rt, "HOME", b"/.cache/gdrv"),
     }
-    Ok(None)
 }
 
 /// The file of the rows in a folder for a spec file, which is named without its ending: its path is

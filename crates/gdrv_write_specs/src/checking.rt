@@ -3,7 +3,7 @@
 use crate::asking::{Gcc, commands};
 use crate::fault::Fault;
 use crate::finding::has_word;
-use crate::names::unknown_of;
+use crate::refusing::Refusals;
 use crate::texts::joined;
 use drv_gcc::same_commands;
 use drv_words::{Listing, Word, split};
@@ -202,10 +202,10 @@ impl<'a> Gcc<'a> {
     /// The options that the gcc lacks because its texts don't name them.
     pub fn unnamed_options(self) -> Result<Listing<Word>, Fault> {
         let named = split(self.alloc(), NAMED)?;
-        let unknown = unknown_of(self, named.as_slice())?;
+        let refusals = Refusals::of(self, named.as_slice())?;
         let mut lacking = Listing::new(self.alloc());
         for option in named.into_vec() {
-            if has_word(unknown.as_slice(), option.as_bytes()) {
+            if has_word(refusals.lacking.as_slice(), option.as_bytes()) {
                 lacking.push(option)?;
             }
         }

@@ -19,7 +19,7 @@ fn is_called(program: &[u8], name: &[u8]) -> bool {
 
 /// The last command of a program of this name, with its words; empty where there is none.
 pub fn command_named<'a>(commands: &'a [Listing<Word>], name: &[u8]) -> &'a [Word] {
-    let mut found = [].as_slice();
+    let mut found: &[Word] = &[];
     for command in commands {
         if let [program, ..] = command.as_slice() {
             if is_called(program.as_bytes(), name) {

@@ -5,14 +5,11 @@ use crate::fault::Fault;
 use crate::finding::has_word;
 use crate::listing::option_list;
 use crate::newer::own_line;
-use crate::refusing::{AT_ONCE, Answer, UNKNOWN, answer_to, refused_of, try_words};
-use crate::texts::{add_all, cut_at, has_bytes, joined, lines_of, numbered, sorted_lines};
+use crate::refusing::{Refusals, name_of, quote_in};
+use crate::texts::{add_all, cut_at, joined, lines_of, numbered, sorted_lines};
 use drv_gcc::{option_lines, options, values};
-use drv_words::{Listing, Word, copy_words, split};
+use drv_words::{Listing, Word, split};
 use std::alloc::Global;
-
-/// How often a gcc is asked of words at once: it doesn't quote all that it refuses.
-const ROUNDS: usize = 3;
 
 /// Options whose values the front knows.
 const OWN: [&[u8]; 6] = [
@@ -102,13 +99,6 @@ fn values_in(alloc: Global, after: &[u8]) -> Result<Listing<Word>, Fault> {
     numbers(alloc, split(alloc, ends.unwrap_or(b""))?.as_slice())
 }
 
-/// The words that a line quotes first, and what is before and behind the quotes.
-fn quote_in(line: &[u8]) -> (&[u8], &[u8], &[u8]) {
-    let (before, rest) = cut_at(b'\'', line);
-    let (quoted, after) = cut_at(b'\'', rest);
-    (before, quoted, after)
-}
-
 /// What a gcc says of the values of these options.
 fn judgements(gcc: Gcc<'_>, tried: &[Word]) -> Result<Listing<Judged>, Fault> {
     let alloc = gcc.alloc();
@@ -151,54 +141,6 @@ fn whole_of(alloc: Global, known: &[Word]) -> Result<Listing<Word>, Fault> {
     Ok(whole)
 }
 
-/// The words that a gcc quotes first in a line where it refuses one.
-#[derive(Drop)]
-struct Quoted {
-    /// Those that it does not know.
-    lacking: Listing<Word>,
-    /// Others, which it knows.
-    known: Listing<Word>,
-}
-
-/// The words that a gcc quotes.
-fn quoted_in(alloc: Global, said: &[u8]) -> Result<Quoted, Fault> {
-    let mut lacking = Listing::new(alloc);
-    let mut known = Listing::new(alloc);
-    for line in said.split(|byte| *byte == b'\n') {
-        let (before, quoted, _) = quote_in(line);
-        let word = Word::from_bytes(alloc, quoted)?;
-        if has_bytes(before, UNKNOWN) {
-            lacking.push(word)?;
-        } else if !has_bytes(before, b"warning: ") {
-            known.push(word)?;
-        }
-    }
-    Ok(Quoted { lacking, known })
-}
-
-/// Those of the words that a gcc quotes which it does not know, where it is asked of these at once.
-pub fn unknown_of(gcc: Gcc<'_>, words: &[Word]) -> Result<Listing<Word>, Fault> {
-    let said = try_words(gcc, words)?;
-    Ok(quoted_in(gcc.alloc(), said.err.as_bytes())?.lacking)
-}
-
-/// The name of the option in a word that is tried: what precedes a value that no option has.
-fn name_of(word: &[u8]) -> &[u8] {
-    word.strip_suffix(b"?".as_slice()).unwrap_or(word)
-}
-
-/// Whether one of these quotes is of a word: of all of it, of the option without the value or the
-/// equals sign, or of what follows `-g`.
-fn quotes(quoted: &Listing<Word>, word: &[u8]) -> bool {
-    let name = name_of(word);
-    let bare = name.strip_suffix(b"=".as_slice()).unwrap_or(name);
-    let level = word.strip_prefix(b"-g".as_slice()).unwrap_or(word);
-    quoted.as_slice().iter().any(|it| {
-        let it = it.as_bytes();
-        it == word || it == name || it == bare || it == level
-    })
-}
-
 /// What a gcc makes of the options that it lists.
 #[derive(Drop)]
 struct OptionNames {
@@ -209,60 +151,16 @@ struct OptionNames {
 }
 
 impl OptionNames {
-    /// Notes what a gcc makes of a word.
-    fn note(&mut self, alloc: Global, word: &[u8], answer: Answer) -> Result<(), Fault> {
-        let name = name_of(word);
-        match answer {
-            Answer::Takes => Ok(()),
-            Answer::Refuses => Ok(self.names.push(joined(alloc, &[name, b"?"])?)?),
-            Answer::Lacks => Ok(self.lacking.push(Word::from_bytes(alloc, name)?)?),
+    /// Adds those of some words that a gcc refuses.
+    fn add_refused(&mut self, gcc: Gcc<'_>, words: &[Word]) -> Result<(), Fault> {
+        let refusals = Refusals::of(gcc, words)?;
+        for word in refusals.known.as_slice() {
+            self.names
+                .push(joined(gcc.alloc(), &[name_of(word.as_bytes()), b"?"])?)?;
         }
-    }
-
-    /// Notes the words that a gcc quotes. Gives the others.
-    fn note_quoted(
-        &mut self,
-        alloc: Global,
-        quoted: &Quoted,
-        words: &[Word],
-    ) -> Result<Listing<Word>, Fault> {
-        let mut others = Listing::new(alloc);
-        for word in words {
-            let bytes = word.as_bytes();
-            if quotes(&quoted.lacking, bytes) {
-                self.note(alloc, bytes, Answer::Lacks)?;
-            } else if quotes(&quoted.known, bytes) {
-                self.note(alloc, bytes, Answer::Refuses)?;
-            } else {
-                others.push(word.clone()?)?;
-            }
-        }
-        Ok(others)
-    }
-
-    /// Notes what a gcc makes of some words: it is asked of all at once, then of those that it doesn't
-    /// quote, and at last of the refused ones among these by halves.
-    fn note_some(&mut self, gcc: Gcc<'_>, words: &[Word]) -> Result<(), Fault> {
-        let alloc = gcc.alloc();
-        let mut left = copy_words(alloc, words)?;
-        for _ in 0..ROUNDS {
-            let said = try_words(gcc, left.as_slice())?;
-            if said.is_done {
-                return Ok(());
-            }
-            let quoted = quoted_in(alloc, said.err.as_bytes())?;
-            left = self.note_quoted(alloc, &quoted, left.as_slice())?;
-        }
-        for word in refused_of(gcc, left)?.as_slice() {
-            self.note(alloc, word.as_bytes(), answer_to(gcc, word)?)?;
-        }
-        Ok(())
-    }
-
-    /// Notes what a gcc makes of words.
-    fn note_all(&mut self, gcc: Gcc<'_>, words: &[Word]) -> Result<(), Fault> {
-        for some in words.chunks(AT_ONCE) {
-            self.note_some(gcc, some)?;
+        for word in refusals.lacking.as_slice() {
+            self.lacking
+                .push(Word::from_bytes(gcc.alloc(), name_of(word.as_bytes()))?)?;
         }
         Ok(())
     }
@@ -312,8 +210,8 @@ impl OptionNames {
             lacking: Listing::new(alloc),
         };
         let tried = with_no_value(alloc, known)?;
-        options.note_all(gcc, whole_of(alloc, known)?.as_slice())?;
-        options.note_all(gcc, tried.as_slice())?;
+        options.add_refused(gcc, whole_of(alloc, known)?.as_slice())?;
+        options.add_refused(gcc, tried.as_slice())?;
         options.add_judged(gcc, tried.as_slice())?;
         Ok(options)
     }

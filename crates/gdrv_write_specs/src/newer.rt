@@ -4,7 +4,7 @@
 use crate::asking::{Gcc, commands};
 use crate::fault::Fault;
 use crate::finding::has_word;
-use crate::refusing::refused_of;
+use crate::refusing::Refusals;
 use crate::texts::{add_all, cut_at, joined};
 use drv_words::{Listing, Word, split};
 use std::alloc::Global;
@@ -99,13 +99,16 @@ fn options_of(alloc: Global, entries: &[Entry]) -> Result<Listing<Word>, Fault> 
     Ok(options)
 }
 
-/// The words of the commands by which a gcc compiles with the options of these entries, but for
-/// those that it refuses.
-fn words_with(gcc: Gcc<'_>, entries: &[Entry], refused: &[Word]) -> Result<Listing<Word>, Fault> {
+/// The words of the commands by which a gcc compiles with the options of these entries that it takes.
+fn words_with(
+    gcc: Gcc<'_>,
+    entries: &[Entry],
+    refusals: &Refusals,
+) -> Result<Listing<Word>, Fault> {
     let alloc = gcc.alloc();
     let mut line = split(alloc, b"-### -S x.i -o made")?;
     for entry in entries {
-        if !has_word(refused, entry.option.as_bytes()) {
+        if !refusals.have(entry.option.as_bytes()) {
             line.push(entry.option.clone()?)?;
         }
     }
@@ -130,18 +133,18 @@ fn is_own(words: &[Word], entry: &Entry) -> bool {
 /// a mark, those that it refuses and newer gccs pass over.
 fn add_signed(gcc: Gcc<'_>, sign: &[u8], line: &mut Word) -> Result<(), Fault> {
     let all = entries(gcc.alloc(), sign)?;
-    let refused = refused_of(gcc, options_of(gcc.alloc(), all.as_slice())?)?;
-    let words = words_with(gcc, all.as_slice(), refused.as_slice())?;
+    let refusals = Refusals::of(gcc, options_of(gcc.alloc(), all.as_slice())?.as_slice())?;
+    let words = words_with(gcc, all.as_slice(), &refusals)?;
     for entry in all.as_slice() {
-        let is_refused = has_word(refused.as_slice(), entry.option.as_bytes());
-        if !is_refused && is_own(words.as_slice(), entry) {
-            add_all(line, &[b" ".as_slice(), entry.option.as_bytes()])?;
+        let option = entry.option.as_bytes();
+        if !refusals.have(option) && is_own(words.as_slice(), entry) {
+            add_all(line, &[b" ", option])?;
         }
     }
     for entry in all.as_slice() {
-        let is_refused = has_word(refused.as_slice(), entry.option.as_bytes());
-        if is_refused && entry.name.is_empty() {
-            add_all(line, &[b" ".as_slice(), entry.option.as_bytes(), b"?"])?;
+        let option = entry.option.as_bytes();
+        if refusals.have(option) && entry.name.is_empty() {
+            add_all(line, &[b" ", option, b"?"])?;
         }
     }
     Ok(())

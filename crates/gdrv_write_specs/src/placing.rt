@@ -51,7 +51,8 @@ pub fn driver_at(rt: &HostRuntime) -> Result<Word, Fault> {
 fn say_of_itself(gcc: Gcc<'_>) -> Result<Listing<Word>, Fault> {
     let alloc = gcc.alloc();
     let mut lines = Listing::new(alloc);
-    for line in values(alloc, b"", gcc.ask(b"-v")?.err.as_bytes())?.into_vec() {
+    let version = gcc.ask(b"-v")?;
+    for line in values(alloc, b"", version.err.as_bytes())?.into_vec() {
         if !line.is_empty() {
             lines.push(line)?;
         }
