@@ -8,22 +8,11 @@ use crate::natives::with_natives;
 use crate::placing::{driver_at, stem_of};
 use crate::rows::{Row, push_names, push_row, row_of};
 use crate::texts::{joined, lines_of, sorted_lines};
-use crate::work_folder::{WorkFolder, join, try_place, write};
+use crate::work_folder::{WorkFolder, join, try_place};
 use drv_gcc::values;
 use drv_words::{Listing, Word};
 use std::alloc::Global;
 use std::fs;
-
-/// The endings of the files beside the one that names the gcc.
-const ENDINGS: [&[u8]; 7] = [
-    b".specs",
-    b".options",
-    b".compile",
-    b".c.compile",
-    b".link",
-    b".all",
-    b".c.all",
-];
 
 /// The lines of a file before its mark, as a text.
 fn lines_in(rt: &HostRuntime, path: &Word) -> Result<Word, Fault> {
@@ -108,18 +97,6 @@ impl Question {
         }
     }
 
-    /// Copies the files of the spec file into a folder of work.
-    fn copy_files(&self, rt: &HostRuntime, work: &WorkFolder) -> Result<(), Fault> {
-        for ending in ENDINGS {
-            let path = join(rt.alloc(), &self.stem, ending)?;
-            if let Ok(content) = fs::read(rt, text(path.as_bytes())?) {
-                let copy = join(rt.alloc(), &work.stem, ending)?;
-                write(rt, &copy, content.as_slice())?;
-            }
-        }
-        Ok(())
-    }
-
     /// The row that the gcc makes of its options.
     fn row(&self, gcc: Gcc<'_>) -> Result<Row, Fault> {
         let folders = values(gcc.alloc(), b"folder ", self.lines.as_bytes())?;
@@ -145,7 +122,7 @@ impl Question {
 
     /// The row, which a folder of work has then. Its plans are compared with gcc's.
     fn tried_row(&self, gcc: Gcc<'_>) -> Result<Row, Fault> {
-        self.copy_files(gcc.rt, gcc.work)?;
+        gcc.work.copy_files(gcc.rt, &self.stem)?;
         let row = self.row(gcc)?;
         self.put_row(gcc, &row)?;
         if gcc.is_other()? {

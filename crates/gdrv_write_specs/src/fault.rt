@@ -11,6 +11,10 @@ use std::io::ErrorKind;
 pub enum Fault {
     /// Memory was wanted.
     Memory,
+    /// The words of the call ask for nothing.
+    Misused,
+    /// This is no name of a spec file.
+    NotSpecs(Word),
     /// There is no such program.
     NoGcc(Word),
     /// This program prints no spec texts.
@@ -51,6 +55,16 @@ impl From<AllocError> for Fault {
     }
 }
 
+impl From<CallFault> for Fault {
+    fn from(fault: CallFault) -> Fault {
+        match fault {
+            CallFault::Memory => Fault::Memory,
+            CallFault::Misused => Fault::Misused,
+            CallFault::NotSpecs(path) => Fault::NotSpecs(path),
+        }
+    }
+}
+
 impl<T: Drop> From<AllocFailed<T>> for Fault {
     fn from(_error: AllocFailed<T>) -> Fault {
         Fault::Memory
@@ -86,19 +100,21 @@ pub fn push_shown(shown: &mut Word, text: &[u8]) -> Result<(), AllocError> {
     Ok(())
 }
 
-/// The beginning of a line of the program: its name, and this with a word between.
-fn begun(alloc: Global, before: &[u8], word: &[u8], after: &[u8]) -> Result<Word, AllocError> {
-    let mut line = Word::from_bytes(alloc, b"gdrv-write-specs: ")?;
-    for part in [before, word, after] {
-        push_shown(&mut line, part)?;
-    }
-    Ok(line)
-}
-
 /// What precedes the word of a fault in its line, that word, and what follows it.
 fn parts_of(fault: &Fault) -> (&[u8], &[u8], &[u8]) {
     match fault {
         Fault::Memory => (b"out of memory", b"", b""),
+        Fault::Misused => (
+            b"expected [--force] [-o X.specs] GCC [OPTION..], --add X.specs OPTION.., \
+--row X.specs OPTION.., --help or --version",
+            b"",
+            b"",
+        ),
+        Fault::NotSpecs(path) => (
+            b"the name of a spec file ends in .specs: '",
+            path.as_bytes(),
+            b"'",
+        ),
         Fault::NoGcc(gcc) => (b"cannot start '", gcc.as_bytes(), b"'"),
         Fault::NoDump(gcc) => (
             b"'",
@@ -155,7 +171,10 @@ impl Fault {
     /// What the user reads.
     pub fn text(&self, alloc: Global) -> Result<Word, AllocError> {
         let (before, word, after) = parts_of(self);
-        let mut text = begun(alloc, before, word, after)?;
+        let mut text = Word::from_bytes(alloc, b"gdrv-write-specs: ")?;
+        for part in [before, word, after] {
+            push_shown(&mut text, part)?;
+        }
         if let Fault::Refuses(_, options) = self {
             push_shown(&mut text, options.as_bytes())?;
             text.push(b'\'')?;
@@ -170,26 +189,4 @@ impl Fault {
         }
         Ok(text)
     }
-}
-
-/// What the user reads of a call that asks for nothing.
-pub fn misuse_text(alloc: Global, fault: &CallFault) -> Result<Word, AllocError> {
-    let mut text = match fault {
-        CallFault::Memory => begun(alloc, b"out of memory", b"", b"")?,
-        CallFault::Misused => begun(
-            alloc,
-            b"expected [--force] [-o X.specs] GCC [OPTION..], --add X.specs OPTION.., \
---row X.specs OPTION.., --help or --version",
-            b"",
-            b"",
-        )?,
-        CallFault::NotSpecs(path) => begun(
-            alloc,
-            b"the name of a spec file ends in .specs: '",
-            path.as_bytes(),
-            b"'",
-        )?,
-    };
-    text.push(b'\n')?;
-    Ok(text)
 }

@@ -39,15 +39,16 @@ mod wording;
 mod work_folder;
 
 use adding::{add_words, row_text};
-use calling::{Call, CallFault, Fate, call_of};
+use calling::{Call, Fate, call_of};
 use drv_system::{arguments, complain};
 use drv_words::Word;
-use fault::{Fault, misuse_text};
+use fault::Fault;
 use help::HELP;
 use placing::write_file;
 use std::alloc::AllocError;
 use std::io::{self, Write};
 use std::process::ExitCode;
+use texts::joined;
 use version::VERSION;
 
 const OUT_OF_MEMORY: &[u8] = b"gdrv-write-specs: out of memory\n";
@@ -70,51 +71,30 @@ fn print(rt: &HostRuntime, text: &[u8]) -> ExitCode {
     }
 }
 
-/// Prints a text that was made, or refuses for lack of memory.
-fn print_made(rt: &HostRuntime, text: Result<String, AllocError>) -> ExitCode {
-    match text {
-        Ok(text) => print(rt, text.as_bytes()),
-        Err(_) => refuse(rt, Err(AllocError)),
-    }
-}
-
-/// How a call ends.
-fn end_call(rt: &HostRuntime, done: Result<(), Fault>) -> ExitCode {
-    match done {
-        Ok(()) => ExitCode::from(0),
-        Err(fault) => refuse(rt, fault.text(rt.alloc())),
-    }
-}
-
-/// Prints a row, or says why there is none.
-fn print_row(rt: &HostRuntime, row: Result<Word, Fault>) -> ExitCode {
-    match row {
-        Ok(text) => print(rt, text.as_bytes()),
-        Err(fault) => refuse(rt, fault.text(rt.alloc())),
-    }
-}
-
-/// Does what a call asks for.
-fn act(rt: &HostRuntime, call: Result<Call, CallFault>) -> ExitCode {
-    match call {
-        Ok(Call::Help) => print(rt, HELP),
-        Ok(Call::Version) => {
-            print_made(rt, format!(in rt.alloc(); "gdrv-write-specs {VERSION}\n"))
+/// Does what a call with these words asks for. Gives what is printed.
+fn act(rt: &HostRuntime, words: &[Word]) -> Result<Word, Fault> {
+    let alloc = rt.alloc();
+    match call_of(alloc, words)? {
+        Call::Help => Ok(Word::from_bytes(alloc, HELP)?),
+        Call::Version => joined(alloc, &[b"gdrv-write-specs ", VERSION.as_bytes(), b"\n"]),
+        Call::Write(order) => {
+            write_file(rt, &order)?;
+            Ok(Word::empty(alloc))
         }
-        Ok(Call::Write(order)) => end_call(rt, write_file(rt, &order)),
-        Ok(Call::Row(Fate::Added, path, options)) => {
-            end_call(rt, add_words(rt, &path, options.as_slice()))
+        Call::Row(Fate::Added, path, options) => {
+            add_words(rt, &path, options.as_slice())?;
+            Ok(Word::empty(alloc))
         }
-        Ok(Call::Row(Fate::Printed, path, options)) => {
-            print_row(rt, row_text(rt, &path, options.as_slice()))
-        }
-        Err(fault) => refuse(rt, misuse_text(rt.alloc(), &fault)),
+        Call::Row(Fate::Printed, path, options) => row_text(rt, &path, options.as_slice()),
     }
 }
 
 fn main(rt: HostRuntime) -> ExitCode {
     match arguments(&rt) {
-        Ok(words) => act(&rt, call_of(rt.alloc(), words.as_slice())),
+        Ok(words) => match act(&rt, words.as_slice()) {
+            Ok(text) => print(&rt, text.as_bytes()),
+            Err(fault) => refuse(&rt, fault.text(rt.alloc())),
+        },
         Err(error) => {
             match format!(in rt.alloc(); "gdrv-write-specs: {error}\n") {
                 Ok(text) => complain(&rt, text.as_bytes()),

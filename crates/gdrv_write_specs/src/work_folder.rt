@@ -3,7 +3,7 @@
 use crate::asking::{Heard, text};
 use crate::fault::Fault;
 use crate::gathering::PROBE;
-use crate::programs::is_folder;
+use crate::programs::{is_file, is_folder};
 use crate::temporary::{new_folder, new_path};
 use crate::texts::joined;
 use crate::vendors::{COPIES, VendorsFile};
@@ -197,15 +197,16 @@ impl WorkFolder {
         Ok(())
     }
 
-    /// Puts a part of the spec file in place of an earlier one, or removes that.
-    fn place_part(&self, rt: &HostRuntime, stem: &Word, ending: &[u8]) -> Result<(), Fault> {
-        let from = join(rt.alloc(), &self.stem, ending)?;
-        let to = join(rt.alloc(), stem, ending)?;
-        let _ = fs::remove_file(rt, text(to.as_bytes())?);
-        match fs::read(rt, text(from.as_bytes())?) {
-            Ok(content) => put_in_place(rt, stem, &to, content.as_slice()),
-            Err(_) => Ok(()),
+    /// Copies the files of a spec file into it.
+    pub fn copy_files(&self, rt: &HostRuntime, stem: &Word) -> Result<(), Fault> {
+        for ending in PARTS.iter().chain(ENDINGS.iter()) {
+            let path = join(rt.alloc(), stem, ending)?;
+            if let Ok(content) = fs::read(rt, text(path.as_bytes())?) {
+                let copy = join(rt.alloc(), &self.stem, ending)?;
+                write(rt, &copy, content.as_slice())?;
+            }
         }
+        Ok(())
     }
 
     /// Puts a file of this ending in place.
@@ -263,7 +264,10 @@ impl WorkFolder {
     /// read in its place, go first.
     pub fn place(&self, rt: &HostRuntime, stem: &Word) -> Result<(), Fault> {
         for ending in PARTS {
-            self.place_part(rt, stem, ending)?;
+            let _ = fs::remove_file(rt, text(join(rt.alloc(), stem, ending)?.as_bytes())?);
+            if is_file(rt, &join(rt.alloc(), &self.stem, ending)?)? {
+                self.place_file(rt, stem, ending)?;
+            }
         }
         self.place_copies(rt, stem)?;
         for ending in ENDINGS {
