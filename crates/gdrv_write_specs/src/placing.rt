@@ -51,15 +51,15 @@ pub fn driver_at(rt: &HostRuntime) -> Result<Word, Fault> {
 fn say_of_itself(gcc: Gcc<'_>) -> Result<Listing<Word>, Fault> {
     let alloc = gcc.alloc();
     let mut lines = Listing::new(alloc);
-    let version = gcc.ask(b"-v")?;
-    for line in values(alloc, b"", version.err.as_bytes())?.into_vec() {
+    let version = gcc.ask(b"-v")?.err;
+    for line in values(alloc, b"", version.as_bytes())?.into_vec() {
         if !line.is_empty() {
             lines.push(line)?;
         }
     }
-    let shown = gcc.ask(SHOWING)?;
+    let shown = gcc.ask(SHOWING)?.err;
     for key in [b"COMPILER_PATH=".as_slice(), b"LIBRARY_PATH="] {
-        for value in values(alloc, key, shown.err.as_bytes())?.as_slice() {
+        for value in values(alloc, key, shown.as_bytes())?.as_slice() {
             lines.push(joined(alloc, &[key, value.as_bytes()])?)?;
         }
     }
