@@ -17,6 +17,7 @@ use drv_gcc::{gcc_file, spec_file, values};
 use drv_system::complain;
 use drv_words::{Listing, Word, base, split_at_last};
 use itoa::Buffer;
+use std::alloc::Global;
 use std::env::current_exe;
 use std::os::unix::fs::MetadataExt;
 use std::{fs, mem};
@@ -47,21 +48,31 @@ pub fn driver_at(rt: &HostRuntime) -> Result<Word, Fault> {
     program_at(rt, &name)?.ok_or(Fault::NoDriver)
 }
 
+/// Adds the values that a key has in a text, each with the key.
+fn add_values(
+    alloc: Global,
+    key: &[u8],
+    text: &[u8],
+    lines: &mut Listing<Word>,
+) -> Result<(), Fault> {
+    for value in values(alloc, key, text)?.as_slice() {
+        lines.push(joined(alloc, &[key, value.as_bytes()])?)?;
+    }
+    Ok(())
+}
+
 /// What a gcc says of itself where commands are shown: its version, and the folders that it searches.
 fn say_of_itself(gcc: Gcc<'_>) -> Result<Listing<Word>, Fault> {
-    let alloc = gcc.alloc();
-    let mut lines = Listing::new(alloc);
+    let mut lines = Listing::new(gcc.alloc());
     let version = gcc.ask(b"-v")?.err;
-    for line in values(alloc, b"", version.as_bytes())?.into_vec() {
+    for line in values(gcc.alloc(), b"", version.as_bytes())?.into_vec() {
         if !line.is_empty() {
             lines.push(line)?;
         }
     }
     let shown = gcc.ask(SHOWING)?.err;
     for key in [b"COMPILER_PATH=".as_slice(), b"LIBRARY_PATH="] {
-        for value in values(alloc, key, shown.as_bytes())?.as_slice() {
-            lines.push(joined(alloc, &[key, value.as_bytes()])?)?;
-        }
+        add_values(gcc.alloc(), key, shown.as_bytes(), &mut lines)?;
     }
     Ok(lines)
 }
