@@ -70,8 +70,8 @@ impl<'a> Gcc<'a> {
 
     /// The texts of the gcc.
     pub fn own_texts(self) -> Result<Word, Fault> {
-        let dump = self.dump()?;
         let files = self.own_files()?;
+        let dump = self.dump()?;
         if files.is_empty() {
             return Ok(dump);
         }

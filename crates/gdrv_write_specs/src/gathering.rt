@@ -23,6 +23,9 @@ pub const PROBE: &[u8] =
 /// The line of a compilation whose plan names the programs and the folders.
 const COMPILING: &[u8] = b"-### -c x.c -o x.o";
 
+/// How texts begin that name a file.
+const FILE: &[u8] = b"%(file_";
+
 /// Files that tell which of gcc's folders are of use.
 const FILES: [&[u8]; 4] = [b"libgcc.a", b"crti.o", b"crt0.o", b"nosys.specs"];
 
@@ -206,17 +209,17 @@ fn side_files_of(texts: &[u8]) -> SideFiles {
     }
 }
 
-/// What the spec file of a gcc with these texts, folders and rows is made of.
+/// What the spec file of a gcc with these texts, programs, folders and rows is made of.
 fn toolchain_of(
     gcc: Gcc<'_>,
     translated: &Translated,
-    names: Listing<Word>,
+    programs: Programs,
     folders: Listing<Word>,
     rows: &[Row],
 ) -> Result<Toolchain, Fault> {
     let alloc = gcc.alloc();
     let texts = translated.texts.as_bytes();
-    let libraries = Libraries::of(gcc, names)?;
+    let libraries = Libraries::of(gcc, named_texts(alloc, FILE, texts)?)?;
     Ok(Toolchain {
         texts: translated.texts.clone()?,
         passed: translated.passed.clone()?,
@@ -227,7 +230,7 @@ fn toolchain_of(
         is_rooted: gcc.is_rooted()?,
         include_words: libraries.choice(alloc, LibraryText::Headers)?,
         link_folders: libraries.choice(alloc, LibraryText::Libraries)?,
-        programs: gcc.all_programs()?,
+        programs,
         refused: gcc.unnamed_options()?,
         alone: alone_by(alloc, texts, rows)?,
         library: libraries.folder_text(alloc)?,
@@ -247,14 +250,15 @@ fn key_of(alloc: Global, choosers: &[Chooser], options: &[Word]) -> Result<Word,
 pub fn gather(gcc: Gcc<'_>, options: &[Word]) -> Result<Gathered, Fault> {
     let alloc = gcc.alloc();
     let translated = gcc.translate()?;
-    let names = named_texts(alloc, b"%(file_", translated.texts.as_bytes())?;
+    let programs = gcc.all_programs()?;
+    let names = named_texts(alloc, FILE, translated.texts.as_bytes())?;
     let folders = gcc.folders(names.as_slice())?;
     let copies = copies_in(gcc.rt, folders.as_slice())?;
     let choosers = choosers_of(gcc)?;
     let key = key_of(alloc, choosers.as_slice(), options)?;
     let probes = translated.probes.as_slice();
     let rows = rows_of(gcc, probes, folders.as_slice(), choosers.as_slice(), &key)?;
-    let toolchain = toolchain_of(gcc, &translated, names, folders, rows.as_slice())?;
+    let toolchain = toolchain_of(gcc, &translated, programs, folders, rows.as_slice())?;
     Ok(Gathered {
         toolchain,
         lacking: translated.lacking,
