@@ -5,7 +5,7 @@ use crate::fault::Fault;
 use crate::parts::dump_of;
 use crate::texts::{add_all, joined};
 use drv_gcc::{named_texts, replace, values};
-use drv_words::{Listing, Word};
+use drv_words::Word;
 use std::fs;
 
 /// The text that refuses `-B`, where files are not looked for along folders of the line.

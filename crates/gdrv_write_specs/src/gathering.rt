@@ -1,6 +1,6 @@
 //! What is known of a gcc is gathered from its answers.
 
-use crate::asking::{Gcc, commands};
+use crate::asking::Gcc;
 use crate::choosing::{Chooser, choosers_of, key_by, push_choosers};
 use crate::fault::Fault;
 use crate::finding::{command_named, has_word, word_beginning};
