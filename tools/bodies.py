@@ -41,6 +41,8 @@ GOAL = re.compile(r"note: (?:\./)?src/\S+?:\d+:\d+: it is not proved (.*)")
 # A goal of an operator in the body itself, which says nothing of a contract: that a sum fits, or that an index is below the length.
 SAFETY = re.compile(r"\(`(overflow_|bounds-)[^`]*`\)")
 ENDED = re.compile(r"fn (\S+): (?:not proved|no proof)")
+# The function of such a goal, and its name there, without the case and the place in the body.
+CLAUSE = re.compile(r"(\S+): .*?\(`([^`]+?)(?:-in-[^`]*)?`\)")
 # A goal that is in the line of its function alone, if the search for it broke off.
 BROKEN = re.compile(r"fn \S+: no proof: .*(`search` did not prove .*)")
 UNREAD = re.compile(r"(?:\./)?(\S+?):\d+:\d+: error: (?:`[^`]*`: )?(.*)")
@@ -52,6 +54,22 @@ ACCEPTED = re.compile(r"(no holes|depends on a hole in|assumed)\b|no proof: it c
 def text_of(path):
     with open(path, encoding="utf-8") as file:
         return file.read()
+
+
+def write(path, text):
+    """Writes a file, in the place of a link if there is one."""
+    os.makedirs(os.path.dirname(path), exist_ok=True)
+    if os.path.isfile(path):
+        os.remove(path)
+    with open(path, "w", encoding="utf-8") as file:
+        file.write(text)
+
+
+def files_of_proof(proofs, path, kinds):
+    """The files of these kinds that are written of a function's proof. A + is before its name if the function calls itself."""
+    above, _, name = path.rpartition("/")
+    paths = (f"{proofs}/{above}/{mark}{name}/{it}.antt" for mark in ("", "+") for it in kinds)
+    return [it for it in paths if os.path.isfile(it)]
 
 
 def last_name(words):
@@ -84,10 +102,6 @@ class Function:
     head: int
     opens: int
     closes: int
-
-    def proof(self):
-        """The folder of proofs/ that is this function's."""
-        return self.path.replace("::", "/")
 
 
 def bounds(lines, head):
@@ -133,8 +147,7 @@ class Texts:
         return [it for it in found if it.path not in kept and not it.path.endswith("::drop")]
 
     def has_written_proof(self, path):
-        above, _, name = path.replace("::", "/").rpartition("/")
-        return any(os.path.isfile(f"{self.folder}/proofs/{above}/{mark}{name}/{it}.antt") for mark in ("", "+") for it in FITTING)
+        return any(files_of_proof(f"{self.folder}/proofs", path.replace("::", "/"), FITTING))
 
 
 class Edit:
@@ -208,6 +221,12 @@ def lost_goals(said, function):
     return found
 
 
+def clause_of(goal):
+    """The function of a goal that is lost, and the clause of it: what a line `refused for: FUNCTION, CLAUSE` of an edit says."""
+    found = CLAUSE.match(goal)
+    return f"{found[1]}, {found[2]}" if found else ""
+
+
 class EditRoom:
     """A folder for the checks of edits of a crate, and what these keep there. The libraries below the crate are those in its repository, as
     they were last built. It is gone when it is left."""
@@ -229,43 +248,29 @@ class EditRoom:
 
     def fill(self, texts):
         """Puts the crate's texts into the room, with holes for all but the functions of edits, and these texts in place of its own."""
-        folder = self.crates.folder(self.name)
+        folder, root = self.crates.folder(self.name), f"{self.crates.folder(self.name)}/proofs/Lib.antt"
         for part in TEXTS:
             shutil.rmtree(f"{self.room}/{part}", ignore_errors=True)
             if os.path.isdir(f"{folder}/{part}"):
                 shutil.copytree(f"{folder}/{part}", f"{self.room}/{part}", copy_function=link_or_copy)
-        root = f"{folder}/proofs/Lib.antt"
-        self.write("proofs/Lib.antt", f"{text_of(root) if os.path.isfile(root) else ''}\nmod {THE_HOLE}\n")
-        self.write(f"proofs/{THE_HOLE}.antt", HOLE_OF_ALL)
-        for it in self.holes:
-            self.put_hole(it.proof())
-        for file, text in {**self.crate.files, **texts}.items():
-            self.put(file, text)
-
-    def put_hole(self, proof):
-        """Puts a hole in the place of a function's proof, which has a + before its name if the function calls itself."""
-        above, _, name = proof.rpartition("/")
-        for path in (f"{self.room}/proofs/{above}/{mark}{name}/{it}.antt" for mark in ("", "+") for it in WRITTEN):
-            if os.path.isfile(path):
+        write(f"{self.room}/proofs/Lib.antt", f"{text_of(root) if os.path.isfile(root) else ''}\nmod {THE_HOLE}\n")
+        write(f"{self.room}/proofs/{THE_HOLE}.antt", HOLE_OF_ALL)
+        for proof in (it.path.replace("::", "/") for it in self.holes):
+            for path in files_of_proof(f"{self.room}/proofs", proof, WRITTEN):
                 os.remove(path)
-        self.write(f"proofs/{proof}/Proof.antt", HOLE.format(crate=self.name, module=proof.replace("/", "."), file=THE_HOLE, name=name))
+            hole = HOLE.format(crate=self.name, module=proof.replace("/", "."), file=THE_HOLE, name=os.path.basename(proof))
+            write(f"{self.room}/proofs/{proof}/Proof.antt", hole)
+        for file, text in {**self.crate.files, **texts}.items():
+            write(f"{self.room}/{file}", self.emptied(file, text))
 
-    def put(self, file, text):
-        """Writes a text, with the bodies of all functions with holes emptied. Each line keeps its number."""
+    def emptied(self, file, text):
+        """A text with the bodies of all functions with holes emptied. Each line keeps its number."""
         lines, holes = text.split("\n"), {it.path for it in self.holes}
         for it in self.crate.functions(file, text):
             first = it.opens + 1
             if it.path in holes and first < it.closes:
                 lines[first : it.closes] = ["loop {}"] + [""] * (it.closes - first - 1)
-        self.write(file, "\n".join(lines))
-
-    def write(self, path, text):
-        """Writes a file in the place of a link to one."""
-        os.makedirs(os.path.dirname(f"{self.room}/{path}"), exist_ok=True)
-        if os.path.isfile(f"{self.room}/{path}"):
-            os.remove(f"{self.room}/{path}")
-        with open(f"{self.room}/{path}", "w", encoding="utf-8") as file:
-            file.write(text)
+        return "\n".join(lines)
 
     def check(self, texts, functions):
         """What the prover says of these functions, with these texts in place of the crate's."""
@@ -300,26 +305,26 @@ class EditRoom:
 
     def judged(self, edits):
         """What one check of several edits says of those that it judges, and of an edit that is alone in any case."""
-        texts, functions = {}, set().union(*(it.functions for it in edits))
+        texts, is_alone = {}, len(edits) == 1
         for it in edits:
             texts, _ = it.applied(texts)
-        said = self.check(texts, functions)
+        said = self.check(texts, set().union(*(it.functions for it in edits)))
         errors = [it for it in map(UNREAD.match, said.split("\n")) if it and it[1].startswith(("src/", "specs/"))]
-        is_read = re.search(r"^(logic|only)=", said, re.M) and not any(OF_TEXT.search(re.sub(r"`[^`]*`", "", it[2])) for it in errors)
-        if not is_read:
-            return {edits[0]: "BAD EDIT: it can't be read"} if len(edits) == 1 else {}
-        found = {}
-        for it in edits:
-            lost = [goal for function in sorted(it.functions) for goal in lost_goals(said, function)]
-            of_clauses = [goal for goal in lost if not SAFETY.search(goal) and it.said.get("refused for", "") in goal]
-            if not it.functions <= self.accepted:
-                found[it] = f"NOT JUDGED: without the edit the prover doesn't accept {min(it.functions - self.accepted)} here"
-            elif it.is_neutral and it.functions <= self.accepts(said, it.functions):
-                found[it] = "let through, as it has to be"
-            elif it.is_neutral:
-                found[it] = f"REFUSED, and it is neutral: {(lost or ['the prover does not say for which goal'])[0]}"[:200]
-            elif of_clauses:
-                found[it] = f"refused: {of_clauses[0]}"[:300]
-            elif len(edits) == 1:
-                found[it] = f"NOT REFUSED: no such clause lost a goal{f', and another goal is lost: {lost[0]}' if lost else ''}"[:200]
-        return found
+        if not re.search(r"^(logic|only)=", said, re.M) or any(OF_TEXT.search(re.sub(r"`[^`]*`", "", it[2])) for it in errors):
+            return {edits[0]: "BAD EDIT: it can't be read"} if is_alone else {}
+        verdicts = {it: self.verdict(it, said, is_alone) for it in edits}
+        return {it: verdict for it, verdict in verdicts.items() if verdict}
+
+    def verdict(self, edit, said, is_alone):
+        """What a check says of an edit; nothing if it doesn't judge it."""
+        lost = [goal for function in sorted(edit.functions) for goal in lost_goals(said, function)]
+        clause = edit.said.get("refused for")
+        of_clauses = [goal for goal in lost if not SAFETY.search(goal) and clause in (None, clause_of(goal))]
+        if not edit.functions <= self.accepted:
+            return f"NOT JUDGED: without the edit the prover doesn't accept {min(edit.functions - self.accepted)} here"
+        if edit.is_neutral:
+            is_let_through = edit.functions <= self.accepts(said, edit.functions)
+            return "let through, as it has to be" if is_let_through else f"REFUSED, and it is neutral: {lost[:1] or said[-100:]}"[:200]
+        if of_clauses:
+            return f"refused: {of_clauses[0]}"[:400]
+        return f"NOT REFUSED: no such clause lost a goal{f', and another goal is lost: {lost[0]}' if lost else ''}"[:300] if is_alone else ""
