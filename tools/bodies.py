@@ -41,8 +41,8 @@ GOAL = re.compile(r"note: (?:\./)?src/\S+?:\d+:\d+: it is not proved (.*)")
 # A goal of an operator in the body itself, which says nothing of a contract: that a sum fits, or that an index is below the length.
 SAFETY = re.compile(r"\(`(overflow_|bounds-)[^`]*`\)")
 ENDED = re.compile(r"fn (\S+): (?:not proved|no proof)")
-# The function of such a goal, and its name there, without the case and the place in the body.
-CLAUSE = re.compile(r"(\S+): .*?\(`([^`]+?)(?:-in-[^`]*)?`\)")
+# The function of such a goal and the goal's name, which has the case before the name of the clause: `returns-in_err-x-clause-asks`.
+CLAUSE, CASE = re.compile(r"(\S+): .*?\(`([^`]+)`\)"), re.compile(r"-(?:in|then|else)[-_].*?(?=-clause-|$)")
 # A goal that is in the line of its function alone, if the search for it broke off.
 BROKEN = re.compile(r"fn \S+: no proof: .*(`search` did not prove .*)")
 UNREAD = re.compile(r"(?:\./)?(\S+?):\d+:\d+: error: (?:`[^`]*`: )?(.*)")
@@ -224,7 +224,7 @@ def lost_goals(said, function):
 def clause_of(goal):
     """The function of a goal that is lost, and the clause of it: what a line `refused for: FUNCTION, CLAUSE` of an edit says."""
     found = CLAUSE.match(goal)
-    return f"{found[1]}, {found[2]}" if found else ""
+    return f"{found[1]}, {CASE.sub('', found[2])}" if found else ""
 
 
 class EditRoom:
