@@ -24,6 +24,13 @@ pub enum Asked<'a> {
     Not(&'a [u8]),
 }
 
+/// What is asked, and the form of the answer.
+#[derive(Clone, Copy)]
+pub struct Question<'a> {
+    pub asked: Asked<'a>,
+    pub report: Report,
+}
+
 /// A line and its plan, with what its run noted.
 #[derive(Clone, Copy)]
 pub struct Explained<'a> {
@@ -79,27 +86,52 @@ impl<'a> View<'a> {
     }
 }
 
-/// The answer about a line and its plan, in a form. Words of a file that `%@` makes have no origin.
-pub fn answer(
+/// The texts that an answer is about: for a word that was kept away those too that were not run.
+fn texts_of<'a>(
     alloc: Global,
-    report: Report,
     asked: Asked<'_>,
-    explained: &Explained<'_>,
-) -> Result<Word, AllocError> {
-    let files = Files::new(alloc, explained.sources)?;
-    let mut texts = Texts::new(alloc, explained, &files)?;
+    explained: &Explained<'a>,
+    files: &'a Files<'a>,
+) -> Result<Texts<'a>, AllocError> {
+    let mut texts = Texts::new(alloc, explained, files)?;
     if matches!(asked, Asked::Not(_)) {
-        texts.add_named(alloc, explained, &files)?;
+        texts.add_named(alloc, explained, files)?;
     }
+    Ok(texts)
+}
+
+/// The answer with these texts of these files.
+fn answer_with(view: &View<'_>, question: Question<'_>) -> Result<Word, AllocError> {
+    let text = match question.report {
+        Report::Lines => view.lines(question.asked)?,
+        Report::Json => view.json(question.asked)?,
+    };
+    Ok(Word::from_vec(text))
+}
+
+/// The answer with these files.
+fn answer_by<'a>(
+    alloc: Global,
+    question: Question<'_>,
+    explained: &'a Explained<'a>,
+    files: &'a Files<'a>,
+) -> Result<Word, AllocError> {
+    let texts = texts_of(alloc, question.asked, explained, files)?;
     let view = View {
         alloc,
         explained,
-        files: &files,
+        files,
         texts: &texts,
     };
-    let text = match report {
-        Report::Lines => view.lines(asked)?,
-        Report::Json => view.json(asked)?,
-    };
-    Ok(Word::from_vec(text))
+    answer_with(&view, question)
+}
+
+/// The answer about a line and its plan. Words of a file that `%@` makes have no origin.
+pub fn answer(
+    alloc: Global,
+    question: Question<'_>,
+    explained: &Explained<'_>,
+) -> Result<Word, AllocError> {
+    let files = Files::new(alloc, explained.sources)?;
+    answer_by(alloc, question, explained, &files)
 }

@@ -1,7 +1,7 @@
 //! What kept a word away.
 
 use crate::answering::View;
-use crate::parts::{around, extent};
+use crate::parts::{around, part_extent};
 use crate::reasons::Reason;
 use crate::texts::{Known, Naming, Part};
 use crate::words::{push_part, push_reasons};
@@ -187,7 +187,7 @@ impl<'a> View<'a> {
                 }
                 let reasons = self.unreached(place, at)?;
                 if !reasons.is_empty() || self.is_unlinked(place) {
-                    let part = text.part(self.files, extent(text.tree, at));
+                    let part = text.part(self.files, part_extent(text.tree, at));
                     all.push(Away { part, reasons })?;
                 }
             }

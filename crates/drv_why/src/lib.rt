@@ -14,5 +14,5 @@ mod switches;
 mod texts;
 mod words;
 
-pub use answering::{Asked, Explained, answer};
+pub use answering::{Asked, Explained, Question, answer};
 pub use report::Report;

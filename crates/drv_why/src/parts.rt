@@ -130,7 +130,7 @@ pub(crate) fn part_of(text: &SpecTree, at: usize) -> usize {
 }
 
 /// The bytes of the part that an item begins.
-pub(crate) fn extent(text: &SpecTree, start: usize) -> Extent {
+pub(crate) fn part_extent(text: &SpecTree, start: usize) -> Extent {
     let tokens = text.tokens();
     let Some(first) = tokens.get(start) else {
         return Extent { start: 0, end: 0 };

@@ -2,7 +2,7 @@
 
 use crate::answering::View;
 use crate::causes::open_around;
-use crate::parts::{extent, part_of};
+use crate::parts::{part_extent, part_of};
 use crate::reasons::Reason;
 use crate::texts::Part;
 use drv_machine::Origin;
@@ -179,7 +179,7 @@ impl<'a> View<'a> {
                 None => false,
             };
             if !is_same {
-                parts.push(text.part(self.files, extent(text.tree, start)))?;
+                parts.push(text.part(self.files, part_extent(text.tree, start)))?;
             }
             last = Some((place, start));
         }

@@ -9,7 +9,7 @@ use drv_run::{Ending, line_of_call, load_specs};
 use drv_search::Prefixes;
 use drv_specs::{SpecSet, builtin};
 use drv_system::{FactTable, Outside, System};
-use drv_why::{Asked, Explained, Report, answer};
+use drv_why::{Asked, Explained, Question, Report, answer};
 use drv_words::{Listing, Word};
 use std::alloc::Global;
 
@@ -37,7 +37,7 @@ pub struct View {
 
 /// A line that was read, and what is asked about it.
 #[derive(Drop)]
-struct Question<'a> {
+struct Call<'a> {
     view: &'a View,
     line: &'a Line,
     /// For the names of temporaries.
@@ -57,17 +57,17 @@ fn asked_of(scope: &Scope) -> Asked<'_> {
 /// The answer about a line with these specs.
 fn text_with<S: System>(
     alloc: Global,
-    question: &Question<'_>,
+    call: &Call<'_>,
     set: &SpecSet,
     outside: &mut Outside<'_, S>,
 ) -> Result<Word, Ending> {
-    let line = question.line;
+    let line = call.line;
     let folders = line.settings.prefixes.as_slice();
     let prefixes = Prefixes::new(alloc, folders, outside.sys, outside.facts)?;
     let given = Specified {
         line,
         set,
-        seed: question.seed,
+        seed: call.seed,
     };
     let traced = plan_traced(alloc, &given, &prefixes, outside.sys, outside.facts)?;
     let names = line.settings.specs.as_slice();
@@ -79,8 +79,11 @@ fn text_with<S: System>(
         traces: traced.traces.as_slice(),
         sources: sources.as_slice(),
     };
-    let asked = asked_of(&question.view.scope);
-    Ok(answer(alloc, question.view.report, asked, &explained)?)
+    let question = Question {
+        asked: asked_of(&call.view.scope),
+        report: call.view.report,
+    };
+    Ok(answer(alloc, question, &explained)?)
 }
 
 /// The text about the line of these arguments, if it has a plan.
@@ -97,12 +100,12 @@ fn text_of_call<S: System>(
     if settings.dump {
         return Ok(None);
     }
-    let question = Question {
+    let call = Call {
         view,
         line: &line,
         seed,
     };
-    Ok(Some(text_with(alloc, &question, &set, outside)?))
+    Ok(Some(text_with(alloc, &call, &set, outside)?))
 }
 
 /// Writes to standard output the answer about a line, by what the run of its plan noted: its commands,
