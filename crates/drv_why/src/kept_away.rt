@@ -1,7 +1,7 @@
 //! What kept a word away.
 
 use crate::answering::View;
-use crate::parts::{around, part_extent};
+use crate::parts::{around, earlier, list_end, part_extent};
 use crate::reasons::Reason;
 use crate::texts::{Known, Naming, Part};
 use crate::words::{push_part, push_reasons};
@@ -34,13 +34,7 @@ fn is_end(text: &SpecTree, at: usize, end: usize) -> bool {
 /// Whether a word begins with the plain bytes at a place, as far as a text has them.
 fn has_word(text: &SpecTree, at: usize, word: &[u8]) -> bool {
     let tokens = text.tokens();
-    let end = match around(tokens, at) {
-        Some(outer) => match tokens.get(outer) {
-            Some(token) => token.next,
-            None => tokens.len(),
-        },
-        None => tokens.len(),
-    };
+    let end = list_end(tokens, at);
     if at > 0 && around(tokens, at - 1) == around(tokens, at) {
         if let Some(before) = tokens.get(at - 1) {
             if matches!(before.kind, TokenKind::Plain | TokenKind::Escape) {
@@ -93,22 +87,11 @@ impl<'a> View<'a> {
         let Some(trace) = self.trace(place) else {
             return Ok(());
         };
-        let tokens = text.tree.tokens();
-        let Some(braces) = around(tokens, alternative) else {
-            return Ok(());
-        };
-        let mut next = braces.saturating_add(1);
-        for at in next..tokens.len() {
-            if at >= alternative {
-                break;
+        let before = earlier(self.alloc, text.tree.tokens(), alternative)?;
+        for at in before.as_slice() {
+            if let Some(taken) = taken_at(trace, number, *at) {
+                return self.push_tests(reasons, text, *at, Some(taken.test));
             }
-            if at < next {
-                continue;
-            }
-            if let Some(taken) = taken_at(trace, number, at) {
-                return self.push_tests(reasons, text, at, Some(taken.test));
-            }
-            next = tokens[at].next;
         }
         self.push_tests(reasons, text, alternative, None)
     }

@@ -1,6 +1,7 @@
 //! What of a text a word is from: what two blanks enclose, or an item that may have words inside.
 
 use drv_syntax::{SpecTree, Token, TokenKind};
+use std::alloc::{AllocError, Global};
 
 /// The bytes of a text from one place up to another.
 #[derive(Clone, Copy)]
@@ -41,6 +42,39 @@ pub(crate) fn around(tokens: &[Token], at: usize) -> Option<usize> {
         }
     }
     around
+}
+
+/// Where the list ends that a place is in.
+pub(crate) fn list_end(tokens: &[Token], at: usize) -> usize {
+    if let Some(outer) = around(tokens, at) {
+        if let Some(token) = tokens.get(outer) {
+            return token.next;
+        }
+    }
+    tokens.len()
+}
+
+/// The alternatives of the same braces before one.
+pub(crate) fn earlier(
+    alloc: Global,
+    tokens: &[Token],
+    alternative: usize,
+) -> Result<Vec<usize>, AllocError> {
+    let mut places = Vec::new(alloc);
+    let Some(braces) = around(tokens, alternative) else {
+        return Ok(places);
+    };
+    let mut next = braces.saturating_add(1);
+    for place in next..tokens.len() {
+        if place >= alternative {
+            break;
+        }
+        if place >= next {
+            places.push(place)?;
+            next = tokens[place].next;
+        }
+    }
+    Ok(places)
 }
 
 /// The place after the tests from a place on.
@@ -138,15 +172,9 @@ pub(crate) fn part_extent(text: &SpecTree, start: usize) -> Extent {
     let from = first.start as usize;
     let mut end = first.end as usize;
     let mut next = start;
-    let list_end = match around(tokens, start) {
-        Some(outer) => match tokens.get(outer) {
-            Some(token) => token.next,
-            None => tokens.len(),
-        },
-        None => tokens.len(),
-    };
+    let last = list_end(tokens, start);
     for place in start..tokens.len() {
-        if place >= list_end {
+        if place >= last {
             break;
         }
         if place < next {

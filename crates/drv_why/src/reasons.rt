@@ -1,7 +1,7 @@
 //! Which tests chose an alternative.
 
 use crate::answering::View;
-use crate::parts::{around, own_extent};
+use crate::parts::{earlier, own_extent};
 use crate::texts::{Known, Part};
 use drv_machine::Taken;
 use drv_syntax::TokenKind;
@@ -63,20 +63,9 @@ impl<'a> View<'a> {
         let Some(text) = self.texts.get(place, taken.text) else {
             return Ok(());
         };
-        let tokens = text.tree.tokens();
-        let Some(braces) = around(tokens, taken.alternative) else {
-            return Ok(());
-        };
-        let mut next = braces.saturating_add(1);
-        for at in next..tokens.len() {
-            if at >= taken.alternative {
-                break;
-            }
-            if at < next {
-                continue;
-            }
-            self.push_tests(reasons, text, at, None)?;
-            next = tokens[at].next;
+        let before = earlier(self.alloc, text.tree.tokens(), taken.alternative)?;
+        for at in before.as_slice() {
+            self.push_tests(reasons, text, *at, None)?;
         }
         self.push_tests(reasons, text, taken.alternative, Some(taken.test))
     }

@@ -127,10 +127,11 @@ impl<'a> Texts<'a> {
             let head = name_head(alloc, LINK_COMMAND)?;
             self.number_of(alloc, head, tree, files)?;
         }
-        let mut place = 0;
-        while place < self.known.len() {
+        for place in 0..usize::MAX {
+            if place >= self.known.len() {
+                break;
+            }
             self.add_named_of(alloc, explained, files, place)?;
-            place += 1;
         }
         Ok(())
     }
