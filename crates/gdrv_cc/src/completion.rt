@@ -67,7 +67,7 @@ _gdrv_specs() {
     elif [[ ${COMP_WORDS[1]} == diff && $current == -* ]]; then
         _gdrv_words '--full' "$current"
     elif [[ ${COMP_WORDS[1]} == why && $COMP_CWORD -le 3 && $current == -* ]]; then
-        _gdrv_words "--json --switches --words $_gdrv_options" "$current"
+        _gdrv_words "--json --not= --of= --switches $_gdrv_options" "$current"
     elif [[ ${COMP_WORDS[1]} == plan && $COMP_CWORD == 2 && $current == -* ]]; then
         _gdrv_words "--json --sh $_gdrv_options" "$current"
     else
