@@ -45,16 +45,16 @@ pub struct Explained<'a> {
 
 /// What is explained, and the texts that it was made of.
 #[derive(Clone, Copy)]
-pub(crate) struct View<'a> {
+pub(crate) struct View<'v, 'a> {
     pub(crate) alloc: Global,
-    pub(crate) explained: &'a Explained<'a>,
-    pub(crate) files: &'a Files<'a>,
-    pub(crate) texts: &'a Texts<'a>,
+    pub(crate) explained: &'v Explained<'v>,
+    pub(crate) files: &'v Files<'v>,
+    pub(crate) texts: &'v Texts<'a>,
 }
 
-impl<'a> View<'a> {
+impl<'v, 'a> View<'v, 'a> {
     /// What the run of the text of a job, or of the link after them, noted.
-    pub(crate) fn trace(&self, place: usize) -> Option<&'a Trace> {
+    pub(crate) fn trace(&self, place: usize) -> Option<&'v Trace> {
         match self.explained.traces.get(place) {
             Some(Some(trace)) => Some(trace),
             Some(None) | None => None,
@@ -91,7 +91,7 @@ fn texts_of<'a>(
     alloc: Global,
     asked: Asked<'_>,
     explained: &Explained<'a>,
-    files: &'a Files<'a>,
+    files: &Files<'_>,
 ) -> Result<Texts<'a>, AllocError> {
     let mut texts = Texts::new(alloc, explained, files)?;
     if matches!(asked, Asked::Not(_)) {
@@ -101,7 +101,19 @@ fn texts_of<'a>(
 }
 
 /// The answer with these texts of these files.
-fn answer_with(view: &View<'_>, question: Question<'_>) -> Result<Word, AllocError> {
+fn answer_with<'v>(
+    alloc: Global,
+    question: Question<'_>,
+    explained: &'v Explained<'v>,
+    files: &'v Files<'v>,
+    texts: &'v Texts<'_>,
+) -> Result<Word, AllocError> {
+    let view = View {
+        alloc,
+        explained,
+        files,
+        texts,
+    };
     let text = match question.report {
         Report::Lines => view.lines(question.asked)?,
         Report::Json => view.json(question.asked)?,
@@ -117,13 +129,7 @@ fn answer_by<'a>(
     files: &'a Files<'a>,
 ) -> Result<Word, AllocError> {
     let texts = texts_of(alloc, question.asked, explained, files)?;
-    let view = View {
-        alloc,
-        explained,
-        files,
-        texts: &texts,
-    };
-    answer_with(&view, question)
+    answer_with(alloc, question, explained, files, &texts)
 }
 
 /// The answer about a line and its plan. Words of a file that `%@` makes have no origin.

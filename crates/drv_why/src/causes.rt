@@ -49,7 +49,7 @@ pub(crate) fn open_around(
     Ok(open)
 }
 
-impl<'a> View<'a> {
+impl<'v, 'a> View<'v, 'a> {
     /// Adds the option of the switch at a place of the line.
     fn add_switch(&self, names: &mut Listing<Word>, switch: usize) -> Result<(), AllocError> {
         match self.explained.line.switches.as_slice().get(switch) {
@@ -89,7 +89,7 @@ impl<'a> View<'a> {
     }
 
     /// The name of the input at a place of the line.
-    fn input_name(&self, place: Option<usize>) -> Option<&'a Word> {
+    fn input_name(&self, place: Option<usize>) -> Option<&'v Word> {
         match self.explained.line.inputs.as_slice().get(place?)? {
             Input::File { name, .. } => Some(name),
             Input::Library(_) | Input::LinkWord(_) => None,
@@ -97,13 +97,13 @@ impl<'a> View<'a> {
     }
 
     /// The input that a trace is of.
-    fn input_of(&self, place: usize) -> Option<&'a Word> {
+    fn input_of(&self, place: usize) -> Option<&'v Word> {
         let job = self.explained.plan.jobs.as_slice().get(place)?;
         self.input_name(job.source)
     }
 
     /// The input whose job has a word as its output.
-    fn maker_of(&self, word: &Word) -> Option<&'a Word> {
+    fn maker_of(&self, word: &Word) -> Option<&'v Word> {
         let jobs = self.explained.plan.jobs.as_slice();
         let job = jobs.iter().find(|job| match &job.output {
             Some(output) => output.as_bytes() == word.as_bytes(),

@@ -65,12 +65,12 @@ fn deed_name(deed: Deed) -> &'static str {
     }
 }
 
-impl<'a> View<'a> {
+impl<'v, 'a> View<'v, 'a> {
     /// Writes a word as an object, with the tests that chose it if they are asked for.
     fn put_site(
         &self,
         out: &mut Pretty,
-        site: &Site<'a>,
+        site: &Site<'v>,
         is_asked: bool,
     ) -> Result<(), AllocError> {
         out.token(Token::BeginObject)?;

@@ -72,11 +72,11 @@ fn untaken(trace: &Trace, number: usize, text: &SpecTree, at: usize) -> Option<u
     None
 }
 
-impl<'a> View<'a> {
+impl<'v, 'a> View<'v, 'a> {
     /// Adds why an alternative was not taken: a true test of an earlier one, or its own tests.
     fn push_untaken(
         &self,
-        reasons: &mut Vec<Reason<'a>>,
+        reasons: &mut Vec<Reason<'v>>,
         place: usize,
         number: usize,
         alternative: usize,
@@ -99,7 +99,7 @@ impl<'a> View<'a> {
     /// Adds why the item at a place of a text was not reached where that was run.
     fn push_unreached(
         &self,
-        reasons: &mut Vec<Reason<'a>>,
+        reasons: &mut Vec<Reason<'v>>,
         text: usize,
         at: usize,
     ) -> Result<(), AllocError> {
@@ -125,7 +125,7 @@ impl<'a> View<'a> {
     }
 
     /// Why an item of a text was not reached. For a text that was not run it is why that was not.
-    fn unreached(&self, text: usize, at: usize) -> Result<Vec<Reason<'a>>, AllocError> {
+    fn unreached(&self, text: usize, at: usize) -> Result<Vec<Reason<'v>>, AllocError> {
         let mut reasons = Vec::new(self.alloc);
         let mut item = Naming { text, token: at };
         for _ in 0..=self.texts.known.len() {
@@ -161,7 +161,7 @@ impl<'a> View<'a> {
     }
 
     /// The places where a word is written and which were not reached.
-    pub(crate) fn away(&self, word: &[u8]) -> Result<Vec<Away<'a>>, AllocError> {
+    pub(crate) fn away(&self, word: &[u8]) -> Result<Vec<Away<'v>>, AllocError> {
         let mut all = Vec::new(self.alloc);
         for (place, text) in self.texts.known.iter().enumerate() {
             for (at, token) in text.tree.tokens().iter().enumerate() {

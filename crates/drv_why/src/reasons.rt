@@ -14,9 +14,9 @@ pub(crate) struct Reason<'a> {
     pub(crate) holds: bool,
 }
 
-impl<'a> View<'a> {
+impl<'v, 'a> View<'v, 'a> {
     /// A test of a text.
-    fn reason(&self, text: &'a Known<'a>, test: usize, holds: bool) -> Reason<'a> {
+    fn reason(&self, text: &'v Known<'a>, test: usize, holds: bool) -> Reason<'v> {
         Reason {
             test: text.part(self.files, own_extent(text.tree, test)),
             holds,
@@ -26,8 +26,8 @@ impl<'a> View<'a> {
     /// Adds the tests of an alternative, up to a true one.
     pub(crate) fn push_tests(
         &self,
-        reasons: &mut Vec<Reason<'a>>,
-        text: &'a Known<'a>,
+        reasons: &mut Vec<Reason<'v>>,
+        text: &'v Known<'a>,
         alternative: usize,
         true_test: Option<usize>,
     ) -> Result<(), AllocError> {
@@ -56,7 +56,7 @@ impl<'a> View<'a> {
     /// Adds the tests that chose an alternative: all before it were false.
     pub(crate) fn push_reasons(
         &self,
-        reasons: &mut Vec<Reason<'a>>,
+        reasons: &mut Vec<Reason<'v>>,
         place: usize,
         taken: Taken,
     ) -> Result<(), AllocError> {

@@ -29,10 +29,10 @@ fn deed_text(deed: Deed) -> &'static [u8] {
     }
 }
 
-impl<'a> View<'a> {
+impl<'v, 'a> View<'v, 'a> {
     /// What the items that were reached did with the switch at a place of the line, each item once.
-    pub(crate) fn uses(&self, switch: usize) -> Result<Vec<Use<'a>>, AllocError> {
-        let mut uses: Vec<Use<'a>> = Vec::new(self.alloc);
+    pub(crate) fn uses(&self, switch: usize) -> Result<Vec<Use<'v>>, AllocError> {
+        let mut uses: Vec<Use<'v>> = Vec::new(self.alloc);
         for (place, trace) in self.explained.traces.iter().enumerate() {
             let Some(trace) = trace else {
                 continue;

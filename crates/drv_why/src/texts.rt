@@ -98,7 +98,7 @@ impl<'a> Texts<'a> {
         alloc: Global,
         head: Word,
         tree: &'a SpecTree,
-        files: &'a Files<'a>,
+        files: &Files<'_>,
     ) -> Result<usize, AllocError> {
         for (place, known) in self.known.iter().enumerate() {
             if known.head.as_bytes() == head.as_bytes() {
@@ -121,7 +121,7 @@ impl<'a> Texts<'a> {
         &mut self,
         alloc: Global,
         explained: &Explained<'a>,
-        files: &'a Files<'a>,
+        files: &Files<'_>,
     ) -> Result<(), AllocError> {
         if let Some(tree) = explained.set.tree(LINK_COMMAND) {
             let head = name_head(alloc, LINK_COMMAND)?;
@@ -141,7 +141,7 @@ impl<'a> Texts<'a> {
         &mut self,
         alloc: Global,
         explained: &Explained<'a>,
-        files: &'a Files<'a>,
+        files: &Files<'_>,
         text: usize,
     ) -> Result<(), AllocError> {
         let Some(known) = self.known.get(text) else {
@@ -172,7 +172,7 @@ impl<'a> Texts<'a> {
         &mut self,
         alloc: Global,
         explained: &Explained<'a>,
-        files: &'a Files<'a>,
+        files: &Files<'_>,
         job: usize,
     ) -> Result<Option<usize>, AllocError> {
         let set = explained.set;
@@ -204,7 +204,7 @@ impl<'a> Texts<'a> {
         &mut self,
         alloc: Global,
         explained: &Explained<'a>,
-        files: &'a Files<'a>,
+        files: &Files<'_>,
         job: usize,
         trace: &Trace,
     ) -> Result<(), AllocError> {
@@ -227,7 +227,7 @@ impl<'a> Texts<'a> {
     pub(crate) fn new(
         alloc: Global,
         explained: &Explained<'a>,
-        files: &'a Files<'a>,
+        files: &Files<'_>,
     ) -> Result<Texts<'a>, AllocError> {
         let mut texts = Texts {
             known: Vec::new(alloc),
@@ -263,8 +263,9 @@ impl<'a> Texts<'a> {
 
 impl<'a> Known<'a> {
     /// What is shown of its bytes.
-    pub(crate) fn part(&'a self, files: &'a Files<'a>, extent: Extent) -> Part<'a> {
-        let bytes = self.tree.text();
+    pub(crate) fn part<'v>(&'v self, files: &'v Files<'v>, extent: Extent) -> Part<'v> {
+        let tree: &'v SpecTree = self.tree;
+        let bytes = tree.text();
         let written = bytes.get(extent.start..extent.end).unwrap_or(&[]);
         let place = match spot_at(self.spots.as_slice(), bytes.len(), extent.start) {
             Some(spot) => files.place(spot),

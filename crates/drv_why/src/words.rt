@@ -43,7 +43,7 @@ fn command_count(job: &Job) -> usize {
 
 impl Told {
     /// Its words, the program first.
-    pub(crate) fn words<'a>(&'a self, view: &View<'a>) -> Result<Vec<Site<'a>>, AllocError> {
+    pub(crate) fn words<'v>(&'v self, view: &View<'v, '_>) -> Result<Vec<Site<'v>>, AllocError> {
         let mut sites = Vec::new(view.alloc);
         sites.push(self.site(view, &self.line.command.program, 0))?;
         for (place, word) in self.line.command.words.as_slice().iter().enumerate() {
@@ -53,7 +53,7 @@ impl Told {
     }
 
     /// Its word at a place.
-    fn site<'a>(&'a self, view: &View<'a>, word: &'a Word, place: usize) -> Site<'a> {
+    fn site<'v>(&'v self, view: &View<'v, '_>, word: &'v Word, place: usize) -> Site<'v> {
         let origins = match view.trace(self.trace) {
             Some(trace) => match trace.commands.as_slice().get(self.command) {
                 Some(words) => match words.as_slice().get(place) {
@@ -135,7 +135,7 @@ pub(crate) fn push_reasons(
     Ok(())
 }
 
-impl<'a> View<'a> {
+impl<'v, 'a> View<'v, 'a> {
     /// The commands of the plan.
     pub(crate) fn commands(&self) -> Result<Vec<Told>, AllocError> {
         let plan = self.explained.plan;
@@ -163,7 +163,7 @@ impl<'a> View<'a> {
     }
 
     /// The parts that a word is from.
-    pub(crate) fn parts(&self, site: &Site<'a>) -> Result<Vec<Part<'a>>, AllocError> {
+    pub(crate) fn parts(&self, site: &Site<'v>) -> Result<Vec<Part<'v>>, AllocError> {
         let mut parts = Vec::new(self.alloc);
         let mut last = None;
         for origin in site.origins.unwrap_or(&[]) {
@@ -187,12 +187,12 @@ impl<'a> View<'a> {
     }
 
     /// The tests that chose a word, those of the outermost alternative first.
-    pub(crate) fn reasons(&self, site: &Site<'a>) -> Result<Vec<Reason<'a>>, AllocError> {
+    pub(crate) fn reasons(&self, site: &Site<'v>) -> Result<Vec<Reason<'v>>, AllocError> {
         let mut reasons = Vec::new(self.alloc);
         let Some(trace) = self.trace(site.trace) else {
             return Ok(reasons);
         };
-        if let Some([.., origin]) = site.origins {
+        if let Some(origin) = site.origins.unwrap_or(&[]).last() {
             let open = open_around(self.alloc, trace, origin.inside)?;
             for taken in open.as_slice() {
                 self.push_reasons(&mut reasons, site.trace, *taken)?;
@@ -202,7 +202,7 @@ impl<'a> View<'a> {
     }
 
     /// Adds the line of a word.
-    fn push_word(&self, text: &mut Vec<u8>, site: &Site<'a>) -> Result<(), AllocError> {
+    fn push_word(&self, text: &mut Vec<u8>, site: &Site<'v>) -> Result<(), AllocError> {
         text.extend_from_slice(b"  ")?;
         push_quoted(text, site.word)?;
         let Some(origins) = site.origins else {
