@@ -20,4 +20,3 @@ pub mod Sliced
 pub mod Tabled
 pub mod TreeChecks
 pub mod Trimming
-mod Rows
