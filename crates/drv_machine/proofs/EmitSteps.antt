@@ -159,7 +159,3 @@ line_end C all i n h g e same = sym (ap (λ xs. length xs) same ∙ length-map C
   where
     by : n ≡ i → n ≡ i
     by m = m
-
--- where the code's index is at or past that length, it is past the end of the line
-pub line_past : (C : Context) (all : List (List ℕ)) (i n : ℕ) → n ≤ i → n ≡ length all → all ≡ names C → length C.switches ≤ i
-line_past C all i n h e same = subst (λ (k : ℕ). k ≤ i) (e ∙ ap (λ xs. length xs) same ∙ length-map C.switches (λ switch. switch.name)) h

@@ -1,14 +1,14 @@
 use Rattle.drv_machine.specs.Context.{Context}
 use Rattle.drv_machine.specs.Cutting.{Cut, found_file, found_script, no_marks, script_option, word_done}
-use Rattle.drv_machine.specs.Code.Held.{ended_in, open_word, word_found}
+use Rattle.drv_machine.specs.Code.Held.{ended_in, word_found}
 use Rattle.drv_machine.specs.Code.Running.{Machine, run}
 use Rattle.drv_machine.specs.Working.{◌>>-◌, Answer, Break, puts}
 use Rattle.drv_system.specs.Facts.{Facts}
 use Rattle.drv_system.specs.Known.{Is, Unasked}
-use Rattle.std.proofs.Common.{◌≡◌, ◌≤◌, ◌∙◌, ◌++◌, ◌&&◌, ◌-◌, Bool, Err, List, [], ◌∷◌, Ok, Option, ap, append_assoc, arith, false}
+use Rattle.std.proofs.Common.{◌≡◌, ◌≤◌, ◌∙◌, ◌++◌, ◌&&◌, ◌-◌, Bool, Err, List, [], ◌∷◌, Ok, Option, ap, arith, false}
 use Rattle.std.proofs.Common.{if◌then◌else◌, length, map, refl, sym, true, ℕ}
 use Rattle.std.proofs.lemmas.List.{length-append, length-replicate}
-use Rattle.std.specs.Prelude.{None, Some, is_some, not, replicate}
+use Rattle.std.specs.Prelude.{None, Some, not, replicate}
 
 -- For `end_word` (machine/marking.rt): what the end of a word adds to the cut. It goes to the words of the command, and by its marks to the
 -- removed files, the failure files and the output; a word that is marked as a file or a script is looked up first.
@@ -16,11 +16,6 @@ use Rattle.std.specs.Prelude.{None, Some, is_some, not, replicate}
 -- texts). `run`: runs a step after what has been cut, in its world. `puts`: puts these atoms. `word_done`: the open word has ended as these
 -- words, of which the marks take the last. `script_option`: the option before a linker script that was found. `ended_in`: for each %W that
 -- is open the last word that ended in it. `word_found`: the open word has ended as these words for the path that was found.
-
--- a word is open exactly if the flag says so
-pub is_open_word : (is_open : Bool) (bytes : List ℕ) → is_some (open_word is_open bytes) ≡ is_open
-is_open_word true bytes = refl
-is_open_word false bytes = refl
 
 -- a list whose items are all replaced by y is y as many times
 map_same : {X Y : Type 0} (y : Y) (xs : List X) → map (λ x. y) xs ≡ replicate (length xs) y
@@ -72,17 +67,6 @@ pub word_finished : (word : List ℕ) (s removed failed named inside pushed clos
 word_finished word s removed failed named inside pushed closed ea eb ec ed ee ef =
     ef ∙ ap word_closed (ee ∙ ap (word_pushed word) (ed
     ∙ ap (inside_kept word) (ec ∙ ap (output_kept word) (eb ∙ ap (failure_kept word) ea))))
-
--- the path of a linker script is put after the option --script
-pub script_finished : (path option : List ℕ) (s a b : Machine) → option ≡ script_option → a ≡ word_pushed option s
-    → b ≡ record a { cut = word_done a.cut (path ∷ []) path }
-    → b ≡ record s { cut = word_done s.cut (script_option ∷ path ∷ []) path }
-script_finished path option s a b eo ea eb =
-    eb ∙ ap (λ (m : Machine). record m { cut = word_done m.cut (path ∷ []) path }) (ea ∙ ap (λ o. word_pushed o s) eo)
-    ∙ ap (λ (ws : List (List ℕ)). record s {
-      cut = record (word_done s.cut (script_option ∷ path ∷ []) path)
-          { line = record { words = ws; piped = s.cut.line.piped } };
-    }) (append_assoc s.cut.line.words (script_option ∷ []) (path ∷ []))
 
 -- the end of a word in a state
 module _ (F : Facts) (C : Context) (s : Machine) where

@@ -54,14 +54,6 @@ above_zero : (n : ℕ) → (n ≡ 0 → ⊥) → 0 < n
 above_zero zero h = absurd (h refl)
 above_zero (suc n) h = omega arith
 
--- where no %W is open none ends, and what is kept stays as it is
-pub ends_none : (last : List ℕ) (count fresh : ℕ) → count ≡ 0 → fresh ≤ count
-    → Ends (ended_in last count fresh) (ended_in last count fresh) None
-ends_none last count fresh e h =
-    let none : fresh ≡ 0 = omega (arith, e, h) in
-    subst (λ (k : ℕ). Ends (ended_in last k fresh) (ended_in last k fresh) None) (sym e)
-    (subst (λ (k : ℕ). Ends (ended_in last 0 k) (ended_in last 0 k) None) (sym none) (refl, refl))
-
 -- the innermost %W ends, and a word ended in it: the last one
 pub ends_last : (last word : List ℕ) (count fresh : ℕ) → (count ≡ 0 → ⊥) → fresh ≡ 0 → word ≡ last
     → Ends (ended_in last count fresh) (ended_in last (count - 1) fresh) (Some word)

@@ -11,7 +11,6 @@ use Rattle.drv_system.specs.Known.{Is, Unasked}
 use Rattle.drv_words.specs.declared.plan.Command.{Command}
 use Rattle.std.proofs.Common.{◌≡◌, ◌≤◌, ◌-◌, ◌∙◌, ◌++◌, ◌&&◌, ◌||◌, Bool, Err, arith, get_or, suc, zero, List, [], ◌∷◌, Ok, ap, append-nil}
 use Rattle.std.proofs.Common.{append_assoc, false, if◌then◌else◌, length, refl, sym, true, ℕ}
-use Rattle.std.proofs.lemmas.List.Elements.{filter-append}
 use Rattle.std.proofs.lemmas.List.{length-append}
 use Rattle.std.proofs.lemmas.Cmp.{nat_list_eq_equiv}
 use Rattle.std.specs.Cmp.Lexicographic.{pointwise, same_text}
@@ -223,15 +222,3 @@ one_added kept new file files e = by (is_among kept file) refl
 -- after the last file none is left: the files that the loop has kept are all, each once
 pub all_once : (kept : List (List ℕ)) → kept ++ others_than kept (once []) ≡ kept
 all_once kept = append-nil kept
-
--- a filter keeps one more item that passes, at its end
-pub one_stays : (f : List ℕ → Bool) (files new : List (List ℕ)) (file : List ℕ) (before : List (List ℕ)) → f file ≡ true
-    → new ≡ filter f before ++ file ∷ [] → new ≡ filter f (before ++ file ∷ [])
-one_stays f files new file before stays e = e ∙ sym
-    (filter-append f before (file ∷ []) ∙ ap (λ b. filter f before ++ (if b then file ∷ [] else [])) stays)
-
--- a filter leaves out one more item that does not pass
-pub one_goes : (f : List ℕ → Bool) (kept : List (List ℕ)) (file : List ℕ) (before : List (List ℕ)) → f file ≡ false → kept ≡ filter f before
-    → kept ≡ filter f (before ++ file ∷ [])
-one_goes f kept file before goes e = e ∙ sym (filter-append f before (file ∷ [])
-    ∙ ap (λ b. filter f before ++ (if b then file ∷ [] else [])) goes ∙ append-nil (filter f before))

@@ -77,13 +77,6 @@ further o atom = record {
   barred = if is_bar atom then o.begun else o.barred;
 }
 
--- the order of two values of || doesn't matter
-either_way : (a b : Bool) → (a || b) ≡ (b || a)
-either_way true true = refl
-either_way true false = refl
-either_way false true = refl
-either_way false false = refl
-
 -- of three sides of an `or` the first two may change places
 around : (a b c : Bool) → (a || (b || c)) ≡ (b || (a || c))
 around true true c = refl

@@ -123,10 +123,6 @@ pub record Passed (text : List ℕ) (start at : ℕ) (nodes : Nodes) (end : ℕ)
   pub joins : (x : ℕ) → Stands text at (tests_in rest) x → Stands text start (tests_in nodes) x
   pub same : after_tests rest ≡ after_tests nodes
 
--- before the first test all parts are left
-pub passed_none : (text : List ℕ) (start : ℕ) (nodes : Nodes) (end : ℕ) → Stands text start nodes end → Passed text start start nodes end
-passed_none text start nodes end s = record { rest = nodes; stands = s; joins = λ x t. t; same = refl }
-
 -- two values are the same if `Some` of them are
 pub some_same : {X : Type 0} (a b : X) → Some a ≡ Some b → a ≡ b
 some_same {X = X} a b e = ap (λ (o : Option X). unwrap_or o a) e

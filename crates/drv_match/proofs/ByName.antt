@@ -7,7 +7,7 @@ use Rattle.std.proofs.Common.{refl, sym, ℕ}
 use Rattle.std.proofs.lemmas.Bool.Decides.{nat_tests}
 use Rattle.std.proofs.lemmas.Cmp.{nat_cmp_total, nat_list_cmp_total, on_total, then_total, tied_back}
 use Rattle.std.proofs.lemmas.List.FromFn.{get_or-range_with_len, length-range_with_len}
-use Rattle.std.proofs.lemmas.List.Sorted.{All-permutation, Contains-permutation, IsStrictWeakOrder-by_number, length_permutation, ranks_by}
+use Rattle.std.proofs.lemmas.List.Sorted.{All-permutation, Contains-permutation, IsStrictWeakOrder-by_number, ranks_by}
 use Rattle.std.proofs.lemmas.List.Sorted.{sorted_far, ties_stay_sorted}
 use Rattle.std.specs.Cmp.{IsStrictWeakOrder}
 use Rattle.std.specs.Cmp.Lexicographic.{slice_cmp}
@@ -101,10 +101,6 @@ pub far_places : (names : List (List ℕ)) (order : List ℕ) → IsOrder names 
 far_places names order o j k d below within equal = at_most _ _ (second_part _ _ equal (far names order o j k d below within))
 
 -- The order has each place once.
-
--- an order has as many places as the line
-pub length_order : (names : List (List ℕ)) (order : List ℕ) → IsOrder names order → length order ≡ length names
-length_order names order o = length_permutation _ order o.places ∙ length-range_with_len 0 (length names)
 
 -- each item of the order is a place of the line
 pub in_range : (names : List (List ℕ)) (order : List ℕ) → IsOrder names order → (k d : ℕ) → k < length order

@@ -14,35 +14,6 @@ use Rattle.std.specs.Str.{byte}
 -- later switch cancels an earlier one. `positive` is a name without its `no-`. `is_negative_of`: the first name is the negative form of the
 -- second.
 
--- a name that begins with O begins with that letter
-pub level_alone : (name : List ℕ) → is_level name ≡ true → has_negative name ≡ false
-level_alone [] e = refl
-level_alone (letter ∷ rest) e = let is : letter ≡ byte "O" = eqb-true letter (byte "O") e in rw is refl
-
--- the negative form of a name begins with its letter
-same_letter : (other name : List ℕ) → is_negative_of name other ≡ true → has_negative name ≡ true
-same_letter [] name e = absurd cc
-same_letter (b ∷ other) [] e = by (has_negative (b ∷ other)) e
-  where
-    by : (t : Bool) → (t && false) ≡ true → has_negative [] ≡ true
-    by true e = absurd cc
-    by false e = absurd cc
-same_letter (b ∷ other) (a ∷ name) e = by (has_negative (b ∷ other)) (b == a) refl refl e
-  where
-    by : (t u : Bool) → has_negative (b ∷ other) ≡ t → (b == a) ≡ u
-        → (t && (u && pointwise nat_eq (byte "n" ∷ byte "o" ∷ byte "-" ∷ other) name)) ≡ true → has_negative (a ∷ name) ≡ true
-    by true true h is e = let same : b ≡ a = eqb-true b a is in rw (← same) h
-    by true false h is e = absurd cc
-    by false u h is e = absurd cc
-
--- a name without a negative form has none of another name's
-no_negative : (other name : List ℕ) → has_negative name ≡ false → is_negative_of name other ≡ false
-no_negative other name none = by (is_negative_of name other) refl
-  where
-    by : (t : Bool) → is_negative_of name other ≡ t → t ≡ false
-    by false e = refl
-    by true e = absurd (let clash : true ≡ false = sym (same_letter other name e) ∙ none in cc)
-
 -- whether a name is this one, if there is one
 abbrev pub is_this : Option (List ℕ) → List ℕ → Bool
 is_this None other = false
@@ -85,19 +56,7 @@ as_positive (b ∷ other) (a ∷ x ∷ y ∷ z ∷ rest) h = by (b == a) refl
         (tests (x == byte "n") (y == byte "o") (z == byte "-"))
     by false e = rw (e, and-false) (sym (apart (x == byte "n" && y == byte "o" && z == byte "-") e))
 
--- a level is cancelled by any level, and by nothing else
-pub level_cancels : (other name : List ℕ) → is_level name ≡ true → cancels other name ≡ is_level other
-level_cancels other name e = rw (e, level_alone name e, no_negative other name (level_alone name e)) (by (is_level other))
-  where
-    by : (t : Bool) → (((t && true) || false) || false) ≡ t
-    by true = refl
-    by false = refl
-
 -- a name with a negative form is cancelled by that, or by its positive form if it is a negative one
 pub other_cancels : (other name : List ℕ) → is_level name ≡ false → has_negative name ≡ true
     → cancels other name ≡ (pointwise nat_eq (negative name) other || is_this (positive name) other)
 other_cancels other name e h = rw (e, and-false, h, as_positive other name h) refl
-
--- a name without a negative form, and no level, is cancelled by none
-pub none_cancels : (other name : List ℕ) → is_level name ≡ false → has_negative name ≡ false → cancels other name ≡ false
-none_cancels other name e h = rw (e, and-false, h, no_negative other name h) refl

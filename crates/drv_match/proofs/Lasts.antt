@@ -1,5 +1,5 @@
 use Rattle.drv_match.proofs.ByName.{far_names, far_places, has_place, in_range}
-use Rattle.drv_match.proofs.Cancelling.{level_cancels, none_cancels, other_cancels}
+use Rattle.drv_match.proofs.Cancelling.{other_cancels}
 use Rattle.drv_match.specs.Code.Indexed.{IsLast, IsLiveness, positive}
 use Rattle.drv_match.specs.Matching.{cancels, has_negative, is_level, is_live, name_at, negative}
 use Rattle.drv_match.specs.Order.{IsOrder}
@@ -90,16 +90,6 @@ last_either f g names one other place is last last' = by (nat_le one other) refl
         })
 
 -- The last name that cancels a name.
-
--- a level is cancelled last by the last level
-pub level_last : (names : List (List ℕ)) (name : List ℕ) (place : ℕ) → is_level name ≡ true → IsLast is_level names place
-    → IsLast (λ later. cancels later name) names place
-level_last names name place e last = last_same (λ later. cancels later name) is_level names place (λ later. level_cancels later name e) last
-
--- a name without a negative form, and no level, is cancelled by none
-pub none_last : (names : List (List ℕ)) (name : List ℕ) → is_level name ≡ false → has_negative name ≡ false
-    → IsLast (λ later. cancels later name) names 0
-none_last names name e h = no_last (λ later. cancels later name) names (λ later. none_cancels later name e h)
 
 -- a name is cancelled last by its negative form, if it isn't one itself
 pub negative_last : (names : List (List ℕ)) (name form : List ℕ) (place : ℕ) → is_level name ≡ false → has_negative name ≡ true

@@ -4,13 +4,13 @@ use Rattle.drv_match.specs.Code.Indexed.{AreNamed}
 use Rattle.drv_match.specs.Matching.{hidden_by, hits, is_broad, is_hit, is_live, is_named, name_at}
 use Rattle.drv_match.specs.Order.{IsBlock, IsOrder}
 use Rattle.drv_match.specs.Pattern.{Pattern}
-use Rattle.std.proofs.Common.{◌≡◌, ◌<◌, ◌≤◌, ◌+◌, ◌-◌, ◌∙◌, ◌&&◌, ◌||◌, ◌==◌, Bool, false, true, List, [], ◌∷◌, ◌++◌, ap, append_assoc}
+use Rattle.std.proofs.Common.{◌≡◌, ◌<◌, ◌≤◌, ◌+◌, ◌-◌, ◌∙◌, ◌&&◌, ◌||◌, ◌==◌, Bool, false, true, List, [], ◌∷◌, ◌++◌, ap}
 use Rattle.std.proofs.Common.{append-nil, arith, drop, filter, get_or, if◌then◌else◌, length, nat_eq, nat_lt, not, refl, set, suc, sym}
 use Rattle.std.proofs.Common.{take, zero, ℕ}
 use Rattle.std.proofs.Math.Bool.{or-false, or-true}
 use Rattle.std.proofs.lemmas.Bool.{eqb-true, lt-ltb, ltb-false, ltb-true, ne_eqb}
 use Rattle.std.proofs.lemmas.Cmp.{nat_eq_equiv}
-use Rattle.std.proofs.lemmas.List.{drop_all, drop_more, get_or_default, get_or-set_other, get_or-set_same, length-set}
+use Rattle.std.proofs.lemmas.List.{drop_all, get_or_default, get_or-set_other, get_or-set_same, length-set}
 use Rattle.std.proofs.lemmas.List.Elements.{All-drop, All-get_or, All-take}
 use Rattle.std.proofs.lemmas.List.Folds.{list_any_at, list_any_none}
 use Rattle.std.proofs.lemmas.List.FromFn.{get_or-range_with_len, length-range_with_len}
@@ -179,11 +179,6 @@ hidden_at (j ∷ places) hidden i within = hidden_at places (set hidden j true) 
           (λ same. absurd (let clash : true ≡ false = sym (nat_eq_equiv.refl i) ∙ ap (λ z. i == z) same ∙ e in cc)),
     ) refl
 
--- equal tests find the same
-any_same : (f g : ℕ → Bool) → ((x : ℕ) → f x ≡ g x) → (xs : List ℕ) → list_any f xs ≡ list_any g xs
-any_same f g same [] = refl
-any_same f g same (x ∷ xs) = rw (same x, any_same f g same xs) refl
-
 -- whether a list has this place, and it passes a test
 pub at_place : (test : ℕ → Bool) (i : ℕ) (xs : List ℕ) → list_any (λ x. test x && nat_eq i x) xs ≡ (test i && list_any (nat_eq i) xs)
 at_place test i [] = by (test i)
@@ -338,30 +333,6 @@ named_hidden names named hidden pattern n = ap (λ places. all_hidden places hid
     n.start n.end n.in_order n.block
 
 -- One step of a loop over places.
-
--- one step of a loop over places: the one at i counts and is added
-pub count_next : (test : ℕ → Bool) (places after whole xs : List ℕ) (i : ℕ) → i < length xs → test (get_or xs i 0) ≡ true
-    → after ≡ places ++ get_or xs i 0 ∷ [] → places ++ filter test (drop i xs) ≡ whole → after ++ filter test (drop (i + 1) xs) ≡ whole
-count_next test places after whole xs i below hit is done = rw (is, append_assoc) (step ∙ done)
-  where
-    step : places ++ (get_or xs i 0 ∷ filter test (drop (i + 1) xs)) ≡ places ++ filter test (drop i xs)
-    step = rw (drop_more xs i 0 below, hit) refl
-
--- one step of a loop over places: the one at i doesn't count and is passed
-pub pass_next : (test : ℕ → Bool) (places whole xs : List ℕ) (i : ℕ) → i < length xs → test (get_or xs i 0) ≡ false
-    → places ++ filter test (drop i xs) ≡ whole → places ++ filter test (drop (i + 1) xs) ≡ whole
-pass_next test places whole xs i below passed done = step ∙ done
-  where
-    step : places ++ filter test (drop (i + 1) xs) ≡ places ++ filter test (drop i xs)
-    step = rw (drop_more xs i 0 below, passed) refl
-
--- one step of the loop that hides places
-pub hide_next : (hidden after whole : List Bool) (xs : List ℕ) (i : ℕ) → i < length xs → after ≡ set hidden (get_or xs i 0) true
-    → all_hidden (drop i xs) hidden ≡ whole → all_hidden (drop (i + 1) xs) after ≡ whole
-hide_next hidden after whole xs i below is done = rw is (step ∙ done)
-  where
-    step : all_hidden (drop (i + 1) xs) (set hidden (get_or xs i 0) true) ≡ all_hidden (drop i xs) hidden
-    step = rw (drop_more xs i 0 below) refl
 
 -- A loop over places is done.
 

@@ -24,7 +24,7 @@ use Rattle.drv_system.specs.Known.{◌>>=◌, Is}
 use Rattle.drv_words.specs.declared.plan.Job.{Job}
 use Rattle.drv_words.specs.declared.plan.Plan.{Plan}
 use Rattle.std.proofs.Common.{[], ◌≡◌, ◌<◌, ◌+◌, ◌⊎◌, ◌∙◌, Bool, List, ◌∷◌, ◌++◌, Err, IsErrAnd, None, Ok, Option, Result, Some, ap, drop}
-use Rattle.std.proofs.Common.{false, if◌then◌else◌, inl, inr, length, subst, sym, true, ℕ}
+use Rattle.std.proofs.Common.{false, if◌then◌else◌, inl, inr, length, subst, sym, ℕ}
 use Rattle.std.proofs.lemmas.List.{drop_more}
 use Rattle.std.specs.Option.{option_map}
 use Rattle.std.specs.Prelude.{◌==◌, codes, get_or}
@@ -140,20 +140,9 @@ pub lent_is : {T V : Type 0} (now : T → V) (lent : Option T) (item : T) (value
     → value ≡ Some (now item)
 lent_is now lent item value shows is = sym shows ∙ ap (option_map now) is
 
--- a borrowed item that is not there
-pub not_lent : {T V : Type 0} (now : T → V) (lent : Option T) (value : Option V) → option_map now lent ≡ value → lent ≡ None → value ≡ None
-not_lent now lent value shows is = sym shows ∙ ap (option_map now) is
-
 -- the link: with nothing to link, and with something
 abbrev by_emptiness : Facts → Progress → Option (List ℕ) → Bool → Planned (Option Job × Progress)
 by_emptiness F g text none = if none then Is (Ok (None, g)) else with_text F text g
-
--- without an output nothing is linked
-pub link_empty : (F : Facts) (set : Set) (g : Progress) (outputs : List (List ℕ)) (empty : Bool) → outputs ≡ g.outputs
-    → empty ≡ (length outputs == 0) → empty ≡ true
-    → with_link F set g ≡ Is (Ok (None, g))
-link_empty F set g outputs empty are tests none =
-    ap (by_emptiness F g (text_of set (codes "link_command"))) (ap (λ list. length list == 0) (sym are) ∙ sym tests ∙ none)
 
 -- with an output the text of the link is looked up
 pub link_tried : (F : Facts) (set : Set) (g : Progress) (outputs : List (List ℕ)) (empty : Bool) (name : List ℕ) (text : Option (List ℕ))
@@ -191,14 +180,6 @@ pub prefixes_first : (F : Facts) (line : Line) (set : Set) (seed : ℕ) (dirs : 
 prefixes_first F line set seed dirs inputs prefixes C dirs_are inputs_are made is =
     ap (λ known. known >>= λ p. planned F set line.inputs (context_of line set p seed)) (ap (prefixes_of F) (sym dirs_are) ∙ made)
     ∙ ap (planned F set line.inputs) (sym is) ∙ ap (λ list. planned F set list C) (sym inputs_are)
-
--- the progress after a text: its options and numbers go on, and its notices are added
-pub text_kept : (g : Progress) (done : Outcome) (C : Context) (notices : List (List ℕ)) → notices ≡ g.notices ++ done.notices
-    → C ≡ record g.context { accumulated = done.accumulated; number = done.next_number }
-    → after_text done g ≡ record g { context = C; notices = notices }
-text_kept g done C notices told kept =
-    ap (λ (D : Context). record g { context = D; notices = g.notices ++ done.notices }) (sym kept)
-    ∙ ap (λ list. record g { context = C; notices = list }) (sym told)
 
 -- a text gives its job, and its options and numbers go on to the next text
 pub text_worked : (F : Facts) (text : List ℕ) (g after : Progress) (done : Outcome) (job : Job)

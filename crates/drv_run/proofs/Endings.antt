@@ -1,6 +1,6 @@
 use Rattle.drv_run.proofs.Tellings.{pipe_after_questions}
 use Rattle.drv_run.specs.Calls.{DoesWork, Drove, Ends, OnlySays}
-use Rattle.drv_run.specs.Drives.{Comes, Drives, IsApart}
+use Rattle.drv_run.specs.Drives.{Comes, Drives}
 use Rattle.drv_run.specs.Code.Telling.{EndsWork}
 use Rattle.drv_run.specs.declared.ending.Ending.TheVariants.{Done, OutOfMemory, Refused}
 use Rattle.drv_run.specs.declared.ending.Ending.{Ending}
@@ -78,13 +78,6 @@ pub drove_with_work : {journal journal' journal'' : List Event} {F F' : Facts} (
 drove_with_work args seed work (Done status) empty asks comes does = drove_done empty asks comes does
 drove_with_work args seed work (Refused refusal) empty asks comes does = absurd does
 drove_with_work args seed work OutOfMemory empty asks comes only = drove_short empty asks only
-
--- the end of a work is no lack of memory under another name
-pub work_ends_apart : (journal journal' : List Event) (work : Work) (ending : Ending) → EndsWork journal journal' work ending
-    → IsApart ending
-work_ends_apart journal journal' work (Done status) does = tt
-work_ends_apart journal journal' work (Refused refusal) does = absurd does
-work_ends_apart journal journal' work OutOfMemory only = tt
 
 -- after questions alone no pipe is pending
 pub no_pipe_after_questions : {journal journal' : List Event} {F F' : Facts} → Asks journal journal' F F'
