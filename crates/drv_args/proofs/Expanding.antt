@@ -23,10 +23,11 @@ use Rattle.std.proofs.lemmas.List.{append-nil, reverse-append, reverse-reverse}
 -- done. `out'` is the words that are done after. `stack` is the words that are still to be done, the next one last. `stack'` is the words
 -- that are still to be done after. `rest` is the words that are still to be done, without the next one. `inner` is the words of a response
 -- file. `front` is the words before those at hand. `fault` is a refusal. `Refuses F left words fault` says that their expansion is refused.
--- `Responds F left words left' out` says, by the definition, that the words expand to `out`. `file_named word` is the file that @FILE
--- names. `replacement_of F word` says whether the word stays (`Itself`), or its file's text or a refusal takes its place. `by_answer` is
--- the replacement of a word by the answer for its file. `judged` turns a file with too many words into one that is too large.
--- `GoesOn F left words out args` says that what these words and `out` give is what all of `args` give, for a result and for a refusal.
+-- `Responds F left words left' out files` says, by the definition, that the words expand to `out`, and that these files are read.
+-- `file_named word` is the file that @FILE names. `replacement_of F word` says whether the word stays (`Itself`), or its file's text or a
+-- refusal takes its place. `by_answer` is the replacement of a word by the answer for its file. `judged` turns a file with too many words
+-- into one that is too large. `GoesOn F left words out files args` says that what these words give, after `out` and `files`, is what all of
+-- `args` give, for a result and for a refusal.
 
 -- the replacement of a word, by the facts after the call that asked for its file
 pub replacement_is : (most : Option ℕ) (F G : Facts) (word path : List ℕ) (answer : ReadAnswer) → Extends G F → file_named word ≡ Some path
@@ -42,23 +43,29 @@ itself_by most path answer (inl e) = ap (λ a. Is (by_answer path (judged most a
 itself_by most path answer (inr e) = ap (λ a. Is (by_answer path (judged most a))) e
 
 -- The expansion of words in front, and of those after them. `mid` is how many replacements are left between both. `out_front` and
--- `out_after` are the words that each gives.
-record Parts (F : Facts) (left : ℕ) (front words : List (List ℕ)) (left' : ℕ) (out : List (List ℕ)) : Type 0 where
+-- `out_after` are the words that each gives, `files_front` and `files_after` the files that each reads.
+record Parts (F : Facts) (left : ℕ) (front words : List (List ℕ)) (left' : ℕ) (out files : List (List ℕ)) : Type 0 where
   mid : ℕ
   out_front : List (List ℕ)
   out_after : List (List ℕ)
+  files_front : List (List ℕ)
+  files_after : List (List ℕ)
   is : out ≡ out_front ++ out_after
-  first : Responds F left front mid out_front
-  second : Responds F mid words left' out_after
+  files_are : files ≡ files_front ++ files_after
+  first : Responds F left front mid out_front files_front
+  second : Responds F mid words left' out_after files_after
 
 -- the expansion of two lists is that of the first, and then that of the second
-parts_of : {F : Facts} {left left' : ℕ} {out : List (List ℕ)} (front words : List (List ℕ)) → Responds F left (front ++ words) left' out
-    → Parts F left front words left' out
-parts_of {left = left} {out = out} [] words all = record {
+parts_of : {F : Facts} {left left' : ℕ} {out files : List (List ℕ)} (front words : List (List ℕ))
+    → Responds F left (front ++ words) left' out files → Parts F left front words left' out files
+parts_of {left = left} {out = out} {files = files} [] words all = record {
   mid = left;
   out_front = [];
   out_after = out;
+  files_front = [];
+  files_after = files;
   is = refl;
+  files_are = refl;
   first = no_word;
   second = all;
 }
@@ -68,18 +75,25 @@ parts_of (word ∷ front) words (itself {word = w} m rest) =
       mid = p.mid;
       out_front = w ∷ p.out_front;
       out_after = p.out_after;
+      files_front = p.files_front;
+      files_after = p.files_after;
       is = ap (λ o. w ∷ o) p.is;
+      files_are = p.files_are;
       first = itself m p.first;
       second = p.second;
     }
-parts_of (word ∷ front) words (by_text {out = o} m splits inner rest) =
+parts_of (word ∷ front) words (by_text {path = path} {out = o} {files = fs} m splits inner rest) =
     let p = parts_of front words rest in
     record {
       mid = p.mid;
       out_front = o ++ p.out_front;
       out_after = p.out_after;
+      files_front = path ∷ fs ++ p.files_front;
+      files_after = p.files_after;
       is = ap (λ b. o ++ b) p.is
           ∙ sym (append_assoc o p.out_front p.out_after);
+      files_are = ap (λ b. path ∷ fs ++ b) p.files_are
+          ∙ ap (λ b. path ∷ b) (sym (append_assoc fs p.files_front p.files_after));
       first = by_text m splits inner p.first;
       second = p.second;
     }
@@ -87,7 +101,8 @@ parts_of (word ∷ front) words (by_text {out = o} m splits inner rest) =
 -- a refusal in the words in front, or in those after them
 data Refused (F : Facts) (left : ℕ) (front words : List (List ℕ)) (fault : ArgsFault) : Type 0 where
   in_front : Refuses F left front fault → Refused F left front words fault
-  in_rest : {mid : ℕ} {out : List (List ℕ)} → Responds F left front mid out → Refuses F mid words fault → Refused F left front words fault
+  in_rest : {mid : ℕ} {out files : List (List ℕ)} → Responds F left front mid out files → Refuses F mid words fault
+      → Refused F left front words fault
 
 -- so a refusal is of the first, or of the second after the first
 refused_of : {F : Facts} {left : ℕ} {fault : ArgsFault} (front words : List (List ℕ)) → Refuses F left (front ++ words) fault
@@ -109,32 +124,38 @@ refused_of {F = F} {fault = fault} (word ∷ front) words (following {left = lef
     go (in_rest done r) = in_rest (by_text m splits inner done) r
 
 -- the expansion so far leads to that of all arguments
-pub record GoesOn (F : Facts) (left : ℕ) (words out args : List (List ℕ)) : Type 0 where
-  pub responds : (left' : ℕ) (more : List (List ℕ)) → Responds F left words left' more → Responds F 2000 args left' (out ++ more)
+pub record GoesOn (F : Facts) (left : ℕ) (words out files args : List (List ℕ)) : Type 0 where
+  pub responds : (left' : ℕ) (more more_files : List (List ℕ)) → Responds F left words left' more more_files
+      → Responds F 2000 args left' (out ++ more) (files ++ more_files)
   pub refuses : (fault : ArgsFault) → Refuses F left words fault → Refuses F 2000 args fault
 
 -- before the first word all words are still to be done
-pub goes_from_start : (F : Facts) (args : List (List ℕ)) → GoesOn F 2000 args [] args
-goes_from_start F args = record { responds = λ left' more r. r; refuses = λ fault r. r }
+pub goes_from_start : (F : Facts) (args : List (List ℕ)) → GoesOn F 2000 args [] [] args
+goes_from_start F args = record { responds = λ left' more more_files r. r; refuses = λ fault r. r }
 
 -- a word that stays is done
-pub goes_by_itself : (F : Facts) (left : ℕ) (word : List ℕ) (words out args : List (List ℕ))
-    → replacement_of F word ≡ Is Itself → GoesOn F left (word ∷ words) out args → GoesOn F left words (out ++ word ∷ []) args
-goes_by_itself F left word words out args m goes = record {
-  responds = λ left' more r. let P : List (List ℕ) → Type 0 = λ o. Responds F 2000 args left' o in
-      subst P (sym (append_snoc out word more)) (goes.responds left' (word ∷ more) (itself m r));
+pub goes_by_itself : (F : Facts) (left : ℕ) (word : List ℕ) (words out files args : List (List ℕ))
+    → replacement_of F word ≡ Is Itself → GoesOn F left (word ∷ words) out files args → GoesOn F left words (out ++ word ∷ []) files args
+goes_by_itself F left word words out files args m goes = record {
+  responds = λ left' more more_files r.
+      let P : List (List ℕ) → Type 0 = λ o. Responds F 2000 args left' o (files ++ more_files) in
+      subst P (sym (append_snoc out word more)) (goes.responds left' (word ∷ more) more_files (itself m r));
   refuses = λ fault r. goes.refuses fault (later m r);
 }
 
 -- a word that a text replaces gives way to the words of the text
-pub goes_by_text : (F : Facts) (left : ℕ) (word text : List ℕ) (inner words out args : List (List ℕ))
-    → replacement_of F word ≡ Is (Text text) → Splits text inner → GoesOn F (suc left) (word ∷ words) out args
-    → GoesOn F left (inner ++ words) out args
-goes_by_text F left word text inner words out args m splits goes = record {
-  responds = λ left' more r.
-      let p : Parts F left inner words left' more = parts_of inner words r in
-      let P : List (List ℕ) → Type 0 = λ o. Responds F 2000 args left' (out ++ o) in
-      subst P (sym p.is) (goes.responds left' (p.out_front ++ p.out_after) (by_text m splits p.first p.second));
+pub goes_by_text : (F : Facts) (left : ℕ) (word path text : List ℕ) (inner words out files args : List (List ℕ))
+    → replacement_of F word ≡ Is (Text path text) → Splits text inner → GoesOn F (suc left) (word ∷ words) out files args
+    → GoesOn F left (inner ++ words) out (files ++ path ∷ []) args
+goes_by_text F left word path text inner words out files args m splits goes = record {
+  responds = λ left' more more_files r.
+      let p : Parts F left inner words left' more more_files = parts_of inner words r in
+      let P : List (List ℕ) → Type 0 = λ o. Responds F 2000 args left' (out ++ o) (files ++ (path ∷ p.files_front ++ p.files_after)) in
+      let Q : List (List ℕ) → Type 0 = λ fs. Responds F 2000 args left' (out ++ more) fs in
+      let are : (files ++ path ∷ []) ++ more_files ≡ files ++ (path ∷ p.files_front ++ p.files_after) = append_snoc files path more_files
+      ∙ ap (λ fs. files ++ path ∷ fs) p.files_are in
+      subst Q (sym are) (subst P (sym p.is) (goes.responds left' (p.out_front ++ p.out_after) (path ∷ p.files_front ++ p.files_after)
+      (by_text m splits p.first p.second)));
   refuses = λ fault r. goes.refuses fault (refused (refused_of inner words r));
 }
   where
@@ -149,50 +170,50 @@ next_is : (stack rest : List (List ℕ)) (word : List ℕ) → stack ≡ rest ++
 next_is stack rest word e = ap reverse e ∙ reverse-append rest (word ∷ [])
 
 -- the code puts a word that stays behind those that are done
-pub itself_goes : (F : Facts) (left : ℕ) (stack rest : List (List ℕ)) (word : List ℕ) (out out' args : List (List ℕ))
-    → stack ≡ rest ++ word ∷ [] → out' ≡ out ++ word ∷ [] → replacement_of F word ≡ Is Itself → GoesOn F left (reverse stack) out args
-    → GoesOn F left (reverse rest) out' args
-itself_goes F left stack rest word out out' args popped pushed m goes =
-    let P : List (List ℕ) → Type 0 = λ o. GoesOn F left (reverse rest) o args in
-    let Q : List (List ℕ) → Type 0 = λ ws. GoesOn F left ws out args in
-    subst P (sym pushed) (goes_by_itself F left word (reverse rest) out args m (subst Q (next_is stack rest word popped) goes))
+pub itself_goes : (F : Facts) (left : ℕ) (stack rest : List (List ℕ)) (word : List ℕ) (out out' files args : List (List ℕ))
+    → stack ≡ rest ++ word ∷ [] → out' ≡ out ++ word ∷ [] → replacement_of F word ≡ Is Itself → GoesOn F left (reverse stack) out files args
+    → GoesOn F left (reverse rest) out' files args
+itself_goes F left stack rest word out out' files args popped pushed m goes =
+    let P : List (List ℕ) → Type 0 = λ o. GoesOn F left (reverse rest) o files args in
+    let Q : List (List ℕ) → Type 0 = λ ws. GoesOn F left ws out files args in
+    subst P (sym pushed) (goes_by_itself F left word (reverse rest) out files args m (subst Q (next_is stack rest word popped) goes))
 
--- a word that is replaced by words
-abbrev pub StandsFor : Facts → List ℕ → List (List ℕ) → Type 0
-StandsFor F word inner = (text : List ℕ) × (replacement_of F word ≡ Is (Text text)) × Splits text inner
+-- a word that is replaced by the words of a file
+abbrev pub StandsFor : Facts → List ℕ → List ℕ → List (List ℕ) → Type 0
+StandsFor F word path inner = (text : List ℕ) × (replacement_of F word ≡ Is (Text path text)) × Splits text inner
 
 -- the code puts the words of a text on the stack, the last one first
-pub text_goes : (F : Facts) (left left' : ℕ) (stack rest stack' : List (List ℕ)) (word : List ℕ) (inner out args : List (List ℕ))
-    → stack ≡ rest ++ word ∷ [] → left ≡ suc left' → stack' ≡ rest ++ reverse inner → StandsFor F word inner
-    → GoesOn F left (reverse stack) out args → GoesOn F left' (reverse stack') out args
-text_goes F left left' stack rest stack' word inner out args popped one pushed (text, m, splits) goes =
-    let P : List (List ℕ) → Type 0 = λ ws. GoesOn F left' ws out args in
-    let Q : ℕ → Type 0 = λ n. GoesOn F n (word ∷ reverse rest) out args in
-    let R : List (List ℕ) → Type 0 = λ ws. GoesOn F left ws out args in
+pub text_goes : (F : Facts) (left left' : ℕ) (stack rest stack' : List (List ℕ)) (word path : List ℕ) (inner out files args : List (List ℕ))
+    → stack ≡ rest ++ word ∷ [] → left ≡ suc left' → stack' ≡ rest ++ reverse inner → StandsFor F word path inner
+    → GoesOn F left (reverse stack) out files args → GoesOn F left' (reverse stack') out (files ++ path ∷ []) args
+text_goes F left left' stack rest stack' word path inner out files args popped one pushed (text, m, splits) goes =
+    let P : List (List ℕ) → Type 0 = λ ws. GoesOn F left' ws out (files ++ path ∷ []) args in
+    let Q : ℕ → Type 0 = λ n. GoesOn F n (word ∷ reverse rest) out files args in
+    let R : List (List ℕ) → Type 0 = λ ws. GoesOn F left ws out files args in
     let is : reverse stack' ≡ inner ++ reverse rest = ap reverse pushed ∙ reverse-append rest (reverse inner)
     ∙ ap (λ ws. ws ++ reverse rest) (reverse-reverse inner) in
-    subst P (sym is) (goes_by_text F left' word text inner (reverse rest) out args m splits
+    subst P (sym is) (goes_by_text F left' word path text inner (reverse rest) out files args m splits
     (subst Q one (subst R (next_is stack rest word popped) goes)))
 
--- a word that is replaced by words, which come after those that are done
-abbrev pub StandsAfter : Facts → List ℕ → List (List ℕ) → List (List ℕ) → Type 0
-StandsAfter F word out all = (text : List ℕ) × (replacement_of F word ≡ Is (Text text)) × SplitsOnto text out all
+-- a word that is replaced by the words of a file, which come after those that are done
+abbrev pub StandsAfter : Facts → List ℕ → List ℕ → List (List ℕ) → List (List ℕ) → Type 0
+StandsAfter F word path out all = (text : List ℕ) × (replacement_of F word ≡ Is (Text path text)) × SplitsOnto text out all
 
 -- a text when no replacement is left is refused
-pub many_refused : (F : Facts) (left : ℕ) (stack rest : List (List ℕ)) (word : List ℕ) (out all args : List (List ℕ))
-    → stack ≡ rest ++ word ∷ [] → left ≡ 0 → StandsAfter F word out all → GoesOn F left (reverse stack) out args
+pub many_refused : (F : Facts) (left : ℕ) (stack rest : List (List ℕ)) (word path : List ℕ) (out all files args : List (List ℕ))
+    → stack ≡ rest ++ word ∷ [] → left ≡ 0 → StandsAfter F word path out all → GoesOn F left (reverse stack) out files args
     → Refuses F 2000 args TooManyFiles
-many_refused F left stack rest word out all args popped none (text, m, (inner, is, splits)) goes =
+many_refused F left stack rest word path out all files args popped none (text, m, (inner, is, splits)) goes =
     let P : ℕ → Type 0 = λ n. Refuses F n (word ∷ reverse rest) TooManyFiles in
     let Q : List (List ℕ) → Type 0 = λ ws. Refuses F left ws TooManyFiles in
     goes.refuses TooManyFiles (subst Q (sym (next_is stack rest word popped)) (subst P (sym none) (too_many m)))
 
 -- a refused file refuses the whole
-pub large_refused : (F : Facts) (left : ℕ) (stack rest : List (List ℕ)) (word : List ℕ) (out all args : List (List ℕ)) (fault : ArgsFault)
-    → stack ≡ rest ++ word ∷ [] → IsReplaced F word out all (Err fault) → GoesOn F left (reverse stack) out args
+pub large_refused : (F : Facts) (left : ℕ) (stack rest : List (List ℕ)) (word : List ℕ) (out all files args : List (List ℕ))
+    (fault : ArgsFault) → stack ≡ rest ++ word ∷ [] → IsReplaced F word out all (Err fault) → GoesOn F left (reverse stack) out files args
     → (fault ≡ Memory) ⊎ Refuses F 2000 args fault
-large_refused F left stack rest word out all args fault popped (inl memory) goes = inl memory
-large_refused F left stack rest word out all args fault popped (inr (path, m, e)) goes =
+large_refused F left stack rest word out all files args fault popped (inl memory) goes = inl memory
+large_refused F left stack rest word out all files args fault popped (inr (path, m, e)) goes =
     let P : ArgsFault → Type 0 = λ f. Refuses F 2000 args f in
     let Q : List (List ℕ) → Type 0 = λ ws. Refuses F left ws (ResponseTooLarge path) in
     inr (subst P (sym e) (goes.refuses (ResponseTooLarge path) (subst Q (sym (next_is stack rest word popped)) (too_large m))))
@@ -212,12 +233,13 @@ pub expands_memory : (F : Facts) (args : List (List ℕ)) (result : Result Expan
 expands_memory F args result is = expands_refused F args Memory result is (inl refl)
 
 -- once no word is left, those that are done are all
-pub end_goes : (F : Facts) (left : ℕ) (stack out args : List (List ℕ)) → stack ≡ [] → GoesOn F left (reverse stack) out args
-    → Responds F 2000 args left out
-end_goes F left stack out args empty goes =
-    let P : List (List ℕ) → Type 0 = λ ws. Responds F left ws left [] in
-    let Q : List (List ℕ) → Type 0 = λ o. Responds F 2000 args left o in
-    subst Q (append-nil out) (goes.responds left [] (subst P (sym (ap reverse empty)) no_word))
+pub end_goes : (F : Facts) (left : ℕ) (stack out files args : List (List ℕ)) → stack ≡ [] → GoesOn F left (reverse stack) out files args
+    → Responds F 2000 args left out files
+end_goes F left stack out files args empty goes =
+    let P : List (List ℕ) → Type 0 = λ ws. Responds F left ws left [] [] in
+    let Q : List (List ℕ) → Type 0 = λ o. Responds F 2000 args left o files in
+    let R : List (List ℕ) → Type 0 = λ fs. Responds F 2000 args left (out ++ []) fs in
+    subst Q (append-nil out) (subst R (append-nil files) (goes.responds left [] [] (subst P (sym (ap reverse empty)) no_word)))
 
 -- words that don't name files
 
@@ -239,61 +261,67 @@ others_none true b e = absurd cc
 
 -- so all of them stay
 themselves : (F : Facts) (left : ℕ) (words : List (List ℕ)) → list_any (λ word. is_some (file_named word)) words ≡ false
-    → Responds F left words left words
+    → Responds F left words left words []
 themselves F left [] none = no_word
 themselves F left (word ∷ words) none =
     itself (by_none F word (file_named word) refl (first_none (is_some (file_named word)) _ none))
     (themselves F left words (others_none (is_some (file_named word)) _ none))
 
 -- and the expansion is the words themselves
-pub none_expanded : (F : Facts) (args : List (List ℕ)) → list_any (λ word. is_some (file_named word)) args ≡ false
-    → Expands F 2000 args (Ok (record { words = args; from_file = false }))
-none_expanded F args none = (2000, themselves F 2000 args none, refl)
+pub none_expanded : (F : Facts) (args files : List (List ℕ)) → files ≡ [] → list_any (λ word. is_some (file_named word)) args ≡ false
+    → Expands F 2000 args (Ok (record { words = args; from_file = false; files = files }))
+none_expanded F args files empty none =
+    let P : List (List ℕ) → Type 0 = λ fs. Responds F 2000 args 2000 args fs in
+    (2000, subst P (sym empty) (themselves F 2000 args none), refl)
 
 -- the words of a file replace the word that named it
 
 -- a text whose words name no files: they are all done at once
-pub stay_goes : (F : Facts) (left left' : ℕ) (stack rest stack' : List (List ℕ)) (word : List ℕ) (inner out out' args : List (List ℕ))
-    → stack ≡ rest ++ word ∷ [] → left ≡ suc left' → stack' ≡ rest → out' ≡ out ++ inner
-    → list_any (λ word. is_some (file_named word)) inner ≡ false
-    → StandsFor F word inner → GoesOn F left (reverse stack) out args → GoesOn F left' (reverse stack') out' args
-stay_goes F left left' stack rest stack' word inner out out' args popped one same more none (text, m, splits) goes =
-    let P : List (List ℕ) → Type 0 = λ o. GoesOn F left' (reverse stack') o args in
-    let Q : List (List ℕ) → Type 0 = λ ws. GoesOn F left' (reverse ws) (out ++ inner) args in
-    let R : ℕ → Type 0 = λ n. GoesOn F n (word ∷ reverse rest) out args in
-    let S : List (List ℕ) → Type 0 = λ ws. GoesOn F left ws out args in
+pub stay_goes : (F : Facts) (left left' : ℕ) (stack rest stack' : List (List ℕ)) (word path : List ℕ)
+    (inner out out' files args : List (List ℕ)) → stack ≡ rest ++ word ∷ [] → left ≡ suc left' → stack' ≡ rest → out' ≡ out ++ inner
+    → list_any (λ word. is_some (file_named word)) inner ≡ false → StandsFor F word path inner
+    → GoesOn F left (reverse stack) out files args → GoesOn F left' (reverse stack') out' (files ++ path ∷ []) args
+stay_goes F left left' stack rest stack' word path inner out out' files args popped one same more none (text, m, splits) goes =
+    let P : List (List ℕ) → Type 0 = λ o. GoesOn F left' (reverse stack') o (files ++ path ∷ []) args in
+    let Q : List (List ℕ) → Type 0 = λ ws. GoesOn F left' (reverse ws) (out ++ inner) (files ++ path ∷ []) args in
+    let R : ℕ → Type 0 = λ n. GoesOn F n (word ∷ reverse rest) out files args in
+    let S : List (List ℕ) → Type 0 = λ ws. GoesOn F left ws out files args in
     subst P (sym more) (subst Q (sym same) (after_text (subst R one (subst S (next_is stack rest word popped) goes))))
   where
     -- Plan: the text takes the place of its word (`after_text`), and then each of its words stays.
-    after_text : GoesOn F (suc left') (word ∷ reverse rest) out args → GoesOn F left' (reverse rest) (out ++ inner) args
+    after_text : GoesOn F (suc left') (word ∷ reverse rest) out files args
+        → GoesOn F left' (reverse rest) (out ++ inner) (files ++ path ∷ []) args
     after_text goes = record {
-      responds = λ last after r.
-          let T : List (List ℕ) → Type 0 = λ o. Responds F 2000 args last o in
-          subst T (sym (append_assoc out inner after))
-          (goes.responds last (inner ++ after) (by_text m splits (themselves F left' inner none) r));
+      responds = λ last after after_files r.
+          let T : List (List ℕ) → Type 0 = λ o. Responds F 2000 args last o ((files ++ path ∷ []) ++ after_files) in
+          let U : List (List ℕ) → Type 0 = λ fs. Responds F 2000 args last (out ++ (inner ++ after)) fs in
+          subst T (sym (append_assoc out inner after)) (subst U (sym (append_snoc files path after_files))
+          (goes.responds last (inner ++ after) (path ∷ after_files) (by_text m splits (themselves F left' inner none) r)));
       refuses = λ fault r. goes.refuses fault (following m splits (themselves F left' inner none) r);
     }
 
 -- the words of a text are put on the stack, or are done at once
-words_go : (F : Facts) (left left' : ℕ) (stack rest stack' : List (List ℕ)) (word : List ℕ) (inner out out' args : List (List ℕ))
-    → stack ≡ rest ++ word ∷ [] → left ≡ suc left' → IsPut inner rest stack' out out' → StandsFor F word inner
-    → GoesOn F left (reverse stack) out args
-    → GoesOn F left' (reverse stack') out' args
-words_go F left left' stack rest stack' word inner out out' args popped one (inl (none, same, more)) stands goes =
-    stay_goes F left left' stack rest stack' word inner out out' args popped one same more none stands goes
-words_go F left left' stack rest stack' word inner out out' args popped one (inr (pushed, same)) stands goes =
-    let P : List (List ℕ) → Type 0 = λ o. GoesOn F left' (reverse stack') o args in
-    subst P (sym same) (text_goes F left left' stack rest stack' word inner out args popped one pushed stands goes)
+words_go : (F : Facts) (left left' : ℕ) (stack rest stack' : List (List ℕ)) (word path : List ℕ)
+    (inner out out' files args : List (List ℕ)) → stack ≡ rest ++ word ∷ [] → left ≡ suc left' → IsPut inner rest stack' out out'
+    → StandsFor F word path inner → GoesOn F left (reverse stack) out files args
+    → GoesOn F left' (reverse stack') out' (files ++ path ∷ []) args
+words_go F left left' stack rest stack' word path inner out out' files args popped one (inl (none, same, more)) stands goes =
+    stay_goes F left left' stack rest stack' word path inner out out' files args popped one same more none stands goes
+words_go F left left' stack rest stack' word path inner out out' files args popped one (inr (pushed, same)) stands goes =
+    let P : List (List ℕ) → Type 0 = λ o. GoesOn F left' (reverse stack') o (files ++ path ∷ []) args in
+    subst P (sym same) (text_goes F left left' stack rest stack' word path inner out files args popped one pushed stands goes)
 
--- the code cuts the words of the text out of one list, in which they follow those that are done
-pub put_goes : (F : Facts) (left left' start : ℕ) (stack rest stack' : List (List ℕ)) (word : List ℕ) (out all out' args : List (List ℕ))
-    → stack ≡ rest ++ word ∷ [] → left ≡ suc left' → IsReplaced F word out all (Ok (Some start))
-    → IsPut (drop start all) rest stack' (take start all) out'
-    → GoesOn F left (reverse stack) out args → GoesOn F left' (reverse stack') out' args
-put_goes F left left' start stack rest stack' word out all out' args popped one (at, (text, m, (inner, is, splits))) put goes =
+-- the code cuts the words of the text out of one list, in which they follow those that are done, and notes the file
+pub put_goes : (F : Facts) (left left' start : ℕ) (stack rest stack' : List (List ℕ)) (word path : List ℕ)
+    (out all out' files files' args : List (List ℕ)) → stack ≡ rest ++ word ∷ [] → left ≡ suc left' → files' ≡ files ++ path ∷ []
+    → IsReplaced F word out all (Ok (Some (path, start))) → IsPut (drop start all) rest stack' (take start all) out'
+    → GoesOn F left (reverse stack) out files args → GoesOn F left' (reverse stack') out' files' args
+put_goes F left left' start stack rest stack' word path out all out' files files' args popped one noted
+    (at, (text, m, (inner, is, splits))) put goes =
     let following_is : drop start all ≡ inner = ap (drop start) is ∙ ap (λ n. drop n (out ++ inner)) at ∙ drop-append_seam out inner in
     let front_is : take start all ≡ out = ap (take start) is ∙ ap (λ n. take n (out ++ inner)) at ∙ take-append_seam out inner in
     let P : List (List ℕ) → Type 0 = λ ws. IsPut ws rest stack' (take start all) out' in
     let Q : List (List ℕ) → Type 0 = λ ws. IsPut inner rest stack' ws out' in
-    words_go F left left' stack rest stack' word inner out out' args popped one (subst Q front_is (subst P following_is put))
-    (text, m, splits) goes
+    let R : List (List ℕ) → Type 0 = λ fs. GoesOn F left' (reverse stack') out' fs args in
+    subst R (sym noted) (words_go F left left' stack rest stack' word path inner out out' files args popped one
+    (subst Q front_is (subst P following_is put)) (text, m, splits) goes)

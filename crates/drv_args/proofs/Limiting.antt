@@ -28,7 +28,7 @@ limited_read (Some most) F path answer known =
 
 -- the replacement by a file's text, which is within the limit or not
 pub text_within : (most : Option ℕ) (path text : List ℕ) (fits : Bool) → fits ≡ not (is_over most text) → fits ≡ true
-    → by_answer path (judged most (Read text)) ≡ Text text
+    → by_answer path (judged most (Read text)) ≡ Text path text
 text_within most path text fits is e = ap (λ over. by_answer path (if over then TooLarge else Read text))
     (go (is_over most text) (sym e ∙ is))
   where

@@ -47,7 +47,7 @@ empty = record { switches = []; inputs = []; asm_opts = []; cpp_opts = []; setti
 
 -- the line of a text, whose words are separated by blanks
 abbrev read_words : List (List ℕ) → Result Line ArgsFault
-read_words words = line_read (record { words = words; from_file = false })
+read_words words = line_read (record { words = words; from_file = false; files = [] })
 
 -- the line of this text, whose words are separated by blanks
 abbrev read : List ℕ → Result Line ArgsFault

@@ -50,7 +50,7 @@ fn add_words(
 }
 
 /// If a word names a response file that can be read, adds the words of that file to `words`.
-/// Returns the index of the first of them.
+/// Returns the name of the file, and the index of the first of these words.
 #[tactic(auto, using(drv_system::proofs::AskedCalls::asked_further))]
 fn replace_word<S: System>(
     alloc: Global,
@@ -58,7 +58,7 @@ fn replace_word<S: System>(
     most: Option<usize>,
     outside: &mut Outside<'_, S>,
     words: &mut Listing<Word>,
-) -> Result<Option<usize>, ArgsFault>
+) -> Result<Option<(Word, usize)>, ArgsFault>
     ensures asks { Asked S.events outside.old outside.new }
     ensures replaces { (F : Facts) → Extends outside.new.facts.now F
         → IsReplaced (limited most F) word.now words.old words.new result }
@@ -71,7 +71,7 @@ fn replace_word<S: System>(
         ReadAnswer::Read(text) => {
             let start = words.len();
             if add_words(alloc, words, text.as_bytes(), most)? {
-                return Ok(Some(start));
+                return Ok(Some((path, start)));
             }
             Err(ArgsFault::ResponseTooLarge(path))
         }
@@ -146,13 +146,15 @@ fn expand_all<S: System>(
     let mut stack = args.into_vec();
     stack.reverse();
     let mut words = Listing::new(alloc);
+    let mut files = Listing::new(alloc);
     let mut left = MOST_FILES;
     while let Some(word) = stack.pop() {
         match replace_word(alloc, &word, most, outside, &mut words)? {
             None => words.push(word)?,
             // A file may name itself, so there is a limit.
             Some(_) if left == 0 => return Err(ArgsFault::TooManyFiles),
-            Some(start) => {
+            Some((path, start)) => {
+                files.push(path)?;
                 left -= 1;
                 put_words(&mut stack, &mut words, start)?;
             }
@@ -161,6 +163,7 @@ fn expand_all<S: System>(
     Ok(Expanded {
         words,
         from_file: left < MOST_FILES,
+        files,
     })
 }
 
@@ -182,6 +185,7 @@ fn expand_by<S: System>(
     Ok(Expanded {
         words: args,
         from_file: false,
+        files: Listing::new(alloc),
     })
 }
 

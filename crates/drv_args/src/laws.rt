@@ -9,15 +9,16 @@ ghost use Rattle.drv_system.specs.Facts.{Facts};
 ghost use Rattle.std.specs.Prelude.{◌≡◌, ◌↔◌, Err, List, Ok, ℕ};
 ghost use Rattle.drv_args.specs.declared.items.Item.{Item};
 
-/// A law: words have one expansion, which leaves one number of replacements, or they are refused
-/// for one reason, and never both.
+/// A law: words have one expansion, which reads the same files and leaves one number of
+/// replacements, or they are refused for one reason, and never both.
 pub fn one_expansion()
-    ensures responds { (F : Facts) (left a b : ℕ) (words out out' : List (List ℕ))
-        → Responds F left words a out → Responds F left words b out' → (a ≡ b) × (out ≡ out') }
+    ensures responds { (F : Facts) (left a b : ℕ) (words out out' files files' : List (List ℕ))
+        → Responds F left words a out files → Responds F left words b out' files'
+        → (a ≡ b) × (out ≡ out') × (files ≡ files') }
     ensures refused { (F : Facts) (left : ℕ) (words : List (List ℕ)) (f g : ArgsFault)
         → Refuses F left words f → Refuses F left words g → f ≡ g }
-    ensures never_both { (F : Facts) (left a : ℕ) (words out : List (List ℕ)) (fault : ArgsFault)
-        → Responds F left words a out → Refuses F left words fault → ⊥ }
+    ensures never_both { (F : Facts) (left a : ℕ) (words out files : List (List ℕ)) (fault : ArgsFault)
+        → Responds F left words a out files → Refuses F left words fault → ⊥ }
 {}
 
 /// A law: the items of words are those of a concatenation of fronts, each fitted by its first row.

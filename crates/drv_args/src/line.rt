@@ -65,4 +65,6 @@ pub struct Expanded {
     pub words: Listing<Word>,
     /// Whether a word was replaced by the words of a response file, even if there were none.
     pub from_file: bool,
+    /// The names of the response files whose words replaced others, in the order of these.
+    pub files: Listing<Word>,
 }

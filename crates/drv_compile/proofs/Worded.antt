@@ -129,7 +129,7 @@ pub front_stops : (expanded : Expanded) (words : List (List ℕ)) (fault : C99Fa
 front_stops expanded words fault (Ok made) same is given = absurd is
 front_stops expanded words fault (Err e) same is (inl memory) = inl (is ∙ ap stopped_by_c99 memory)
 front_stops expanded words fault (Err e) same is (inr refused) =
-    inr (ap (with_words expanded.from_file) (ap front_of (sym same) ∙ refused) ∙ ap Err (sym is))
+    inr (ap (with_words expanded) (ap front_of (sym same) ∙ refused) ∙ ap Err (sym is))
 
 -- For `gcc_words`: if the front refuses the words, then the stop's text says so, unless memory lacked.
 pub front_told : (calling : Calling) (expanded : Expanded) (end : Ending) (stop : Stop) → stop ≡ stop_of calling.name end

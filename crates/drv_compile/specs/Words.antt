@@ -20,7 +20,7 @@ use Rattle.drv_system.specs.Facts.{Facts, read_of}
 use Rattle.drv_system.specs.Known.{◌>>=◌, Is, Known, asked}
 use Rattle.drv_system.specs.declared.event.ReadAnswer.TheVariants.{Failed, Missing, Read, TooLarge}
 use Rattle.drv_system.specs.declared.event.ReadAnswer.{ReadAnswer}
-use Rattle.std.specs.Prelude.{◌≡◌, Bool, Err, List, [], ◌∷◌, ◌++◌, None, Ok, Option, Result, Some, codes, ℕ}
+use Rattle.std.specs.Prelude.{◌≡◌, Err, List, [], ◌∷◌, ◌++◌, None, Ok, Option, Result, Some, codes, ℕ}
 
 -- The words of a call, over facts: response files expanded, of which none may be there and not be readable, and the words of c99 turned
 -- into gcc's (GCC manual, "Overall Options", @file; POSIX, c99).
@@ -49,9 +49,9 @@ first_unread F [] = Is None
 first_unread F (word ∷ words) = unread_at F (file_named word) >>= λ path. or_later path (first_unread F words)
 
 -- the words of a front
-abbrev pub with_words : Bool → Result (List (List ℕ)) C99Fault → Result Expanded Ending
-with_words from_file (Ok words) = Ok (record { words = words; from_file = from_file })
-with_words from_file (Err fault) = Err (stopped_by_c99 fault)
+abbrev pub with_words : Expanded → Result (List (List ℕ)) C99Fault → Result Expanded Ending
+with_words expanded (Ok words) = Ok (record expanded { words = words })
+with_words expanded (Err fault) = Err (stopped_by_c99 fault)
 
 -- how a line in a language that no spec file serves ends a call
 abbrev pub unserved : List ℕ → Ending
@@ -60,7 +60,7 @@ unserved language = Refused (refusal.Plan (plan_fault.NotInstalled language))
 -- the words of a call by the name it was called by: those of c99 become gcc's, or are refused; those of g++ are refused
 abbrev pub words_of_front : Front → Expanded → Result Expanded Ending
 words_of_front Gcc expanded = Ok expanded
-words_of_front C99 expanded = with_words expanded.from_file (front_of expanded.words)
+words_of_front C99 expanded = with_words expanded (front_of expanded.words)
 words_of_front Cxx expanded = Err (unserved (codes "C++"))
 
 -- the facts in which a response file of more than 262,144 words is too large (gcc has no such limit; this project's profile)

@@ -104,9 +104,8 @@ fn words_of_front(alloc: Global, front: Front, expanded: Expanded) -> Result<Exp
     match front {
         Front::Gcc => Ok(expanded),
         Front::C99 => {
-            let from_file = expanded.from_file;
             let words = drv_c99::front(alloc, expanded.words.as_slice())?;
-            Ok(Expanded { words, from_file })
+            Ok(Expanded { words, ..expanded })
         }
         Front::Cxx => {
             let ending = unserved(alloc, b"C++")?;

@@ -25,15 +25,17 @@ use Rattle.std.proofs.Common.{◌≡◌, ◌∙◌, Bool, Err, List, Ok, Result,
 -- `after_c99 args` is the arguments without --c99. `Expands` says what an expansion of response files gives. `work_of` is the work for a
 -- line with its specs. `fronted is_c99 words` turns words of c99 into the driver's. `is_c99 args` says that the first argument is --c99.
 
--- words, and whether a response file replaced one
-abbrev expanded_by : (words : List (List ℕ)) (from_file : Bool) → Expanded
-expanded_by words from_file = record { words = words; from_file = from_file }
+-- words, whether a response file replaced one, and the names of these files
+abbrev expanded_by : (words : List (List ℕ)) (from_file : Bool) (files : List (List ℕ)) → Expanded
+expanded_by words from_file files = record { words = words; from_file = from_file; files = files }
 
 -- arguments expand to one list of words
 one_expanded : (F : Facts) (args : List (List ℕ)) (a b : Expanded) → Expands F 2000 args (Ok a) → Expands F 2000 args (Ok b) → a ≡ b
 one_expanded F args a b (left, responds, is) (left', responds', is') =
-    let same = responds_once F 2000 left left' args a.words b.words responds responds' in
-    ap (λ words. expanded_by words a.from_file) same.1 ∙ ap (expanded_by b.words) (is ∙ ap (λ n. nat_lt n 2000) same.0 ∙ sym is')
+    let same = responds_once F 2000 left left' args a.words b.words a.files b.files responds responds' in
+    ap (λ words. expanded_by words a.from_file a.files) same.1
+    ∙ ap (λ from_file. expanded_by b.words from_file a.files) (is ∙ ap (λ n. nat_lt n 2000) same.0 ∙ sym is')
+    ∙ ap (expanded_by b.words b.from_file) same.2
 
 -- what the front of c99 makes of one expansion
 one_front : (F : Facts) (args : List (List ℕ)) (a b : Expanded) (front front' : Result Expanded C99Fault)
@@ -87,7 +89,7 @@ driven_once F args seed a b d e =
 -- words that expand are not refused in the expansion
 not_both : (F : Facts) (args : List (List ℕ)) (a : Expanded) (fault : ArgsFault) → Expands F 2000 args (Ok a)
     → RefusesExpansion F 2000 args fault → ⊥
-not_both F args a fault (left, responds, is) refused = responds_alone F 2000 left args a.words fault responds refused
+not_both F args a fault (left, responds, is) refused = responds_alone F 2000 left args a.words a.files fault responds refused
 
 -- arguments that give words are not refused in the expansion
 not_worded : (F : Facts) (args : List (List ℕ)) (a : Expanded) (fault : ArgsFault) → Words F args a

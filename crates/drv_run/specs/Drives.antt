@@ -50,13 +50,13 @@ abbrev pub after_c99 : List (List ℕ) → List (List ℕ)
 after_c99 args = if is_c99 args then drop 1 args else args
 
 -- the words of c99 as words of the driver
-abbrev pub with_words : Bool → Result (List (List ℕ)) C99Fault → Result Expanded C99Fault
-with_words from_file (Ok words) = Ok (record { words = words; from_file = from_file })
-with_words from_file (Err fault) = Err fault
+abbrev pub with_words : Expanded → Result (List (List ℕ)) C99Fault → Result Expanded C99Fault
+with_words expanded (Ok words) = Ok (record expanded { words = words })
+with_words expanded (Err fault) = Err fault
 
 -- the driver's words for those of c99; others are the driver's already
 abbrev pub fronted : Bool → Expanded → Result Expanded C99Fault
-fronted true expanded = with_words expanded.from_file (front_of expanded.words)
+fronted true expanded = with_words expanded (front_of expanded.words)
 fronted false expanded = Ok expanded
 
 -- The words of the line: response files expanded, and then those of c99 turned into the driver's.

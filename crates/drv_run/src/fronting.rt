@@ -61,9 +61,8 @@ fn front_words(alloc: Global, selected: Front, expanded: Expanded) -> Result<Exp
     match selected {
         Front::Driver => Ok(expanded),
         Front::C99 => {
-            let from_file = expanded.from_file;
             let words = drv_c99::front(alloc, expanded.words.as_slice())?;
-            Ok(Expanded { words, from_file })
+            Ok(Expanded { words, ..expanded })
         }
     }
 }

@@ -11,10 +11,10 @@ use Rattle.std.specs.Prelude.{◌≡◌, ◌⊎◌, ◌++◌, Err, List, None, O
 -- it: `Expands` defines what `expand` returns.
 
 -- a word stays, or the words of its file's text are put behind those that are done, from `start` on, or it is refused
-abbrev pub IsReplaced : Facts → List ℕ → List (List ℕ) → List (List ℕ) → Result (Option ℕ) ArgsFault → Type 0
+abbrev pub IsReplaced : Facts → List ℕ → List (List ℕ) → List (List ℕ) → Result (Option (List ℕ × ℕ)) ArgsFault → Type 0
 IsReplaced F word words words' (Ok None) = (replacement_of F word ≡ Is Itself) × (words' ≡ words)
-IsReplaced F word words words' (Ok (Some start)) =
-    (start ≡ length words) × ((text : List ℕ) × (replacement_of F word ≡ Is (Text text)) × SplitsOnto text words words')
+IsReplaced F word words words' (Ok (Some (path, start))) =
+    (start ≡ length words) × ((text : List ℕ) × (replacement_of F word ≡ Is (Text path text)) × SplitsOnto text words words')
 IsReplaced F word words words' (Err fault) =
     (fault ≡ Memory) ⊎ ((path : List ℕ) × (replacement_of F word ≡ Is (Large path)) × (fault ≡ ResponseTooLarge path))
 

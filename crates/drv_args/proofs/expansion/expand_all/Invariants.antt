@@ -10,7 +10,7 @@ use Rattle.drv_args.proofs.expansion.expand_all.Given as goal
 abbrev pub invariant-loop-word : goal.invariant-loop-word
 invariant-loop-word g l = record {
   asks : Asked g.S.System.events l.fn.outside l.outside;
-  goes : (F : Facts) → Extends l.outside.facts.now F → GoesOn (limited l.most F) l.left (reverse l.stack.items) l.words l.fn.args;
+  goes : (F : Facts) → Extends l.outside.facts.now F → GoesOn (limited l.most F) l.left (reverse l.stack.items) l.words l.files l.fn.args;
   bound : l.left ≤ 2000;
 }
 

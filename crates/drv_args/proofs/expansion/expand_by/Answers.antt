@@ -9,6 +9,6 @@ use Rattle.std.specs.List.{list_any}
 
 pub returns-clause-expands : goal.returns-clause-expands
 returns-clause-expands g c F e =
-    none_expanded (limited c.args.most F) c.args.args (ap (list_any (λ word. is_some (file_named word))) (sym c.as_slice.ensures)
-    ∙ sym c.have_references.ensures
+    none_expanded (limited c.args.most F) c.args.args c.new.result c.new.ensures
+    (ap (list_any (λ word. is_some (file_named word))) (sym c.as_slice.ensures) ∙ sym c.have_references.ensures
     ∙ c.if-have_references.false)
