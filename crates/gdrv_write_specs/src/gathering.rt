@@ -148,6 +148,18 @@ impl<'a> Gcc<'a> {
         Ok(folders)
     }
 
+    /// The options that are refused: those that it lacks, and those that name a vendor's file which looks
+    /// for a file in a folder.
+    fn refused_with(self, copies: &[VendorsFile]) -> Result<Listing<Word>, Fault> {
+        let mut refused = self.unnamed_options()?;
+        for copy in copies {
+            if copy.has_folders {
+                refused.push(joined(self.alloc(), &[b"-specs=", copy.name.as_bytes()])?)?;
+            }
+        }
+        Ok(refused)
+    }
+
     /// The named texts: of files, of what functions give, and of the records of an assembly.
     fn named(self, libraries: &Libraries, probes: &[Word]) -> Result<Listing<NamedText>, Fault> {
         let alloc = self.alloc();
@@ -215,6 +227,7 @@ fn toolchain_of(
     translated: &Translated,
     programs: Programs,
     folders: Listing<Word>,
+    copies: &[VendorsFile],
     rows: &[Row],
 ) -> Result<Toolchain, Fault> {
     let alloc = gcc.alloc();
@@ -231,7 +244,7 @@ fn toolchain_of(
         include_words: libraries.choice(alloc, LibraryText::Headers)?,
         link_folders: libraries.choice(alloc, LibraryText::Libraries)?,
         programs,
-        refused: gcc.unnamed_options()?,
+        refused: gcc.refused_with(copies)?,
         alone: alone_by(alloc, texts, rows)?,
         library: libraries.folder_text(alloc)?,
         side_files: side_files_of(texts),
@@ -258,7 +271,15 @@ pub fn gather(gcc: Gcc<'_>, options: &[Word]) -> Result<Gathered, Fault> {
     let key = key_of(alloc, choosers.as_slice(), options)?;
     let probes = translated.probes.as_slice();
     let rows = rows_of(gcc, probes, folders.as_slice(), choosers.as_slice(), &key)?;
-    let toolchain = toolchain_of(gcc, &translated, programs, folders, rows.as_slice())?;
+    let vendors = copies.as_slice();
+    let toolchain = toolchain_of(
+        gcc,
+        &translated,
+        programs,
+        folders,
+        vendors,
+        rows.as_slice(),
+    )?;
     Ok(Gathered {
         toolchain,
         lacking: translated.lacking,

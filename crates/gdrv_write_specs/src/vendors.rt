@@ -8,7 +8,7 @@ use crate::gluing::unglue;
 use crate::parts::add_body_line;
 use crate::programs::names_in;
 use crate::texts::{add_all, has_bytes, joined};
-use drv_dump::{Kind, read_text, translate_vendors};
+use drv_dump::{Kind, Piece, read_text, translate_vendors};
 use drv_words::{Listing, Word};
 use std::alloc::Global;
 use std::fs;
@@ -25,6 +25,8 @@ pub struct VendorsFile {
     pub content: Word,
     /// Options that its texts test.
     pub options: Listing<Word>,
+    /// Whether its texts look for a file in a folder.
+    pub has_folders: bool,
 }
 
 /// A file that is translated line by line.
@@ -32,6 +34,7 @@ pub struct VendorsFile {
 struct Translating {
     content: Word,
     options: Listing<Word>,
+    has_folders: bool,
     /// The body of the text that is read, if one is.
     open: Option<Word>,
     is_lost: bool,
@@ -56,6 +59,29 @@ fn option_of(alloc: Global, test: &[u8]) -> Result<Word, Fault> {
         Some(beginning) => joined(alloc, &[b"-", beginning, b"x"]),
         None => joined(alloc, &[b"-", test]),
     }
+}
+
+/// Whether a text looks for a file in a folder (`FOLDER/FILE%s`): gcc finds it along its folders, and
+/// this driver looks for no name with a slash.
+fn has_folders(alloc: Global, body: &[u8]) -> bool {
+    let Ok(pieces) = read_text(alloc, body) else {
+        return body.contains(&b'/');
+    };
+    pieces.as_slice().windows(2).any(is_in_folder)
+}
+
+/// Whether the first of two pieces ends in a name with a slash, which the second looks for.
+fn is_in_folder(pieces: &[Piece]) -> bool {
+    let [name, next, ..] = pieces else {
+        return false;
+    };
+    let mut words = name
+        .bytes
+        .as_bytes()
+        .rsplit(|byte| byte.is_ascii_whitespace());
+    let last = words.next().unwrap_or(b"");
+    let is_found = matches!(next.bytes.as_bytes(), b"%s" | b"%O");
+    is_found && last.contains(&b'/') && !last.starts_with(b"/")
 }
 
 /// Adds the options that a text tests.
@@ -88,6 +114,7 @@ impl Translating {
         Translating {
             content: Word::empty(alloc),
             options: Listing::new(alloc),
+            has_folders: false,
             open: None,
             is_lost: false,
         }
@@ -101,6 +128,7 @@ impl Translating {
     /// Adds a text that was read.
     fn push_text(&mut self, alloc: Global, body: &[u8]) -> Result<(), Fault> {
         add_options(alloc, body, &mut self.options)?;
+        self.has_folders = self.has_folders || has_folders(alloc, body);
         let Some(words) = translate(alloc, body)? else {
             self.is_lost = true;
             return Ok(());
@@ -139,7 +167,7 @@ impl Translating {
 }
 
 /// The copy of a vendor's file of this name; none if it needs none, or if a text can't be put into
-/// this driver's words.
+/// this driver's words. One that looks for a file in a folder has a copy, but lines with it are refused.
 fn copy_of(alloc: Global, name: &Word, content: &[u8]) -> Result<Option<VendorsFile>, Fault> {
     let mut it = Translating::new(alloc);
     for line in content.split(|byte| *byte == b'\n') {
@@ -147,13 +175,14 @@ fn copy_of(alloc: Global, name: &Word, content: &[u8]) -> Result<Option<VendorsF
     }
     it.end_text(alloc)?;
     let is_needed = has_bytes(content, b"%M") || has_bytes(it.content.as_bytes(), b"-gdrv-define=");
-    if it.is_lost || !is_needed {
+    if !it.has_folders && (it.is_lost || !is_needed) {
         return Ok(None);
     }
     Ok(Some(VendorsFile {
         name: name.clone()?,
         content: it.content,
         options: it.options,
+        has_folders: it.has_folders,
     }))
 }
 
