@@ -11,6 +11,7 @@ mod laws;
 mod line;
 mod option_table;
 mod reading;
+mod rows;
 
 pub use expansion::{expand, expand_within};
 pub use fault::ArgsFault;

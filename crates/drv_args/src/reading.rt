@@ -5,14 +5,11 @@
 ghost use Rattle.drv_args.specs.Code.Building.{is_whole, line_with, start_shown};
 ghost use Rattle.drv_args.specs.Fronts.{by_effect, is_bad, items_of, start_of};
 ghost use Rattle.drv_args.specs.Lines.{line_of_items, line_read};
-ghost use Rattle.drv_args.specs.Code.Lookup.{shown};
-ghost use Rattle.drv_args.specs.Options.{first_row, form_fits, row_fits};
+ghost use Rattle.drv_args.specs.Options.{form_fits, row, row_fits};
 ghost use Rattle.drv_args.specs.declared.fault.ArgsFault.TheVariants as fault;
 ghost use Rattle.drv_words.specs.Gives.{Gives};
-ghost use Rattle.std.specs.List.{starts_with};
 ghost use Rattle.std.specs.Option.{option_map};
-ghost use Rattle.std.specs.Prelude.{◌≡◌, IfSome, IsTrue, None, drop, find, length, map};
-ghost use Rattle.std.specs.Prelude.{nat_eq, true};
+ghost use Rattle.std.specs.Prelude.{◌≡◌, IfSome, drop, find, length, map, true};
 
 use crate::building::{LentItem, LineBuilder};
 use crate::jobs::jobs_named;
@@ -25,52 +22,24 @@ use std::alloc::Global;
 /// The most words of a line.
 const MOST_ARGUMENTS: usize = 65536;
 
-/// Whether the last byte of an option is in its place in a word, as in each word that the option
-/// fits. This test alone excludes most options.
-fn may_end(option: &[u8], word: &[u8]) -> bool
-    ensures { (form : Form) → form_fits form option.now word.now ≡ true → result ≡ true }
+/// Whether an option of this form fits a word.
+fn does_fit(form: Form, option: &[u8], word: &[u8]) -> bool
+    ensures { result ≡ form_fits form option.now word.now }
 {
-    match option {
-        [.., last] => option.len() <= word.len() && word[option.len() - 1] == *last,
-        [] => true,
-    }
-}
-
-/// Whether a word begins with an option. Options are short, so their bytes are compared one by one.
-fn begins_with(word: &[u8], option: &[u8]) -> bool
-    ensures { result ≡ starts_with nat_eq word.now option.now }
-{
-    if word.len() < option.len() {
-        return false;
-    }
-    for i in 0..option.len() {
-        if word[i] != option[i] {
-            return false;
-        }
-    }
-    true
-}
-
-/// Whether a row fits a word.
-fn does_fit(row: &Row, word: &[u8]) -> bool
-    ensures { result ≡ row_fits word.now (shown row.now) }
-{
-    if !may_end(row.option, word) {
-        return false;
-    }
-    match row.form {
-        Form::Exact | Form::Separate => row.option == word,
-        Form::Joined | Form::Either => begins_with(word, row.option),
+    match form {
+        Form::Exact | Form::Separate => option == word,
+        Form::Joined | Form::Either => word.starts_with(option),
     }
 }
 
 /// The first row of a table that fits a word.
 fn first_fit(table: &[Row], word: &[u8]) -> Option<Row>
-    ensures first { option_map shown result ≡ find (row_fits word.now) (map shown table.now) }
-    ensures fits { IfSome result (λ row. row_fits word.now (shown row) ≡ true) }
+    ensures first { option_map (λ r. row r.0.now r.1 r.2) result
+        ≡ find (row_fits word.now) (map (λ r. row r.0.now r.1 r.2) table.now) }
+    ensures fits { IfSome result (λ r. form_fits r.1 r.0.now word.now ≡ true) }
 {
     for row in table {
-        if does_fit(row, word) {
+        if does_fit(row.1, row.0, word) {
             return Some(*row);
         }
     }
@@ -115,16 +84,11 @@ fn rest_of<'a>(word: &'a [u8], option: &[u8]) -> &'a [u8]
 }
 
 /// How a word begins a front, by the row that fits it.
-fn start_by_row<'a>(row: Row, word: &'a [u8]) -> Start<'a>
-    requires { row_fits word.now (shown row) ≡ true }
-    ensures start { start_shown result ≡ by_effect row.effect (shown row) word.now }
+fn start_by_row<'a>(option: &'static [u8], form: Form, effect: Effect, word: &'a [u8]) -> Start<'a>
+    requires { form_fits form option.now word.now ≡ true }
+    ensures start { start_shown result ≡ by_effect effect (row option.now form effect) word.now }
     ensures whole { is_whole word.now result }
 {
-    let Row {
-        option,
-        form,
-        effect,
-    } = row;
     let argument = rest_of(word, option);
     if is_bad(effect, argument) {
         return Start::Bad;
@@ -146,23 +110,7 @@ fn start_by_row<'a>(row: Row, word: &'a [u8]) -> Start<'a>
     }
 }
 
-/// Whether no row fits a word that begins with `-W`, which its fourth byte tells: each option that
-/// begins so ends with a comma there. Most options of a line are such words.
-#[tactic(auto, using(crate::proofs::Lookups::unlisted))]
-fn is_unlisted(word: &[u8]) -> bool
-    ensures { IsTrue result → first_row word.now ≡ None }
-{
-    let [b'-', b'W', _, fourth, ..] = word else {
-        return false;
-    };
-    if *fourth == b',' {
-        return false;
-    }
-    true
-}
-
 /// How a word begins a front.
-#[tactic(auto, using(crate::proofs::Lookups::unlisted_start))]
 fn start_of<'a>(word: &'a [u8]) -> Start<'a>
     ensures start { start_shown result ≡ start_of word.now }
     ensures whole { is_whole word.now result }
@@ -174,11 +122,8 @@ fn start_of<'a>(word: &'a [u8]) -> Start<'a>
             argument: &[],
         };
     };
-    if is_unlisted(word) {
-        return Start::Switch(word);
-    }
     match first_fit(rows_after(*letter), word) {
-        Some(row) => start_by_row(row, word),
+        Some(row) => start_by_row(row.0, row.1, row.2, word),
         None => Start::Switch(word),
     }
 }

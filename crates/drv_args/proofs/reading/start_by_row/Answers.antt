@@ -6,5 +6,5 @@ use Rattle.std.proofs.Common.{◌++◌, ◌∙◌, ap}
 
 pub returns-in-Joined-clause-whole : goal.returns-in-Joined-clause-whole
 returns-in-Joined-clause-whole c =
-    ap (λ argument. c.args.row.option.now ++ argument) c.rest_of-argument.ensures ∙ fits_whole c.args.row.form c.args.row.option.now
+    ap (λ argument. c.args.option.now ++ argument) c.rest_of-argument.ensures ∙ fits_whole c.args.form c.args.option.now
     c.args.word.now c.requires
