@@ -18,4 +18,6 @@ mod Parts
 mod Prefixes
 mod Staying
 mod Unasked
+pub mod Added
 pub mod LevelLaws
+pub mod SaidLaw

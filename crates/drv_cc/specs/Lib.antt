@@ -8,6 +8,7 @@ pub mod Kept
 pub mod LevelRules
 pub mod Levels
 pub mod LineItems
+pub mod Said
 pub mod SelfSpecs
 pub mod SideFiles
 pub mod Table

@@ -1,8 +1,13 @@
 //! Laws of the definitions that the contracts cite.
 
+ghost use Rattle.drv_cc.specs.Front.{front_of};
 ghost use Rattle.drv_cc.specs.LevelRules.{NoneNames, level_after};
 ghost use Rattle.drv_cc.specs.Levels.{debugging_of, level_named, no_debugging, toggle_named};
 ghost use Rattle.drv_cc.specs.Levels.{version_named};
+ghost use Rattle.drv_cc.specs.Said.{IsSaid};
+ghost use Rattle.drv_cc.specs.declared.answer.Answer.TheVariants.{Run};
+ghost use Rattle.drv_cc.specs.declared.answer.Call.{Call};
+ghost use Rattle.drv_cc.specs.declared.answer.Surroundings.{Surroundings};
 ghost use Rattle.drv_cc.specs.declared.item.Item.{Item};
 ghost use Rattle.std.specs.Prelude.{◌≡◌, ◌∷◌, ◌++◌, Bool, List, Some, false, ℕ};
 
@@ -26,4 +31,15 @@ pub fn last_level_counts()
         → (debugging_of no_debugging (before ++ i ∷ after)).toggled ≡ toggle }
     ensures no_toggle { (items : List Item) → NoneNames toggle_named items
         → (debugging_of no_debugging items).toggled ≡ false }
+{}
+
+/// A law: the items of the driver's line are the words of a line that is carried out, in their order,
+/// each by its row of the table, without those that a later one of its class takes back and those
+/// that are spelled nowhere. Then come added ones, of which each is a word that only the spec file
+/// reads, `-pthread`, or a folder. So nothing of the line is lost, and nothing is invented (GCC
+/// manual, "Invoking GCC").
+pub fn line_is_said()
+    ensures { (known : List ℕ) (named words : List (List ℕ)) (around : Surroundings) (call : Call)
+        → front_of known named around words ≡ Run call
+        → IsSaid known named around words call.items }
 {}

@@ -48,5 +48,5 @@ pub use answer::{Answer, Call, Stages, Surroundings, Variable};
 pub use fronting::front;
 pub use giving::{Given, OptionNames, front_with, seen_items};
 pub use items::Items;
-pub use laws::last_level_counts;
+pub use laws::{last_level_counts, line_is_said};
 pub use refusal::Refusal;
