@@ -42,23 +42,23 @@ use Rattle.std.specs.Prelude.{MatchResult}
 -- For `prepare` (src/preparing.rt): what a call does, from step to step.
 -- Names: `F` is what is known of the outside, and `knows` says which facts the call has. `line` is the line of gcc: its `request` is what
 -- the call is given, its `given` the words, and its `chain` the spec file, the compiler and the known names. `call` is what the front made
--- of it: `inputs`, `outputs`, items. `calling`, `own`, `args` and `seed` are what the call is given. `slice` is a list, and `specs`, `lent`
--- or `name` a text, as the code lends it. `events`, `read` and `asked` are what the host was asked. `before`, `mid` and `after` are its
--- notes before a step and after each. `prepared` is what the call has to do. `stop` is why it ends, and `result` what the code's call
--- gives. `Noted before after P`: events were added, of which P holds. `IfTold stop P`: P holds of the stop's text, if it has one.
--- `MatchResult result P Q`: P holds of the value, or Q of the fault. `IsErrAnd result P`: there is a fault, of which P holds. `objection`
--- is what speaks against a line, and `Overwrites` says whether it writes a file that it reads (specs/Overwriting). `IsPrepared`,
--- `IsUnplanned`, `IsDone` and `IsUndone` are in specs/Code/Preparing. `Plans` and `Refuses` are the whole call: what it has to do, or the
--- text of its refusal (specs/Compiles).
+-- of it: `inputs`, `outputs`, items. `responses` is its response files. `calling`, `own`, `args` and `seed` are what the call is given.
+-- `slice` is a list, and `specs`, `lent` or `name` a text, as the code lends it. `events`, `read` and `asked` are what the host was asked.
+-- `before`, `mid` and `after` are its notes before a step and after each. `prepared` is what the call has to do. `stop` is why it ends, and
+-- `result` what the code's call gives. `Noted before after P`: events were added, of which P holds. `IfTold stop P`: P holds of the stop's
+-- text, if it has one. `MatchResult result P Q`: P holds of the value, or Q of the fault. `IsErrAnd result P`: there is a fault, of which P
+-- holds. `objection` is what speaks against a line, and `Overwrites` says whether it writes a file that it reads (specs/Overwriting).
+-- `IsPrepared`, `IsUnplanned`, `IsDone` and `IsUndone` are in specs/Code/Preparing. `Plans` and `Refuses` are the whole call: what it has
+-- to do, or the text of its refusal (specs/Compiles).
 
 -- an output that is a file that the line reads, or none
 
 -- For `refuse_overwriting`: if no output is read, then the line overwrites nothing.
-pub not_overwriting : (files slice : List FileRead) (outputs lent : List (List ℕ)) (call : Call) (args : List (List ℕ))
-    (found : Option Clash) (before after : List HostEvent) → slice ≡ files → files ≡ files_read call args → lent ≡ outputs
+pub not_overwriting : (files slice : List FileRead) (outputs lent : List (List ℕ)) (call : Call) (responses : List (List ℕ))
+    (found : Option Clash) (before after : List HostEvent) → slice ≡ files → files ≡ files_read call responses → lent ≡ outputs
     → outputs ≡ files_written call → found ≡ None → Noted before after (λ events. Overwrites slice lent events found)
-    → Noted before after (λ events. Overwrites (files_read call args) (files_written call) events None)
-not_overwriting files slice outputs lent call args found before after same are lends writes none (events, grown, overwrites) = (
+    → Noted before after (λ events. Overwrites (files_read call responses) (files_written call) events None)
+not_overwriting files slice outputs lent call responses found before after same are lends writes none (events, grown, overwrites) = (
   events,
   grown,
   subst (λ xs. Overwrites xs (files_written call) events None) (same ∙ are)
@@ -68,7 +68,7 @@ not_overwriting files slice outputs lent call args found before after same are l
 -- For `refuse_overwriting`: if an output is read, then the text with its name says so.
 pub overwriting_told : (line : GccLine) (name text : List ℕ) (files slice : List FileRead) (outputs lent : List (List ℕ)) (call : Call)
     (found : Option Clash) (clash : Clash) (before after : List HostEvent) → slice ≡ files
-    → files ≡ files_read call line.request.now.args.now → lent ≡ outputs → outputs ≡ files_written call → found ≡ Some clash
+    → files ≡ files_read call line.given.files → lent ≡ outputs → outputs ≡ files_written call → found ≡ Some clash
     → Noted before after (λ events. Overwrites slice lent events found) → name ≡ line.request.now.calling.now.name
     → text ≡ overwritten_text name clash → Noted before after (λ events. IsOverwriting line call events text)
 overwriting_told line name text files slice outputs lent call found clash before after same are lends writes some (events, grown, overwrites) named is = (
@@ -89,7 +89,7 @@ overwriting_told line name text files slice outputs lent call found clash before
 -- refused.
 fails_planned : (F : Facts) (line : GccLine) (call : Call) (read asked : List HostEvent) (result : Result Prepared Stop)
     → objection F line.request.now.calling.now.name call.inputs ≡ Is []
-    → Overwrites (files_read call line.request.now.args.now) (files_written call) read None
+    → Overwrites (files_read call line.given.files) (files_written call) read None
     → MatchResult result (λ prepared. IsPrepared F line call asked prepared) (λ stop. IfTold stop (IsUnplanned F line call asked))
     → MatchResult result (λ prepared. IsDone F line call (read ++ asked) prepared)
     (λ stop. IfTold stop (IsUndone F line call (read ++ asked)))
@@ -145,13 +145,13 @@ overwriting_fails line call stop before after result knows is free (events, grow
 pub performs_noted : (line : GccLine) (call : Call) (before mid after : List HostEvent) (result : Result Prepared Stop)
     (knows : Facts → Type 0)
     → ((F : Facts) → knows F → objection F line.request.now.calling.now.name call.inputs ≡ Is [])
-    → Noted before mid (λ events. Overwrites (files_read call line.request.now.args.now) (files_written call) events None)
+    → Noted before mid (λ events. Overwrites (files_read call line.given.files) (files_written call) events None)
     → Noted mid after (λ events. (F : Facts) → knows F → MatchResult result (λ prepared. IsPrepared F line call events prepared)
     (λ stop. IfTold stop (IsUnplanned F line call events)))
     → Noted before after (λ events. (F : Facts) → knows F
     → MatchResult result (λ prepared. IsDone F line call events prepared) (λ s. IfTold s (IsUndone F line call events)))
 performs_noted line call before mid after result knows free =
-    noted_then before mid after (λ events. Overwrites (files_read call line.request.now.args.now) (files_written call) events None)
+    noted_then before mid after (λ events. Overwrites (files_read call line.given.files) (files_written call) events None)
     (λ events. (F : Facts) → knows F → MatchResult result (λ prepared. IsPrepared F line call events prepared)
     (λ stop. IfTold stop (IsUnplanned F line call events)))
     (λ events. (F : Facts) → knows F

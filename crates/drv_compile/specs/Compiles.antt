@@ -88,31 +88,31 @@ pub record IsPlanned (F : Facts) (calling : Calling) (chain : Toolchain) (driven
 
 -- A line that is carried out: nothing speaks against it, it writes no file that it reads, and the items that the driver is called with
 -- denote work. The host was asked for the paths of its files, and then for a row.
-pub data Performs (F : Facts) (calling : Calling) (chain : Toolchain) (call : Call) (args : List (List ℕ)) (given : Expanded) (seed : ℕ)
+pub data Performs (F : Facts) (calling : Calling) (chain : Toolchain) (call : Call) (given : Expanded) (seed : ℕ)
     : List HostEvent → Prepared → Type 0 where
   drives : {driven : Driven} {read asked : List HostEvent} {prepared : Prepared} → objection F calling.name call.inputs ≡ Is []
-      → Overwrites (files_read call args) (files_written call) read None → IsWorker F chain call given asked (Driver driven)
-      → IsPlanned F calling chain driven seed prepared → Performs F calling chain call args given seed (read ++ asked) prepared
+      → Overwrites (files_read call given.files) (files_written call) read None → IsWorker F chain call given asked (Driver driven)
+      → IsPlanned F calling chain driven seed prepared → Performs F calling chain call given seed (read ++ asked) prepared
 
 -- why a line that could be carried out is refused, and the text that says it: an input is missing, an output is a file that it reads, it
 -- can't be called, its machine has no words, or the driver refuses its items
-pub data Fails (F : Facts) (calling : Calling) (chain : Toolchain) (call : Call) (args : List (List ℕ)) (given : Expanded) (seed : ℕ) : List HostEvent → List ℕ
+pub data Fails (F : Facts) (calling : Calling) (chain : Toolchain) (call : Call) (given : Expanded) (seed : ℕ) : List HostEvent → List ℕ
     → Type 0 where
   objected : {b : ℕ} {text : List ℕ} → objection F calling.name call.inputs ≡ Is (b ∷ text)
-      → Fails F calling chain call args given seed [] (b ∷ text)
+      → Fails F calling chain call given seed [] (b ∷ text)
   overwriting : {events : List HostEvent} {clash : Clash} → objection F calling.name call.inputs ≡ Is []
-      → Overwrites (files_read call args) (files_written call) events (Some clash)
-      → Fails F calling chain call args given seed events (overwritten_text calling.name clash)
+      → Overwrites (files_read call given.files) (files_written call) events (Some clash)
+      → Fails F calling chain call given seed events (overwritten_text calling.name clash)
   undriven : {read asked : List HostEvent} {text : List ℕ} → objection F calling.name call.inputs ≡ Is []
-      → Overwrites (files_read call args) (files_written call) read None
-      → Undriven F calling chain call given asked text → Fails F calling chain call args given seed (read ++ asked) text
+      → Overwrites (files_read call given.files) (files_written call) read None
+      → Undriven F calling chain call given asked text → Fails F calling chain call given seed (read ++ asked) text
   unworded : {read asked : List HostEvent} {options : List ℕ} → objection F calling.name call.inputs ≡ Is []
-      → Overwrites (files_read call args) (files_written call) read None → IsWorker F chain call given asked (Nobody options)
-      → Fails F calling chain call args given seed (read ++ asked) (unworded_text calling.name chain.specs options)
+      → Overwrites (files_read call given.files) (files_written call) read None → IsWorker F chain call given asked (Nobody options)
+      → Fails F calling chain call given seed (read ++ asked) (unworded_text calling.name chain.specs options)
   stopped : {read asked : List HostEvent} {driven : Driven} {refusal : Refusal} {text : List ℕ}
-      → objection F calling.name call.inputs ≡ Is [] → Overwrites (files_read call args) (files_written call) read None
+      → objection F calling.name call.inputs ≡ Is [] → Overwrites (files_read call given.files) (files_written call) read None
       → IsWorker F chain call given asked (Driver driven) → Stops F driven.line seed (Refused refusal)
-      → text ≡ told_refusal calling.name refusal → Fails F calling chain call args given seed (read ++ asked) text
+      → text ≡ told_refusal calling.name refusal → Fails F calling chain call given seed (read ++ asked) text
 
 -- What arguments ask for, with what the host was asked: a question to the compiler, a line that is carried out, or a refusal. `own` is
 -- where the spec file of this program lies, if that is known.
@@ -133,7 +133,7 @@ pub data Plans (F : Facts) (calling : Calling) (own : Option (List ℕ)) (args :
   performs : {words : Expanded} {decision : Decision} {chain : Toolchain} {call : Call} {events : List HostEvent} {prepared : Prepared}
       → Words F calling args words
       → decide F own words.words ≡ Is decision → Leads decision (Compilation chain call)
-      → Performs F calling chain call args words seed events prepared → Plans F calling own args seed events prepared
+      → Performs F calling chain call words seed events prepared → Plans F calling own args seed events prepared
 
 -- what a call does then: the same, but where a file of the compiler is another than when the spec file was written, it says the hint first
 pub data Comes (F : Facts) (calling : Calling) (own : Option (List ℕ)) (args : List (List ℕ)) (seed : ℕ) : List HostEvent → Prepared
@@ -150,7 +150,7 @@ pub data Refuses (F : Facts) (calling : Calling) (own : Option (List ℕ)) (args
   fails : {words : Expanded} {decision : Decision} {chain : Toolchain} {text : List ℕ} {call : Call} {events : List HostEvent}
       → Words F calling args words
       → decide F own words.words ≡ Is decision → Leads decision (Compilation chain call)
-      → Fails F calling chain call args words seed events text → Refuses F calling own args seed events text
+      → Fails F calling chain call words seed events text → Refuses F calling own args seed events text
 
 -- whether an answer says that the program to start isn't there. After such a one the call says the hint, and otherwise its remark: see
 -- `closing`

@@ -1,4 +1,3 @@
-use Rattle.drv_args.specs.Expansion.{file_named}
 use Rattle.drv_args.specs.declared.items.Item.{Item}
 use Rattle.drv_args.specs.declared.option_table.Effect.TheVariants as effect
 use Rattle.drv_args.specs.declared.option_table.Effect.{Effect}
@@ -61,11 +60,10 @@ in_folder folder name = folder ++ slash ∷ name
 abbrev pub specs_read : List Item → List (List ℕ)
 specs_read items = specs_given items ++ flat_map (λ folder. map (in_folder folder) (specs_given items)) (folders_given items)
 
--- the files that a line reads: its inputs, its spec files, and the response files among the arguments of the call
+-- the files that a line reads: its inputs, its spec files, and these response files
 abbrev pub files_read : Call → List (List ℕ) → List FileRead
-files_read call args =
-    inputs_read call ++ map (file_read Specs) (specs_read call.items)
-    ++ map (file_read Response) (filter_map file_named args)
+files_read call responses =
+    inputs_read call ++ map (file_read Specs) (specs_read call.items) ++ map (file_read Response) responses
 
 -- how the word begins that names the file of dependencies of a source
 abbrev pub dependencies_word : List ℕ

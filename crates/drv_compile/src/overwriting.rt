@@ -2,7 +2,6 @@
 
 // In clauses: `Noted before after P` says that the host was asked, and that P holds of these
 // events.
-ghost use Rattle.drv_args.specs.Expansion.{file_named};
 ghost use Rattle.drv_compile.specs.Inputs.{Noted};
 ghost use Rattle.drv_compile.specs.Overwriting.{First, IsAt, IsRead, Overwrites, clash_of, decides};
 ghost use Rattle.drv_compile.specs.Overwriting.{dependencies, file_read, files_read, files_written};
@@ -13,7 +12,6 @@ ghost use Rattle.std.specs.Option.{option_copied};
 ghost use Rattle.std.specs.Prelude.{◌≡◌, ◌++◌, IfOk, OnOk, map};
 
 use crate::compilers::rest_of;
-use crate::expanding::file_named;
 use crate::host::Host;
 use crate::places::may_link;
 use crate::reading::{folders_given, specs_given};
@@ -68,19 +66,6 @@ fn add_files(
         })?;
     }
     Ok(())
-}
-
-/// The response files that arguments name.
-fn response_files(alloc: Global, args: &[Word]) -> Result<Listing<Word>, AllocError>
-    ensures { IfOk result (λ names. names ≡ filter_map file_named args.now) }
-{
-    let mut names = Listing::new(alloc);
-    for arg in args {
-        if let Some(path) = file_named(arg.as_bytes()) {
-            names.push(Word::from_bytes(alloc, path)?)?;
-        }
-    }
-    Ok(names)
 }
 
 /// Whether an option names the output, or the language of the files after it.
@@ -191,20 +176,19 @@ fn specs_read(alloc: Global, items: &[Item]) -> Result<Listing<Word>, AllocError
     Ok(paths)
 }
 
-/// The files that a line reads.
+/// The files that a line reads, of which these are response files.
 pub(crate) fn files_read(
     alloc: Global,
     call: &Call,
-    args: &Listing<Word>,
+    responses: &[Word],
 ) -> Result<Listing<FileRead>, AllocError>
-    ensures { IfOk result (λ files. files ≡ files_read call.now args.now) }
+    ensures { IfOk result (λ files. files ≡ files_read call.now responses.now) }
 {
     let specs = specs_read(alloc, call.items.as_slice())?;
-    let responses = response_files(alloc, args.as_slice())?;
     let mut files = Listing::new(alloc);
     add_inputs(call, &mut files)?;
     add_files(ReadAs::Specs, specs.as_slice(), &mut files)?;
-    add_files(ReadAs::Response, responses.as_slice(), &mut files)?;
+    add_files(ReadAs::Response, responses, &mut files)?;
     Ok(files)
 }
 

@@ -139,10 +139,10 @@ fn refuse_overwriting<S: System, H: Host<S>>(
 ) -> Result<(), Stop>
     ensures { Noted (H.notes host.old) (H.notes host.new)
         (λ events. MatchResult result
-        (λ _. Overwrites (files_read call.now line.now.request.now.args.now) (files_written call.now) events None)
+        (λ _. Overwrites (files_read call.now line.now.given.files) (files_written call.now) events None)
         (λ stop. IfTold stop (IsOverwriting line.now call.now events))) }
 {
-    let files = files_read(alloc, call, line.request.args)?;
+    let files = files_read(alloc, call, line.given.files.as_slice())?;
     let outputs = files_written(alloc, call)?;
     let found = overwrites(files.as_slice(), outputs.as_slice(), host)?;
     let Some(clash) = found else {

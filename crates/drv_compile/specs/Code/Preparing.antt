@@ -32,7 +32,7 @@ IsFailure F name line seed text = (refusal : Refusal) × Stops F line seed (Refu
 -- an output is a file that it reads
 abbrev pub IsOverwriting : GccLine → Call → List HostEvent → List ℕ → Type 0
 IsOverwriting line call events text =
-    (clash : Clash) × Overwrites (files_read call line.request.now.args.now) (files_written call) events (Some clash)
+    (clash : Clash) × Overwrites (files_read call line.given.files) (files_written call) events (Some clash)
     × (text ≡ overwritten_text line.request.now.calling.now.name clash)
 
 -- what is done for a line that the driver carries out
@@ -58,12 +58,12 @@ IsUnplanned F line call events text =
 -- a line that is carried out, as `Performs` says
 abbrev pub IsDone : Facts → GccLine → Call → List HostEvent → Prepared → Type 0
 IsDone F line call events prepared =
-    Performs F line.request.now.calling.now line.chain call line.request.now.args.now line.given line.request.now.seed events prepared
+    Performs F line.request.now.calling.now line.chain call line.given line.request.now.seed events prepared
 
 -- why it is refused, as `Fails` says
 abbrev pub IsUndone : Facts → GccLine → Call → List HostEvent → List ℕ → Type 0
 IsUndone F line call events text =
-    Fails F line.request.now.calling.now line.chain call line.request.now.args.now line.given line.request.now.seed events text
+    Fails F line.request.now.calling.now line.chain call line.given line.request.now.seed events text
 
 -- what is done for a question
 abbrev pub IsQuestion : Calling → SpecFile → List ℕ → List (List ℕ) → Prepared → Type 0

@@ -18,7 +18,7 @@ returns-in_err-found g c = memory_noted _ _ _ c.from_residual-in_err-found.resul
 
 pub returns-in_default : goal.returns-in_default
 returns-in_default g c =
-    not_overwriting c.in_ok-files.files _ c.in_ok-outputs.outputs _ c.args.call.now c.args.line.now.request.now.args.now c.in_ok-found.found
+    not_overwriting c.in_ok-files.files _ c.in_ok-outputs.outputs _ c.args.call.now c.args.line.now.given.files c.in_ok-found.found
     _ _ c.as_slice.ensures c.in_ok-files.ensures c.as_slice-2.ensures c.in_ok-outputs.ensures c.in_default.is
     c.in_ok-found.ensures
 
