@@ -17,6 +17,7 @@ use Rattle.drv_compile.specs.Inputs.{Noted}
 use Rattle.drv_compile.specs.Machines.{RowAsked, items_by, row_of}
 use Rattle.drv_compile.specs.Near.{AreTold}
 use Rattle.drv_compile.specs.Parts.{texts_of}
+use Rattle.drv_compile.specs.Releases.{children_by}
 use Rattle.drv_compile.specs.Suffixes.{suffixed_by}
 use Rattle.drv_compile.specs.Tasks.{IfTold}
 use Rattle.drv_compile.specs.Texts.{damaged_text}
@@ -42,12 +43,13 @@ use Rattle.std.specs.Prelude.{MatchResult}
 -- For the functions of `driving` (src/driving.rt): who carries out a line.
 -- Names: `F` is what is known of the outside, and `knows` says which facts the call has. `line` is the line of gcc: its `request` is what
 -- the call is given, its `given` the words, and its `chain` the spec file (`specs`), the text about the compiler (`about`), and the known
--- names. `call` is what the front made of it. `slice` is the items, or the refusals, as the code lends them. `first` is what the driver is
--- called with before the line's spec files. `answer` is the line that these give. `driven` and `made` are what the driver is called with in
--- the end. `worker` is who carries the line out: the driver or the compiler. `events` and `more` are what the host was asked. `stop` is why
--- the call ends, and `result` what the code's call gives. `Noted before after P`: events were added, of which P holds. `IfTold stop P`: P
--- holds of the stop's text, if it has one. `MatchResult result P Q`: P holds of the value, or Q of the fault. `IsErrAnd result P`: there is
--- a fault, of which P holds. `Replaces` and most claims that begin with Is are in specs/Driven.
+-- names. `call` is what the front made of it. `told` is the variables of its children. `slice` is the items, or the refusals, as the
+-- code lends them. `first` is what the driver is called with before the line's spec files. `answer` is the line that these give. `driven`
+-- and `made` are what the driver is called with in the end. `worker` is who carries the line out: the driver or the compiler. `events` and
+-- `more` are what the host was asked. `stop` is why the call ends, and `result` what the code's call gives. `Noted before after P`: events
+-- were added, of which P holds. `IfTold stop P`: P holds of the stop's text, if it has one. `MatchResult result P Q`: P holds of the value,
+-- or Q of the fault. `IsErrAnd result P`: there is a fault, of which P holds. `Replaces` and most claims that begin with Is are in
+-- specs/Driven.
 
 -- what its spec files give
 
@@ -102,23 +104,25 @@ made_alike path text rows given made made' (Driver driven) same suffix (items, c
 -- For `machined_call`: if the code left out the text about the compiler, since it has no row and no suffix, then row and line are still
 -- those by that text.
 pub machined_as : {E : Type 0} (chain : Toolchain) (path lent : List ℕ) (call : Call) (given : Expanded) (text : Option (List ℕ))
-    (slice : List Item) (row : LineRow) (made : MachineItems) (before after : List HostEvent) (result : Result Worker E)
+    (slice : List Item) (row : LineRow) (told : List Variable) (made : MachineItems) (before after : List HostEvent)
+    (result : Result Worker E)
     → lent ≡ chain.about → ((items : List Item) → row_of text items ≡ row_of (Some lent) items)
     → ((items : List Item) → suffixed_by text items ≡ suffixed_by (Some lent) items)
     → slice ≡ call.items → Noted before after (λ events. RowAsked chain.specs text slice events row)
-    → made ≡ items_by row call.items call.children
+    → told ≡ children_by lent call.children → made ≡ items_by row call.items told
     → IfOk result (λ worker. IsMade path text made given worker)
     → Noted before after (λ events. IfOk result (λ worker. IsMachined chain path call given events worker))
-machined_as chain path lent call given text slice row made before after (Err e) of same suffix are (events, grown, asked) made_is is =
+machined_as chain path lent call given text slice row told made before after (Err e) of same suffix are (events, grown, asked) set by is =
     (events, grown, tt)
-machined_as chain path lent call given text slice row made before after (Ok worker) of same suffix are (events, grown, asked) made_is is = (
+machined_as chain path lent call given text slice row told made before after (Ok worker) of same suffix are (events, grown, asked) set by is = (
   events,
   grown,
   (
     row,
     asked_alike (same call.items ∙ ap (λ t. row_of (Some t) call.items) of)
         (subst (λ items. RowAsked chain.specs text items events row) are asked),
-    made_alike path text (Some chain.about) given made (items_by row call.items call.children) worker made_is
+    made_alike path text (Some chain.about) given made (items_by row call.items (children_by chain.about call.children)) worker
+        (by ∙ ap (items_by row call.items) (set ∙ ap (λ t. children_by t call.children) of))
         (λ items. suffix items ∙ ap (λ t. suffixed_by (Some t) items) of) is,
   ),
 )

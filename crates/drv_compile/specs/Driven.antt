@@ -12,6 +12,7 @@ use Rattle.drv_compile.specs.Machines.{RowAsked, items_by}
 use Rattle.drv_compile.specs.Near.{AreTold}
 use Rattle.drv_compile.specs.Parts.{texts_of}
 use Rattle.drv_compile.specs.Passed.{line_passed}
+use Rattle.drv_compile.specs.Releases.{children_by}
 use Rattle.drv_compile.specs.SelfSpecs.{Ended, answer_given}
 use Rattle.drv_compile.specs.Suffixes.{suffixed_by}
 use Rattle.drv_compile.specs.Texts.{damaged_text}
@@ -59,7 +60,7 @@ IsMade path rows made given (Nobody options) = made ≡ Lacks options
 abbrev pub IsMachined : Toolchain → List ℕ → Call → Expanded → List HostEvent → Worker → Type 0
 IsMachined chain path call given events worker =
     (row : LineRow) × RowAsked chain.specs (Some chain.about) call.items events row
-    × IsMade path (Some chain.about) (items_by row call.items call.children) given worker
+    × IsMade path (Some chain.about) (items_by row call.items (children_by chain.about call.children)) given worker
 
 -- a line by itself, with the file that has its texts, if that is whole, and with what the host was asked for its row
 abbrev pub IsCalled : Facts → Toolchain → Call → Expanded → List HostEvent → Worker → Type 0

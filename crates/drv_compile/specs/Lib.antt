@@ -15,6 +15,7 @@ pub mod Parts
 pub mod Passed
 pub mod Places
 pub mod Reading
+pub mod Releases
 pub mod Runs
 pub mod SelfSpecs
 pub mod Stamps

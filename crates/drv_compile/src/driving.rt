@@ -20,6 +20,7 @@ use crate::machines::{MachineItems, for_machines, items_by};
 use crate::parts::{Texts, texts_asked};
 use crate::passing::line_passed;
 use crate::refusing::stop_after;
+use crate::releases::children_by;
 use crate::request::GccLine;
 use crate::row_asking::row_asked;
 use crate::running::DriverLine;
@@ -113,9 +114,11 @@ fn machined_call<S: System, H: Host<S>>(
         (λ events. IfOk result (λ worker. IsMachined line.now.chain path call line.now.given
         events worker)) }
 {
-    let rows = for_machines(line.chain.about.as_bytes());
+    let about = line.chain.about.as_bytes();
+    let rows = for_machines(about);
     let row = row_asked(alloc, &line.chain.specs, rows, call.items.as_slice(), host)?;
-    let made = items_by(alloc, row, call.items, call.children)?;
+    let children = children_by(alloc, about, call.children)?;
+    let made = items_by(alloc, row, call.items, children)?;
     made_call(alloc, path, rows, made, &line.given)
 }
 

@@ -23,6 +23,7 @@ mod places;
 mod preparing;
 mod reading;
 mod refusing;
+mod releases;
 mod request;
 mod row_asking;
 mod running;
