@@ -222,11 +222,10 @@ def prove(crates, name, jobs):
 
 def kit():
     """The version of the kit; none where there is no kit."""
-    path = shutil.which("rt")
-    if not path:
+    if not shutil.which("rt"):
         return None
     ran = subprocess.run(["rt", "version"], stdin=subprocess.DEVNULL, capture_output=True, check=False)
-    return f"{os.path.realpath(path)}\n{ran.stdout.decode(errors='replace')}"
+    return ran.stdout.decode(errors="replace")
 
 
 class Stamps:
@@ -258,16 +257,15 @@ class Stamps:
         return f"texts {self.texts(name)}\n" + "".join(f"{path} {at.st_size} {at.st_mtime_ns}\n" for path, at in built) if built else None
 
     def is_proved(self, name):
-        with contextlib.suppress(FileNotFoundError), open(stamp_of(self.crates, name), encoding="utf-8") as file:
-            return file.read() == self.stamp(name)
+        with contextlib.suppress(FileNotFoundError):
+            return text_of(stamp_of(self.crates, name)) == self.stamp(name)
         return False
 
     def keep(self, name):
         """Stamps a crate that was proved over these texts."""
         text = self.stamp(name)
         if text and Stamps(self.crates).texts(name) == self.texts(name):
-            with open(stamp_of(self.crates, name), "w", encoding="utf-8") as file:
-                file.write(text)
+            write(stamp_of(self.crates, name), text)
 
 
 def stamp_of(crates, name):
@@ -277,6 +275,20 @@ def stamp_of(crates, name):
 def files_in(folder):
     """The files of a folder and of those in it, in order."""
     return sorted(f"{at}/{it}" for at, _, names in os.walk(folder) for it in names)
+
+
+def text_of(path):
+    with open(path, encoding="utf-8") as file:
+        return file.read()
+
+
+def write(path, text):
+    """Writes a file, in the place of a link if there is one."""
+    os.makedirs(os.path.dirname(path), exist_ok=True)
+    if os.path.isfile(path):
+        os.remove(path)
+    with open(path, "w", encoding="utf-8") as file:
+        file.write(text)
 
 
 @dataclass
