@@ -188,9 +188,9 @@ class EditRoom:
         self.functions = set().union(*(it.bodies for it in edits))
         self.root = "src/main.rt" if crates.is_program(name) else "src/lib.rt"
         os.mkdir(f"{folder}/kept")
-        for part in ("specs", "proofs"):
+        for part, ignored in (("specs", None), ("proofs", shutil.ignore_patterns(*WRITTEN))):
             if os.path.isdir(f"{texts.folder}/{part}"):
-                shutil.copytree(f"{texts.folder}/{part}", f"{folder}/{part}", ignore=shutil.ignore_patterns(*WRITTEN), copy_function=link_or_copy)
+                shutil.copytree(f"{texts.folder}/{part}", f"{folder}/{part}", ignore=ignored, copy_function=link_or_copy)
 
     def check(self, bodies, functions):
         """What the prover says of these functions, with these bodies in place of the crate's, and hollow ones for all that no edit changes."""
