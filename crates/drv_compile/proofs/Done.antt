@@ -1,8 +1,9 @@
 use Rattle.drv_cc.specs.declared.answer.Variable.{Variable}
 use Rattle.drv_compile.proofs.Joined.{joined}
 use Rattle.drv_compile.proofs.Settled.{goes_by, tried_goes}
-use Rattle.drv_compile.specs.Code.Compiling.{Carried, DoesNoted, IsClosed, IsOpened, Noting, OpensWork, Spoken, TellsStop, Worked}
-use Rattle.drv_compile.specs.Code.Settling.{BeginsToGo, Going}
+use Rattle.drv_compile.specs.Code.Compiling.{Carried, DoesNoted, IsClosed, IsOpened, Noting, OpensWork, Spoken, TellsStop, TellsText}
+use Rattle.drv_compile.specs.Code.Compiling.{Worked}
+use Rattle.drv_compile.specs.Settling.{BeginsToGo, Going}
 use Rattle.drv_compile.specs.Compiles.{Closes, Comes, Compiled, Ends, Opens, Refuses, closed, closing, cut_short, lacks_program, noted}
 use Rattle.drv_compile.specs.Compiles.{refused, settings, silent, spoken, unnoted, worked}
 use Rattle.drv_compile.specs.Inputs.{Noted}
@@ -13,7 +14,8 @@ use Rattle.drv_compile.specs.declared.compiling.Outcome.{Outcome}
 use Rattle.drv_compile.specs.declared.host.HostEvent.TheVariants.{Set}
 use Rattle.drv_compile.specs.declared.host.HostEvent.{HostEvent}
 use Rattle.drv_compile.specs.declared.preparing.Prepared.{Prepared}
-use Rattle.drv_compile.specs.declared.stop.Stop.TheVariants.{Memory, Told}
+use Rattle.drv_compile.specs.declared.running.DriverLine.{DriverLine}
+use Rattle.drv_compile.specs.declared.stop.Stop.TheVariants.{Memory, Told, Undone}
 use Rattle.drv_compile.specs.declared.stop.Stop.{Stop}
 use Rattle.drv_run.proofs.Tellings.{no_pipe_after_texts}
 use Rattle.drv_run.specs.Calls.{DoesWork, OnlySays}
@@ -42,7 +44,7 @@ use Rattle.std.specs.Prelude.{get_or, ⊤}
 -- `after` are the host's events before the loop, so far, and after one more. `status` is an exit status. `outcome` is how the call ends.
 -- `stop` is why it ends before its work. `F'` is what the call knows. `Noted before after P`: events were added, of which P holds.
 -- `settings at children` is the events that set these variables. `Going` is what was asked for the folder of temporaries
--- (specs/Code/Settling). `DoesWork` is a work that was done (drv_run). `Compiled` is the whole call (specs/Compiles).
+-- (specs/Settling). `DoesWork` is a work that was done (drv_run). `Compiled` is the whole call (specs/Compiles).
 
 -- the variables of a line, one after another
 
@@ -331,8 +333,9 @@ Declined F' calling own args seed stop events = (G : Facts) → Extends F' G →
 -- For `say_stop`: if a refusal was said with the status 1, then the call is `Compiled` with it.
 refusal_said : {journal mid journal'' : List Event} {F' : Facts} {first notes notes' : List HostEvent} (calling : Calling)
     (own : Option (List ℕ)) (args : List (List ℕ)) (seed : ℕ)
-    (text : List ℕ) (status : ℕ) → Going journal mid first notes F' → Noted notes notes' (Declined F' calling own args seed (Told text))
-    → TellsStop mid journal'' (Told text) (Done status) → Compiled journal journal'' first notes' calling own args seed (Done status)
+    (text : List ℕ) (status : ℕ) → Going journal mid first notes F'
+    → Noted notes notes' (λ events. (G : Facts) → Extends F' G → Refuses G calling own args seed events text)
+    → TellsText mid journal'' text (Done status) → Compiled journal journal'' first notes' calling own args seed (Done status)
 refusal_said {journal} {F' = F'} {first = first} calling own args seed text status before (resolved, grown, refuses) (told, one, says) =
     record {
       asked = before.asked;
@@ -350,12 +353,27 @@ refusal_said {journal} {F' = F'} {first = first} calling own args seed text stat
           (refused (refuses F' (extends_refl F')));
     }
 
+-- For `say_stop`: if a text was said, or memory lacked and nothing was, then that is so of the stop that has it.
+pub told_said : (journal journal' : List Event) (text : List ℕ) (outcome : Outcome) → TellsText journal journal' text outcome
+    → TellsStop journal journal' (Told text) outcome
+told_said journal journal' text (Done status) says = says
+told_said journal journal' text (Unnoted status) says = says
+told_said journal journal' text OutOfMemory says = says
+
+pub undone_said : (journal journal' : List Event) (text : List ℕ) (line : DriverLine) (outcome : Outcome)
+    → TellsText journal journal' text outcome → TellsStop journal journal' (Undone text line) outcome
+undone_said journal journal' text line (Done status) says = says
+undone_said journal journal' text line (Unnoted status) says = says
+undone_said journal journal' text line OutOfMemory says = says
+
 -- For `say_stop`: if a refusal was said, or memory lacked and nothing was, then the call is `Compiled`.
 pub compiled_stopped : {journal mid journal'' : List Event} {F' : Facts} {first notes notes' : List HostEvent} (calling : Calling)
     (own : Option (List ℕ)) (args : List (List ℕ)) (seed : ℕ)
     (stop : Stop) (outcome : Outcome) → Going journal mid first notes F' → Noted notes notes' (Declined F' calling own args seed stop)
     → TellsStop mid journal'' stop outcome → Compiled journal journal'' first notes' calling own args seed outcome
 compiled_stopped calling own args seed (Told text) (Done status) before declined tells =
+    refusal_said calling own args seed text status before declined tells
+compiled_stopped calling own args seed (Undone text line) (Done status) before declined tells =
     refusal_said calling own args seed text status before declined tells
 compiled_stopped calling own args seed Memory (Done status) before declined tells = absurd tells
 compiled_stopped calling own args seed stop (Unnoted status) before declined tells = absurd tells

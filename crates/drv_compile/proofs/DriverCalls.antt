@@ -6,7 +6,7 @@ use Rattle.drv_cc.specs.declared.answer.Call.{Call}
 use Rattle.drv_cc.specs.declared.answer.Variable.{Variable}
 use Rattle.drv_cc.specs.declared.refusal.Refusal.{Refusal}
 use Rattle.drv_compile.proofs.RowsAsked.{asked_alike}
-use Rattle.drv_compile.proofs.Worded.{stop_stays, told_as}
+use Rattle.drv_compile.proofs.Worded.{stop_stays, told_as, undone_tells}
 use Rattle.drv_compile.specs.Code.Refusing.{IsEndSaid}
 use Rattle.drv_compile.specs.Compilers.{values}
 use Rattle.drv_compile.specs.Driven.{IsCalled, IsChosen, IsDenied, IsMachined, IsMade, IsUnanswered, IsUncalled, IsUndrivenAfter, IsWorker}
@@ -19,7 +19,7 @@ use Rattle.drv_compile.specs.Near.{AreTold}
 use Rattle.drv_compile.specs.Parts.{texts_of}
 use Rattle.drv_compile.specs.Releases.{children_by}
 use Rattle.drv_compile.specs.Suffixes.{suffixed_by}
-use Rattle.drv_compile.specs.Tasks.{IfTold}
+use Rattle.drv_compile.specs.Tasks.{IfTold, undone}
 use Rattle.drv_compile.specs.Texts.{damaged_text}
 use Rattle.drv_compile.specs.declared.driving.Driven.{Driven}
 use Rattle.drv_compile.specs.declared.driving.Worker.TheVariants.{Driver, Nobody}
@@ -184,15 +184,14 @@ given_none answer is = subst (λ a. Replaces a None) (sym is) stays
 -- the steps of a line
 
 -- For `worker_after`: if the spec files give no answer, and the stop says why, then the line is refused after them with that text.
-pub undriven_answer : (F : Facts) (line : GccLine) (first : Driven) (stop : Stop) (result : Result Worker Stop)
-    → IsErrAnd result (λ s. s ≡ stop) → IfTold stop (IsUnanswered F line.request.now.calling.now.name line.chain line.given first)
-    → MatchResult result (λ worker. IsWorkerAfter F line.chain line.given first [] worker)
-    (λ s. IfTold s (IsUndrivenAfter F line.request.now.calling.now line.chain line.given first []))
-undriven_answer F line first stop result is tells =
-    stop_stays result stop (λ worker. IsWorkerAfter F line.chain line.given first [] worker)
-    (IsUndrivenAfter F line.request.now.calling.now line.chain line.given first []) is
+pub undriven_answer : (F : Facts) (line : GccLine) (first : Driven) (stop made : Stop) → made ≡ undone stop first.line
+    → IfTold stop (IsUnanswered F line.request.now.calling.now.name line.chain line.given first)
+    → IfTold made (IsUndrivenAfter F line.request.now.calling.now line.chain line.given first [])
+undriven_answer F line first stop made is tells =
+    subst (λ s. IfTold s (IsUndrivenAfter F line.request.now.calling.now line.chain line.given first [])) (sym is)
+    (undone_tells stop first.line (IsUndrivenAfter F line.request.now.calling.now line.chain line.given first [])
     (told_as stop (IsUnanswered F line.request.now.calling.now.name line.chain line.given first)
-    (IsUndrivenAfter F line.request.now.calling.now line.chain line.given first []) (λ text un. not_answered un) tells)
+    (IsUndrivenAfter F line.request.now.calling.now line.chain line.given first []) (λ text un. not_answered un) tells))
 
 -- For `worker_after`: if what the spec files give is refused, and the stop says so, then the line is refused after them with that text.
 pub undriven_denied : (F : Facts) (line : GccLine) (first : Driven) (answer : Option Answer) (stop : Stop) (result : Result Worker Stop)

@@ -9,11 +9,11 @@ pub mod FirstRead
 pub mod Given
 pub mod Joined
 pub mod Leading
+pub mod LinesPrepared
 pub mod LinkLibraries
 pub mod MachineRows
 pub mod Names
 pub mod Noting
-pub mod Prepared
 pub mod Ran
 pub mod RowsAsked
 pub mod Served

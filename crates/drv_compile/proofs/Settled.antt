@@ -1,4 +1,4 @@
-use Rattle.drv_compile.specs.Code.Settling.{BeginsToGo, Going, IsFolder, IsTried}
+use Rattle.drv_compile.specs.Settling.{BeginsToGo, Going, IsFolder, IsTried}
 use Rattle.drv_compile.specs.Compiles.{GoesBy, settled, unnamed, unsettled}
 use Rattle.drv_compile.specs.Inputs.{Noted}
 use Rattle.drv_compile.specs.TempFolder.{Chooses, IsSettled, Tries, folder_names, folders_of_all, if_set, named_by, own, tries_last}
@@ -38,7 +38,7 @@ use Rattle.std.specs.Prelude.{◌≢◌, get_or, if◌then◌else◌, is_some}
 -- `tried` are what was added to these. `result` is what the code's call gives. `Noted before after P`: events were added, of which P holds.
 -- `Adds names before after`: these names were added (drv_search). `Chooses names events folder` and `Tries names events` say which folder
 -- the host's answers choose, or that they chose none yet (specs/TempFolder). `IsSettled F folder G`: G is F with that folder. `Extends F
--- G`: G knows all that F knows. `IsFolder`, `IsTried`, `Going` and `BeginsToGo` are in specs/Code/Settling.
+-- G`: G knows all that F knows. `IsFolder`, `IsTried`, `Going` and `BeginsToGo` are in specs/Settling.
 
 -- the names
 

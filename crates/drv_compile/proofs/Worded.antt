@@ -8,13 +8,13 @@ use Rattle.drv_c99.specs.declared.fault.C99Fault.{C99Fault}
 use Rattle.drv_compile.specs.Code.Preparing.{IsFailure}
 use Rattle.drv_compile.specs.Code.Refusing.{IsEndSaid}
 use Rattle.drv_compile.specs.Runs.{Stops}
-use Rattle.drv_compile.specs.Tasks.{IfTold}
+use Rattle.drv_compile.specs.Tasks.{IfTold, undone}
 use Rattle.drv_compile.specs.Words.{IsUnexpanded, IsUnfronted, IsUnread, RefusesWords, Words, first_unread, if_unread, words_of_front}
 use Rattle.drv_compile.specs.Words.{not_expanded, not_fronted, not_readable, or_later, stop_of, unread_at, with_words, within_limit}
 use Rattle.drv_compile.specs.declared.calling.Calling.{Calling}
 use Rattle.drv_compile.specs.declared.calling.Front.TheVariants.{C99}
 use Rattle.drv_compile.specs.declared.running.DriverLine.{DriverLine}
-use Rattle.drv_compile.specs.declared.stop.Stop.TheVariants.{Memory, Told}
+use Rattle.drv_compile.specs.declared.stop.Stop.TheVariants.{Memory, Told, Undone}
 use Rattle.drv_compile.specs.declared.stop.Stop.{Stop}
 use Rattle.drv_run.specs.Drives.{stopped_by_args, stopped_by_c99}
 use Rattle.drv_run.specs.declared.ending.Ending.TheVariants.{Done, OutOfMemory, Refused}
@@ -55,7 +55,14 @@ stop_stays (Err s) stop done told is tells = subst (λ s'. IfTold s' told) (sym 
 pub told_as : (stop : Stop) (told told' : List ℕ → Type 0) → ((text : List ℕ) → told text → told' text) → IfTold stop told
     → IfTold stop told'
 told_as (Told text) told told' turns tells = turns text tells
+told_as (Undone text line) told told' turns tells = turns text tells
 told_as Memory told told' turns tells = tt
+
+-- For `prepare_plan` and `worker_after`: if a claim holds of a stop's text, then also beside the driver's line.
+pub undone_tells : (stop : Stop) (line : DriverLine) (told : List ℕ → Type 0) → IfTold stop told → IfTold (undone stop line) told
+undone_tells (Told text) line told tells = tells
+undone_tells (Undone text other) line told tells = tells
+undone_tells Memory line told tells = tt
 
 -- a response file
 pub unread_asked : (F : Facts) (given : Option (List ℕ)) (path named : List ℕ) (answer : ReadAnswer) (found : Option (List ℕ))

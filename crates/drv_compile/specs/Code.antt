@@ -4,5 +4,4 @@ pub mod CutLines
 pub mod Naming
 pub mod Preparing
 pub mod Refusing
-pub mod Settling
 pub mod Working

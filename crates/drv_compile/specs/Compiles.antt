@@ -80,6 +80,7 @@ question compiler args = CarryOut (one_command (record { program = compiler; wor
 pub record IsPlanned (F : Facts) (calling : Calling) (chain : Toolchain) (driven : Driven) (seed : ℕ) (prepared : Prepared) : Type 0 where
   pub opens : opening chain.about driven.line.items driven.children ≡ prepared.said
   pub works : Works F driven.line seed prepared.work
+  pub line : prepared.line ≡ Some driven.line
   pub children : prepared.children ≡ driven.children
   pub wrapper : prepared.wrapper ≡ wrapper_of driven.line.items
   pub hint : prepared.hint ≡ gone_text calling.name chain.specs calling.machine
@@ -123,6 +124,7 @@ pub data Plans (F : Facts) (calling : Calling) (own : Option (List ℕ)) (args :
       → Leads decision (Question file compiler)
       → Plans F calling own args seed [] (record {
         work = question compiler args;
+        line = None;
         children = [];
         wrapper = [];
         said = help_text calling.name compiler args;

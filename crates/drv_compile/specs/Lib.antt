@@ -18,6 +18,7 @@ pub mod Reading
 pub mod Releases
 pub mod Runs
 pub mod SelfSpecs
+pub mod Settling
 pub mod Stamps
 pub mod Suffixes
 pub mod Tasks

@@ -9,7 +9,8 @@ use Rattle.drv_compile.specs.declared.calling.Calling.{Calling}
 use Rattle.drv_compile.specs.declared.deciding.Decision.TheVariants.{Damaged, NoCompiler, NoSpecs, Read}
 use Rattle.drv_compile.specs.declared.deciding.Decision.{Decision}
 use Rattle.drv_compile.specs.declared.deciding.SpecFile.{SpecFile}
-use Rattle.drv_compile.specs.declared.stop.Stop.TheVariants.{Memory, Told}
+use Rattle.drv_compile.specs.declared.running.DriverLine.{DriverLine}
+use Rattle.drv_compile.specs.declared.stop.Stop.TheVariants.{Memory, Told, Undone}
 use Rattle.drv_compile.specs.declared.stop.Stop.{Stop}
 use Rattle.drv_compile.specs.declared.tasks.Task.TheVariants.{Compilation, Question}
 use Rattle.drv_compile.specs.declared.tasks.Task.{Task}
@@ -37,4 +38,11 @@ pub data Declines (calling : Calling) : Decision → List ℕ → Type 0 where
 -- why a call ends before its work, unless that is lack of memory
 abbrev pub IfTold : Stop → (List ℕ → Type 0) → Type 0
 IfTold (Told text) what = what text
+IfTold (Undone text line) what = what text
 IfTold Memory what = ⊤
+
+-- why a call ends by what the driver said of this line
+abbrev pub undone : Stop → DriverLine → Stop
+undone (Told text) line = Undone text line
+undone (Undone text other) line = Undone text other
+undone Memory line = Memory

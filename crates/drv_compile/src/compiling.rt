@@ -3,10 +3,10 @@
 // In clauses: `Noted before after P` says that the host was asked, and that P holds of these
 // events.
 ghost use Rattle.drv_compile.specs.Code.Compiling.{Carried, IsClosed, IsOpened, Noting, Spoken};
-ghost use Rattle.drv_compile.specs.Code.Compiling.{TellsStop, Worked};
+ghost use Rattle.drv_compile.specs.Code.Compiling.{TellsStop, TellsText, Worked};
 ghost use Rattle.drv_compile.specs.Compiles.{Compiled, is_absent, is_missing, is_own};
 ghost use Rattle.drv_compile.specs.Compiles.{jobs_before_link, lacks_program, program_of, settings};
-ghost use Rattle.drv_compile.specs.Code.Settling.{Going};
+ghost use Rattle.drv_compile.specs.Settling.{Going};
 ghost use Rattle.drv_compile.specs.Inputs.{Noted};
 ghost use Rattle.drv_compile.specs.declared.host.HostEvent.{HostEvent};
 ghost use Rattle.drv_system.specs.Running.{run_of};
@@ -223,18 +223,27 @@ fn carried_out<S: System, H: Host<S>>(
     }
 }
 
+/// Says the text of a refusal.
+fn say_refusal<S: System>(sys: &mut S, text: &Word) -> Outcome
+    requires pipe { pipe_pending (run_of (S.events sys.old)) ≡ false }
+    ensures tells { TellsText (S.events sys.old) (S.events sys.new) text.now result }
+    ensures pipe { pipe_pending (run_of (S.events sys.new)) ≡ false }
+{
+    match sys.say(text) {
+        Ok(_) => Outcome::Done(1),
+        Err(_) => Outcome::OutOfMemory,
+    }
+}
+
 /// Says why a call ends before its work.
 fn say_stop<S: System>(sys: &mut S, stop: &Stop) -> Outcome
     requires pipe { pipe_pending (run_of (S.events sys.old)) ≡ false }
     ensures tells { TellsStop (S.events sys.old) (S.events sys.new) stop.now result }
     ensures pipe { pipe_pending (run_of (S.events sys.new)) ≡ false }
 {
-    let Stop::Told(text) = stop else {
-        return Outcome::OutOfMemory;
-    };
-    match sys.say(text) {
-        Ok(_) => Outcome::Done(1),
-        Err(_) => Outcome::OutOfMemory,
+    match stop {
+        Stop::Told(text) | Stop::Undone(text, _) => say_refusal(sys, text),
+        Stop::Memory => Outcome::OutOfMemory,
     }
 }
 

@@ -25,7 +25,7 @@ use crate::request::GccLine;
 use crate::row_asking::row_asked;
 use crate::running::DriverLine;
 use crate::self_specs::answer_given;
-use crate::stop::Stop;
+use crate::stop::{Stop, undone};
 use crate::suffixing::suffixed_by;
 use crate::telling::refusals_text;
 use crate::wording::damaged_text;
@@ -226,10 +226,12 @@ fn worker_after<S: System, H: Host<S>>(
         (λ stop. IfTold stop
         (IsUndrivenAfter F line.now.request.now.calling.now line.now.chain line.now.given first events))) }
 {
-    let answer = answer(alloc, line, &first, outside)?;
-    match call_given(alloc, line, answer)? {
-        Some(call) => driver_of_call(alloc, line, call, outside, host),
-        None => Ok(Worker::Driver(first)),
+    match answer(alloc, line, &first, outside) {
+        Ok(answer) => match call_given(alloc, line, answer)? {
+            Some(call) => driver_of_call(alloc, line, call, outside, host),
+            None => Ok(Worker::Driver(first)),
+        },
+        Err(stop) => Err(undone(stop, first.line)),
     }
 }
 

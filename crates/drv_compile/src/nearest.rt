@@ -220,11 +220,7 @@ fn meant_by(alloc: Global, word: &[u8], name: &[u8]) -> Result<Word, AllocError>
 
 /// The option that a word was meant to be, if one of these names is near: with the word's own
 /// argument, where it takes one after `=`.
-pub(crate) fn option_meant(
-    alloc: Global,
-    known: &[Word],
-    word: &[u8],
-) -> Result<Option<Word>, AllocError>
+pub fn option_meant(alloc: Global, known: &[Word], word: &[u8]) -> Result<Option<Word>, AllocError>
     ensures { IfOk result (λ near. MayMean known.now word.now near) }
 {
     let Some(place) = nearest(alloc, known, word)? else {

@@ -28,7 +28,7 @@ use crate::request::{GccLine, Request};
 use crate::running::{DriverLine, work_of_items};
 use crate::speaking::opening;
 use crate::stamps::is_stale;
-use crate::stop::Stop;
+use crate::stop::{Stop, undone};
 use crate::tasks::{Task, task_of};
 use crate::wording::{gone_text, help_text, overwrite_text, unworded_text, version_text};
 use crate::wrapping::wrapper_of;
@@ -43,21 +43,23 @@ use std::mem::replace;
 
 /// What a call does.
 #[derive(Drop)]
-pub(crate) struct Prepared {
+pub struct Prepared {
     /// Its work.
-    pub(crate) work: Work,
+    pub work: Work,
+    /// What the driver is called with; none for a question to the compiler.
+    pub line: Option<DriverLine>,
     /// The variables that are set for its children.
-    pub(crate) children: Listing<Variable>,
+    pub children: Listing<Variable>,
     /// The program that the line has as wrapper of its commands, or empty.
-    pub(crate) wrapper: Word,
+    pub wrapper: Word,
     /// What is said before it.
-    pub(crate) said: Word,
+    pub said: Word,
     /// What is said after a run that did not find a program of the compiler.
-    pub(crate) hint: Word,
+    pub hint: Word,
     /// The lines about the compiler that it goes by.
-    pub(crate) about: Word,
+    pub about: Word,
     /// What is said after any other.
-    pub(crate) remark: Word,
+    pub remark: Word,
 }
 
 /// The plan that has one command.
@@ -178,16 +180,19 @@ fn prepare_plan<S: System>(
     let wrapper = Word::from_bytes(alloc, wrapper_of(items))?;
     let about = line.chain.about.clone()?;
     let said = opening(alloc, about.as_bytes(), items, driven.children.as_slice())?;
-    let work = work_or_stop(alloc, name, &driven.line, line.request.seed, outside)?;
-    Ok(Prepared {
-        work,
-        children: driven.children,
-        wrapper,
-        said,
-        hint,
-        about,
-        remark: Word::empty(alloc),
-    })
+    match work_or_stop(alloc, name, &driven.line, line.request.seed, outside) {
+        Ok(work) => Ok(Prepared {
+            work,
+            line: Some(driven.line),
+            children: driven.children,
+            wrapper,
+            said,
+            hint,
+            about,
+            remark: Word::empty(alloc),
+        }),
+        Err(stop) => Err(undone(stop, driven.line)),
+    }
 }
 
 /// What a call does for a line that nothing refuses.
@@ -266,6 +271,7 @@ fn prepare_question(
     let work = question(alloc, compiler, args)?;
     Ok(Prepared {
         work,
+        line: None,
         children: Listing::new(alloc),
         wrapper: Word::empty(alloc),
         said,
@@ -334,7 +340,7 @@ fn warned(alloc: Global, prepared: Prepared, stale: bool) -> Result<Prepared, Al
 /// # Errors
 /// The text of its refusal.
 #[tactic(auto, using(drv_system::proofs::AskedCalls::asked_further))]
-pub(crate) fn prepare<S: System, H: Host<S>>(
+pub fn prepare<S: System, H: Host<S>>(
     alloc: Global,
     request: &Request<'_>,
     outside: &mut Outside<'_, S>,

@@ -31,11 +31,11 @@ use std::mem::forget;
 
 /// The driver's line, as items.
 #[derive(Drop)]
-pub(crate) struct DriverLine {
+pub struct DriverLine {
     /// Its items.
-    pub(crate) items: Listing<Item>,
+    pub items: Listing<Item>,
     /// Whether words of a response file are among those of the call, even if there were none.
-    pub(crate) from_file: bool,
+    pub from_file: bool,
 }
 
 /// The line that items give.

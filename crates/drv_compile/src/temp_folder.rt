@@ -5,7 +5,7 @@
 // facts that extend what is known. `TellsMore` says that a list got what a definition gives, by any
 // facts that extend what is known. `Noted before after P` says that the host was asked, and that P
 // holds of these events.
-ghost use Rattle.drv_compile.specs.Code.Settling.{BeginsToGo, Going, IsFolder, IsTried};
+ghost use Rattle.drv_compile.specs.Settling.{BeginsToGo, Going, IsFolder, IsTried};
 ghost use Rattle.drv_compile.specs.Inputs.{Noted};
 ghost use Rattle.drv_compile.specs.TempFolder.{Chooses, Tries, folder_names, folders_of_all, if_set};
 ghost use Rattle.drv_compile.specs.TempFolder.{named_by};
@@ -122,7 +122,7 @@ fn folder_asked<S: System, H: Host<S>>(
 
 /// Asks for the folder of temporaries, and puts it into a table that has no answer yet, as the
 /// value of TMPDIR.
-pub(crate) fn settle<S: System, H: Host<S>>(
+pub fn settle<S: System, H: Host<S>>(
     alloc: Global,
     sys: &mut S,
     facts: &mut FactTable,

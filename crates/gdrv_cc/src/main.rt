@@ -6,15 +6,10 @@ ghost use Rattle.gdrv_cc.specs.Endings.{after_crash, status_of};
 ghost use Rattle.std.specs.Prelude.{◌≡◌};
 
 mod completion;
-mod process;
 
 use completion::{asks_completion, write_completion};
-use drv_compile::{Outcome, Request, beside, calling_of, compile};
+use drv_compile::{Outcome, Process, Request, calling_of, compile, own_specs};
 use drv_system::{HostSystem, Reporter, arguments, called_as, clock_seed, complain};
-use drv_words::Word;
-use process::Process;
-use std::alloc::{AllocError, Global};
-use std::env::current_exe;
 use std::io::{self, ErrorKind};
 use std::mem::forget;
 use std::process::ExitCode;
@@ -60,15 +55,6 @@ fn after_crash(outcome: Outcome) -> Outcome
         Outcome::Done(_) => Outcome::Done(CRASHED),
         Outcome::Unnoted(_) => Outcome::Unnoted(CRASHED),
         Outcome::OutOfMemory => Outcome::OutOfMemory,
-    }
-}
-
-/// The path of the spec file beside this program; none where the system doesn't say where the
-/// program lies.
-fn own_specs(rt: &HostRuntime, machine: &[u8]) -> Result<Option<Word>, AllocError> {
-    match current_exe(rt) {
-        Ok(program) => Ok(Some(beside(rt.alloc(), program.as_str().as_bytes(), machine)?)),
-        Err(_) => Ok(None),
     }
 }
 

@@ -3,7 +3,7 @@ use Rattle.drv_compile.specs.declared.compiling.Outcome.TheVariants.{Done, OutOf
 use Rattle.drv_compile.specs.declared.compiling.Outcome.{Outcome}
 use Rattle.drv_compile.specs.declared.host.HostEvent.{HostEvent}
 use Rattle.drv_compile.specs.declared.preparing.Prepared.{Prepared}
-use Rattle.drv_compile.specs.declared.stop.Stop.TheVariants.{Memory, Told}
+use Rattle.drv_compile.specs.declared.stop.Stop.TheVariants.{Memory, Told, Undone}
 use Rattle.drv_compile.specs.declared.stop.Stop.{Stop}
 use Rattle.drv_run.specs.Calls.{Does, OnlySays}
 use Rattle.drv_system.specs.declared.event.Event.TheVariants.{Say}
@@ -60,9 +60,16 @@ Carried name journal journal' prepared events OutOfMemory = OnlySays journal jou
 Carried name journal journal' prepared events outcome =
     (events ≡ settings (length journal) prepared.children) × OpensWork name journal journal' prepared outcome
 
+-- a refusal is said
+abbrev pub TellsText : List Event → List Event → List ℕ → Outcome → Type 0
+TellsText journal journal' text OutOfMemory = journal' ≡ journal
+TellsText journal journal' text (Unnoted status) = ⊥
+TellsText journal journal' text (Done status) = (told : TellAnswer) × (status ≡ 1) × (journal' ≡ journal ++ Say text told ∷ [])
+
 -- why a call ends is said
 abbrev pub TellsStop : List Event → List Event → Stop → Outcome → Type 0
 TellsStop journal journal' stop OutOfMemory = journal' ≡ journal
 TellsStop journal journal' stop (Unnoted status) = ⊥
 TellsStop journal journal' Memory (Done status) = ⊥
-TellsStop journal journal' (Told text) (Done status) = (told : TellAnswer) × (status ≡ 1) × (journal' ≡ journal ++ Say text told ∷ [])
+TellsStop journal journal' (Told text) (Done status) = TellsText journal journal' text (Done status)
+TellsStop journal journal' (Undone text line) (Done status) = TellsText journal journal' text (Done status)

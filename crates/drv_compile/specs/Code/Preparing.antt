@@ -17,7 +17,7 @@ use Rattle.drv_compile.specs.declared.running.DriverLine.{DriverLine}
 use Rattle.drv_run.specs.declared.ending.Ending.TheVariants.{Refused}
 use Rattle.drv_run.specs.declared.ending.Refusal.{Refusal}
 use Rattle.drv_system.specs.Facts.{Facts}
-use Rattle.std.specs.Prelude.{◌≡◌, ◌⊎◌, List, [], Some, ℕ}
+use Rattle.std.specs.Prelude.{◌≡◌, ◌⊎◌, List, [], None, Some, ℕ}
 
 -- The steps of a line that is carried out. Only private clauses of src/preparing.rt cite them.
 -- Names: `F` is what is known of the outside. `line` is the line of gcc, with what the call is given, its words and its chain (spec file,
@@ -70,6 +70,7 @@ abbrev pub IsQuestion : Calling → SpecFile → List ℕ → List (List ℕ) �
 IsQuestion calling file compiler args prepared =
     prepared ≡ record {
       work = question compiler args;
+      line = None;
       children = [];
       wrapper = [];
       said = help_text calling.name compiler args;

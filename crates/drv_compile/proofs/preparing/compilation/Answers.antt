@@ -1,5 +1,5 @@
 use Rattle.drv_compile.proofs.Noting.{none_noted}
-use Rattle.drv_compile.proofs.Prepared.{free_as, objected_as, overwriting_fails, performs_noted}
+use Rattle.drv_compile.proofs.LinesPrepared.{free_as, objected_as, overwriting_fails, performs_noted}
 use Rattle.drv_compile.proofs.Worded.{memory_stops}
 use Rattle.drv_compile.proofs.preparing.compilation.Goals as goal
 use Rattle.drv_system.proofs.AskedCalls.{extends_before}

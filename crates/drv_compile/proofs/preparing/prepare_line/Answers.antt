@@ -1,5 +1,5 @@
 use Rattle.drv_compile.proofs.Noting.{memory_noted_over, noted_as}
-use Rattle.drv_compile.proofs.Prepared.{prepared_by_driver, undriven_plan, unworded_plan}
+use Rattle.drv_compile.proofs.LinesPrepared.{prepared_by_driver, undriven_plan, unworded_plan}
 use Rattle.drv_compile.proofs.preparing.prepare_line.Goals as goal
 use Rattle.drv_system.proofs.AskedCalls.{asked_further, extends_before}
 

@@ -1,4 +1,4 @@
-use Rattle.drv_compile.proofs.Prepared.{failed_so, planned_so}
+use Rattle.drv_compile.proofs.LinesPrepared.{failed_so, planned_so}
 use Rattle.drv_compile.proofs.preparing.prepare_plan.Goals as goal
 use Rattle.std.proofs.Common.{◌∙◌}
 

@@ -1,5 +1,5 @@
 use Rattle.drv_compile.proofs.Noting.{none_noted}
-use Rattle.drv_compile.proofs.Prepared.{compilation_comes, decision_stops, question_comes, words_stop}
+use Rattle.drv_compile.proofs.LinesPrepared.{compilation_comes, decision_stops, question_comes, words_stop}
 use Rattle.drv_compile.proofs.Worded.{memory_stops}
 use Rattle.drv_compile.proofs.preparing.prepare_task.Goals as goal
 use Rattle.drv_system.proofs.AskedCalls.{asked_further, extends_before}

@@ -1,5 +1,5 @@
 use Rattle.drv_compile.proofs.Noting.{memory_noted, none_noted}
-use Rattle.drv_compile.proofs.Prepared.{not_overwriting, overwriting_told}
+use Rattle.drv_compile.proofs.LinesPrepared.{not_overwriting, overwriting_told}
 use Rattle.drv_compile.proofs.Worded.{memory_stops}
 use Rattle.drv_compile.proofs.preparing.refuse_overwriting.Goals as goal
 use Rattle.drv_compile.specs.Overwriting.{files_read}

@@ -2,8 +2,9 @@
 
 ghost use Rattle.std.specs.Prelude.{◌≡◌, []};
 
+use crate::host::{Host, HostEvent};
+use crate::places::beside;
 use drv_cc::Variable;
-use drv_compile::{Host, HostEvent};
 use drv_system::{HostSystem, System};
 use drv_words::{Word, copy_word, split_at_last};
 use itoa::Buffer;
@@ -49,6 +50,15 @@ impl Process {
     {
         let notes = Vec::new(rt.alloc());
         Process { rt, notes }
+    }
+}
+
+/// The path of the spec file beside this program; none where the system doesn't say where the
+/// program lies.
+pub fn own_specs(rt: &HostRuntime, machine: &[u8]) -> Result<Option<Word>, AllocError> {
+    match current_exe(rt) {
+        Ok(program) => Ok(Some(beside(rt.alloc(), program.as_str().as_bytes(), machine)?)),
+        Err(_) => Ok(None),
     }
 }
 

@@ -3,7 +3,7 @@ use Rattle.drv_args.specs.declared.line.Expanded.{Expanded}
 use Rattle.drv_cc.specs.declared.answer.Call.{Call}
 use Rattle.drv_cc.specs.declared.answer.Variable.{Variable}
 use Rattle.drv_compile.proofs.Noting.{noted_then}
-use Rattle.drv_compile.proofs.Worded.{stop_stays, told_as}
+use Rattle.drv_compile.proofs.Worded.{stop_stays, told_as, undone_tells}
 use Rattle.drv_compile.specs.Code.Preparing.{IsDone, IsFailure, IsOverwriting, IsPrepared, IsQuestion, IsUndone, IsUnplanned}
 use Rattle.drv_compile.specs.Compiles.{IsPlanned, Plans, Refuses, asks, declines, drives, fails}
 use Rattle.drv_compile.specs.Compiles.{no_words, objected, overwriting, performs, stopped, undriven, unworded}
@@ -13,7 +13,7 @@ use Rattle.drv_compile.specs.Inputs.{Noted, objection}
 use Rattle.drv_compile.specs.Opening.{opening}
 use Rattle.drv_compile.specs.Overwriting.{Overwrites, files_read, files_written}
 use Rattle.drv_compile.specs.Runs.{Works}
-use Rattle.drv_compile.specs.Tasks.{Declines, IfTold, Leads}
+use Rattle.drv_compile.specs.Tasks.{Declines, IfTold, Leads, undone}
 use Rattle.drv_compile.specs.Texts.{gone_text, overwritten_text, unworded_text}
 use Rattle.drv_compile.specs.Words.{RefusesWords, Words}
 use Rattle.drv_compile.specs.Wrapper.{wrapper_of}
@@ -168,6 +168,7 @@ pub planned_so : (F : Facts) (line : GccLine) (driven : Driven) (specs about len
     → hint ≡ gone_text line.request.now.calling.now.name specs line.request.now.calling.now.machine → remark ≡ []
     → IsPlanned F line.request.now.calling.now line.chain driven line.request.now.seed (record {
       work = work;
+      line = Some driven.line;
       children = driven.children;
       wrapper = wrapper;
       said = said;
@@ -182,6 +183,7 @@ planned_so F line driven specs about lent wrapper said hint remark items childre
           sym (opens ∙ ap (λ t. opening t items children) (lends ∙ of) ∙ ap (λ w. opening line.chain.about w children) are
           ∙ ap (opening line.chain.about driven.line.items) set);
       works = works;
+      line = refl;
       children = refl;
       wrapper = wraps ∙ ap wrapper_of are;
       hint = hints ∙ ap (λ s. gone_text line.request.now.calling.now.name s line.request.now.calling.now.machine) same;
@@ -190,15 +192,14 @@ planned_so F line driven specs about lent wrapper said hint remark items childre
     }
 
 -- For `prepare_plan`: if the stop says the refusal by the code's copy of the name, then the line of the driver fails with that text.
-pub failed_so : (F : Facts) (line : GccLine) (driven : Driven) (name : List ℕ) (stop : Stop) (result : Result Prepared Stop)
-    → name ≡ line.request.now.calling.now.name
-    → IsErrAnd result (λ s. s ≡ stop) → IfTold stop (IsFailure F name driven.line line.request.now.seed)
-    → MatchResult result (λ prepared. IsPlanned F line.request.now.calling.now line.chain driven line.request.now.seed prepared)
-    (λ s. IfTold s (IsFailure F line.request.now.calling.now.name driven.line line.request.now.seed))
-failed_so F line driven name stop result named is tells =
-    stop_stays result stop (λ prepared. IsPlanned F line.request.now.calling.now line.chain driven line.request.now.seed prepared)
-    (IsFailure F line.request.now.calling.now.name driven.line line.request.now.seed) is
-    (subst (λ n. IfTold stop (IsFailure F n driven.line line.request.now.seed)) named tells)
+pub failed_undone : (F : Facts) (line : GccLine) (driven : Driven) (name : List ℕ) (stop made : Stop)
+    → name ≡ line.request.now.calling.now.name → made ≡ undone stop driven.line
+    → IfTold stop (IsFailure F name driven.line line.request.now.seed)
+    → IfTold made (IsFailure F line.request.now.calling.now.name driven.line line.request.now.seed)
+failed_undone F line driven name stop made named is tells =
+    subst (λ s. IfTold s (IsFailure F line.request.now.calling.now.name driven.line line.request.now.seed)) (sym is)
+    (undone_tells stop driven.line (IsFailure F line.request.now.calling.now.name driven.line line.request.now.seed)
+    (subst (λ n. IfTold stop (IsFailure F n driven.line line.request.now.seed)) named tells))
 
 -- For `prepare_line`: if nobody carries the line out, and the stop says why, then nothing is prepared, for that reason.
 pub undriven_plan : (F : Facts) (line : GccLine) (call : Call) (events : List HostEvent) (stop : Stop) (result : Result Prepared Stop)

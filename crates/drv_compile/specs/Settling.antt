@@ -6,7 +6,7 @@ use Rattle.drv_system.specs.Known.{Is}
 use Rattle.drv_system.specs.declared.event.Event.{Event}
 use Rattle.std.specs.Prelude.{◌≡◌, ◌⊎◌, List, [], ◌++◌, ℕ}
 
--- What a call goes by while it asks, of two journals. Only private clauses of src/temp_folder.rt and src/compiling.rt cite it.
+-- What a call goes by while it asks, of two journals. For clauses of src/temp_folder.rt and src/compiling.rt.
 -- Names: `F` is what is known of the outside, and `G` that with the folder. `names` is the names that may be the folder's. `events` is what
 -- the host was asked. `journal` and `notes` are the events of the system and of the host before, and `journal'` and `notes'` after. `asked`
 -- and `tried` are what was added to these. `AreNew F asked`: none of these questions was answered before. `learn F asked`: F with their
