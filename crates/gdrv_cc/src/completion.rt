@@ -52,26 +52,31 @@ _gdrv_cc() {
     fi
 }
 
-# A command, a form of the plan, and then a line of gdrv; answers are anywhere in that of `after`.
+# A tool, its options and files, and behind `--` a program and its line.
 _gdrv_specs() {
-    local current=${COMP_WORDS[COMP_CWORD]}
+    local current=${COMP_WORDS[COMP_CWORD]} before=${COMP_WORDS[COMP_CWORD - 1]} place
+    for ((place = 2; place < COMP_CWORD; place++)); do
+        [ "${COMP_WORDS[place]}" != -- ] || break
+    done
     if [ "$COMP_CWORD" = 1 ]; then
         _gdrv_words 'check plan after diff why --help --version' "$current"
+    elif [ "$before" = -- ] && [ "${COMP_WORDS[1]}" != check ]; then
+        _gdrv_words 'gdrv gdrv-cc gcc cc c99' "$current"
+    elif ((place < COMP_CWORD)) && [ "${COMP_WORDS[1]}" != check ]; then
+        _gdrv
     elif [[ ${COMP_WORDS[1]} == check && $current == -* ]]; then
-        _gdrv_words '--gcc --json --over -Werror -Wno-append-to-nothing -Wno-directive-in-body -Wno-hidden-pair
+        _gdrv_words '--gcc --help --json --over= -Werror -Wno-append-to-nothing -Wno-directive-in-body -Wno-hidden-pair
             -Wno-lost-mark -Wno-never-true -Wno-quoted-word -Wno-unknown-text -Wno-unreachable -Wno-unused-text' "$current"
     elif [[ ${COMP_WORDS[1]} == after && $current == -* ]]; then
-        _gdrv_words "--fail $_gdrv_options" "$current"
-    elif [[ ${COMP_WORDS[1]} == diff && $COMP_CWORD -ge 4 && $current == -* ]]; then
-        _gdrv_words '--' "$current"
+        _gdrv_words '-- --fail= --help' "$current"
     elif [[ ${COMP_WORDS[1]} == diff && $current == -* ]]; then
-        _gdrv_words '--full' "$current"
-    elif [[ ${COMP_WORDS[1]} == why && $COMP_CWORD -le 3 && $current == -* ]]; then
-        _gdrv_words "--json --not= --of= --switches $_gdrv_options" "$current"
-    elif [[ ${COMP_WORDS[1]} == plan && $COMP_CWORD == 2 && $current == -* ]]; then
-        _gdrv_words "--json --sh $_gdrv_options" "$current"
+        _gdrv_words '-- --full --help' "$current"
+    elif [[ ${COMP_WORDS[1]} == why && $current == -* ]]; then
+        _gdrv_words '-- --help --json --not= --of= --switches' "$current"
+    elif [[ ${COMP_WORDS[1]} == plan && $current == -* ]]; then
+        _gdrv_words '-- --help --json --sh' "$current"
     else
-        _gdrv
+        _gdrv_files '' "$current"
     fi
 }
 

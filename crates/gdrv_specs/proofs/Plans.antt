@@ -11,7 +11,7 @@ use Rattle.gdrv_specs.specs.declared.outcome.Outcome.TheVariants.{Ended, NoPlan}
 use Rattle.std.proofs.Common.{◌≡◌, ◌∙◌, List, [], Some, refl, sym, ℕ}
 use Rattle.std.proofs.lemmas.List.{append-nil}
 
--- For `tell_plan` (src/planning.rt): the call prints the plan of the line's work.
+-- For `tell_driver_plan` (src/planning.rt): the call prints the plan of the line's work.
 -- Names: `journal` is the events of the system before, and `journal'` after. `form` is the form that is asked for. `plan` is the plan, and
 -- `work` what the line asks for. `status` is the exit status. `TellsWork T journal journal' work outcome`: the work was printed as T says
 -- (specs/Told). `TellsOf form` is the printing of plans (specs/Plans).

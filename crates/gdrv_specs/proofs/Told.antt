@@ -12,7 +12,7 @@ use Rattle.gdrv_specs.specs.declared.outcome.Outcome.{Outcome}
 use Rattle.std.proofs.Common.{◌≡◌, ◌∙◌, ◌++◌, Err, List, Ok, [], ap, inl, inr, refl, subst, sym, ℕ}
 use Rattle.std.proofs.lemmas.List.{append-nil}
 
--- For `tell_plan` (src/planning.rt): a call adds questions to the journal, and one text at most.
+-- For `tell_driver_plan` (src/planning.rt): a call adds questions to the journal, and one text at most.
 -- Names: `F`, `F'` and `G` are what is known of the outside. `journal` is the events of the system before, `journal'` after the questions,
 -- and `journal''` at the end. `line` is the words of the line. `seed` is that for the names of temporaries. `work` is what the line asks
 -- for, and `ending` how it ends in place of that. `T` says what is printed of a work. `outcome` is how the call ends. `Comes F args seed

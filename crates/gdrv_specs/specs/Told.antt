@@ -1,4 +1,3 @@
-use Rattle.drv_run.specs.Calls.{status_of}
 use Rattle.drv_run.specs.Drives.{Drives, Refuses}
 use Rattle.drv_run.specs.declared.ending.Ending.TheVariants.{OutOfMemory, Refused}
 use Rattle.drv_run.specs.declared.work.Work.{Work}
@@ -6,6 +5,7 @@ use Rattle.drv_system.specs.Asking.{AreNew}
 use Rattle.drv_system.specs.Facts.{Facts, learn, no_facts}
 use Rattle.drv_system.specs.declared.event.Event.TheVariants.{Put}
 use Rattle.drv_system.specs.declared.event.Event.{Event}
+use Rattle.drv_system.specs.declared.event.TellAnswer.TheVariants.{Failed, Told}
 use Rattle.drv_system.specs.declared.event.TellAnswer.{TellAnswer}
 use Rattle.gdrv_specs.specs.declared.outcome.Outcome.TheVariants.{Ended}
 use Rattle.gdrv_specs.specs.declared.outcome.Outcome.{Outcome}
@@ -14,9 +14,14 @@ use Rattle.std.specs.Prelude.{◌≡◌, ◌⊎◌, List, [], ◌∷◌, ◌++�
 -- What telling something of a line is: questions, and then one text at most (this project's profile).
 -- For clauses of src/planning.rt.
 
+-- the exit status of a call whose text was written, or couldn't be
+abbrev pub status_told : TellAnswer → ℕ
+status_told Told = 0
+status_told Failed = 2
+
 -- a text was written to standard output once, and nothing else was done
 abbrev pub Puts : List ℕ → ℕ → List Event → Type 0
-Puts text status told = (answer : TellAnswer) × (told ≡ Put text answer ∷ []) × (status ≡ status_of answer)
+Puts text status told = (answer : TellAnswer) × (told ≡ Put text answer ∷ []) × (status ≡ status_told answer)
 
 -- a text was written once and nothing else was done, of two journals
 abbrev pub PutsText : List Event → List Event → List ℕ → ℕ → Type 0

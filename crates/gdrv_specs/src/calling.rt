@@ -1,12 +1,13 @@
-//! What a call of the program asks for. A word that changes here changes in `help.rt`, in
-//! docs/gdrv-specs.1 and in crates/gdrv_cc/src/completion.rt too.
+//! What a call of the program asks for.
 
-use crate::cutting::cut_words;
-use crate::differing::Comparison;
+use crate::command_line::{CommandLine, Program, command_of};
+use crate::differing::{Comparison, Side, side_of};
 use crate::explaining::{Scope, View};
 use crate::forms::Form;
 use crate::help::Question;
-use crate::requesting::{Request, request_of};
+use crate::options::{Choice, Tool, near_tool, tool_named};
+use crate::requesting::{Chosen, Request, request_of};
+use crate::selecting::{Selection, selection_of};
 use drv_forms::Detail;
 use drv_why::Report;
 use drv_words::{Listing, Word, copy_words};
@@ -17,24 +18,24 @@ use std::alloc::{AllocError, Global};
 pub enum Call {
     /// What the program says of itself.
     Ask(Question),
-    /// The plan of a line of the driver, in a form.
+    /// The plan of a command, in a form.
     Plan {
         form: Form,
-        line: Listing<Word>,
+        command: CommandLine,
     },
-    /// The run of a line of the driver, where these words give some answers ahead.
+    /// The run of a command, where these words give some answers ahead.
     After {
         given: Listing<Word>,
-        line: Listing<Word>,
+        command: CommandLine,
     },
-    /// What differs between the plans of a line with one spec file and with another.
+    /// What differs between the plans of a command with one spec file and with another.
     Differ(Comparison),
     /// What is found in spec files.
-    Check(Request),
-    /// Where the words of a line's plan are from, what becomes of its switches, or both.
+    Check(Selection),
+    /// Where the words of a command's plan are from, or what becomes of its switches.
     Why {
         view: View,
-        line: Listing<Word>,
+        command: CommandLine,
     },
 }
 
@@ -44,21 +45,37 @@ pub enum CallFault {
     /// Memory was wanted.
     Memory,
     /// It has no word.
-    NoCommand,
-    /// No command has the name that is its first word.
-    UnknownCommand(Word),
-    /// No word follows the last `--fail`.
-    MissingAnswer,
+    NoTool,
+    /// No tool has the name that is its first word; one may be near.
+    UnknownTool {
+        word: Word,
+        near: Option<Word>,
+    },
+    /// The tool has no such option; one may be near.
+    UnknownOption {
+        tool: Tool,
+        word: Word,
+        near: Option<Word>,
+    },
+    /// No word follows this option, which is the last word.
+    MissingArgument(&'static [u8]),
     /// There are more answers than 1000.
     TooManyAnswers,
-    /// `diff` takes the paths of two spec files, and then nothing, or `--` and a line.
+    /// `diff` takes the paths of two spec files, and then nothing, or `--` and a command.
     NotTwoFiles,
     /// `check` takes the path of one file or more.
     NoFiles,
-    /// `check` has no such option.
-    UnknownOption(Word),
-    /// No word follows the last `--over`.
-    MissingFile,
+    /// The tool takes no file.
+    StrayWord {
+        tool: Tool,
+        word: Word,
+    },
+    /// The tool takes a command.
+    NoCommand(Tool),
+    /// No word follows `--`.
+    NoProgram,
+    /// Nobody here reads the line of this program.
+    UnknownProgram(Word),
 }
 
 impl From<AllocError> for CallFault {
@@ -70,168 +87,218 @@ impl From<AllocError> for CallFault {
 /// The most answers that a call gives ahead.
 const MOST_ANSWERS: usize = 1000;
 
-/// The words behind this one, if it is the first.
-fn behind<'a>(words: &'a [Word], first: &[u8]) -> Option<&'a [Word]> {
-    match words {
-        [word, rest @ ..] if word.as_bytes() == first => Some(rest),
-        _ => None,
+/// The command of a tool that takes no file.
+fn command_alone(
+    rt: &HostRuntime,
+    tool: Tool,
+    request: &Request,
+) -> Result<CommandLine, CallFault> {
+    if let [word, ..] = request.files.as_slice() {
+        let word = word.clone()?;
+        return Err(CallFault::StrayWord { tool, word });
+    }
+    match &request.command {
+        Some(words) => command_of(rt, words.as_slice()),
+        None => Err(CallFault::NoCommand(tool)),
     }
 }
 
-/// The plan that the words after the command ask for: the first one may ask for its form.
-fn plan_asked(alloc: Global, words: &[Word]) -> Result<Call, CallFault> {
-    let (form, line) = if let Some(line) = behind(words, b"--json") {
-        (Form::Json, line)
-    } else if let Some(line) = behind(words, b"--sh") {
-        (Form::Script, line)
-    } else {
-        (Form::Lines, words)
-    };
-    let line = copy_words(alloc, line)?;
-    Ok(Call::Plan { form, line })
+/// The form of a plan that options ask for: the last one counts.
+fn form_of(chosen: &[Chosen]) -> Form {
+    let mut form = Form::Lines;
+    for option in chosen {
+        match option.choice {
+            Choice::Json => form = Form::Json,
+            Choice::Script => form = Form::Script,
+            _ => {}
+        }
+    }
+    form
 }
 
-/// The run that the words after the command ask for.
-fn run_asked(alloc: Global, words: &[Word]) -> Result<Call, CallFault> {
-    let cut = cut_words(alloc, words)?;
-    if cut.awaits {
-        return Err(CallFault::MissingAnswer);
+/// The plan that a call asks for.
+fn plan_asked(rt: &HostRuntime, request: &Request) -> Result<Call, CallFault> {
+    let command = command_alone(rt, Tool::Plan, request)?;
+    let form = form_of(request.chosen.as_slice());
+    Ok(Call::Plan { form, command })
+}
+
+/// The answers that options give.
+fn answers_of(alloc: Global, chosen: &[Chosen]) -> Result<Listing<Word>, AllocError> {
+    let mut given = Listing::new(alloc);
+    for option in chosen {
+        if matches!(option.choice, Choice::Fail) {
+            given.push(option.argument.clone()?)?;
+        }
     }
-    if cut.given.len() > MOST_ANSWERS {
+    Ok(given)
+}
+
+/// The run that a call asks for.
+fn run_asked(rt: &HostRuntime, request: &Request) -> Result<Call, CallFault> {
+    let given = answers_of(rt.alloc(), request.chosen.as_slice())?;
+    if given.len() > MOST_ANSWERS {
         return Err(CallFault::TooManyAnswers);
     }
-    Ok(Call::After {
-        given: cut.given,
-        line: cut.line,
+    let command = command_alone(rt, Tool::After, request)?;
+    Ok(Call::After { given, command })
+}
+
+/// The command that prints all texts.
+fn dumping_command(alloc: Global) -> Result<CommandLine, AllocError> {
+    let mut words = Listing::new(alloc);
+    words.push(Word::from_bytes(alloc, b"-dumpspecs")?)?;
+    Ok(CommandLine {
+        program: Program::Driver,
+        words,
+        seed: 0,
     })
 }
 
-/// The line that prints all texts.
-fn dumping_line(alloc: Global) -> Result<Listing<Word>, AllocError> {
-    let mut line = Listing::new(alloc);
-    line.push(Word::from_bytes(alloc, b"-dumpspecs")?)?;
-    Ok(line)
+/// The command of a comparison: without one it is of the texts.
+fn command_compared(
+    rt: &HostRuntime,
+    command: &Option<Listing<Word>>,
+) -> Result<CommandLine, CallFault> {
+    match command {
+        Some(words) => command_of(rt, words.as_slice()),
+        None => Ok(dumping_command(rt.alloc())?),
+    }
 }
 
-/// The line of a comparison, by the words behind the two files: without a word it is one of their
-/// texts.
-fn line_compared(alloc: Global, words: &[Word]) -> Result<Listing<Word>, CallFault> {
-    if let Some(line) = behind(words, b"--") {
-        return Ok(copy_words(alloc, line)?);
-    }
-    if !words.is_empty() {
-        return Err(CallFault::NotTwoFiles);
-    }
-    Ok(dumping_line(alloc)?)
+/// How much is printed of what differs.
+fn detail_of(chosen: &[Chosen]) -> Detail {
+    let full = chosen
+        .iter()
+        .any(|option| matches!(option.choice, Choice::Full));
+    if full { Detail::Lines } else { Detail::Words }
 }
 
-/// The comparison that the words after the command ask for.
-fn difference_asked(alloc: Global, words: &[Word]) -> Result<Call, CallFault> {
-    let (detail, words) = match behind(words, b"--full") {
-        Some(rest) => (Detail::Lines, rest),
-        None => (Detail::Words, words),
-    };
-    let [first, second, rest @ ..] = words else {
+/// One side of a comparison: its command with this spec file.
+fn side_asked(rt: &HostRuntime, request: &Request, path: &Word) -> Result<Side, CallFault> {
+    let command = command_compared(rt, &request.command)?;
+    Ok(side_of(rt.alloc(), path, command)?)
+}
+
+/// The comparison that a call asks for.
+fn difference_asked(rt: &HostRuntime, request: &Request) -> Result<Call, CallFault> {
+    let [first, second] = request.files.as_slice() else {
         return Err(CallFault::NotTwoFiles);
     };
-    let line = line_compared(alloc, rest)?;
+    let first = side_asked(rt, request, first)?;
+    let mut second = side_asked(rt, request, second)?;
+    // Names of temporaries are no difference.
+    second.command.seed = first.command.seed;
     Ok(Call::Differ(Comparison {
-        detail,
-        first: first.clone()?,
-        second: second.clone()?,
-        line,
+        detail: detail_of(request.chosen.as_slice()),
+        first,
+        second,
     }))
 }
 
-/// The check that the words after the command ask for.
-fn check_asked(alloc: Global, words: &[Word]) -> Result<Call, CallFault> {
-    let mut request = request_of(alloc, words)?;
-    if let Some(word) = request.unknown.take() {
-        return Err(CallFault::UnknownOption(word));
-    }
-    if request.awaits {
-        return Err(CallFault::MissingFile);
-    }
-    if request.files.is_empty() {
-        return Err(CallFault::NoFiles);
-    }
-    Ok(Call::Check(request))
-}
-
-/// The form of a report, and the words behind the one that asks for it.
-fn cut_report(otherwise: Report, words: &[Word]) -> (Report, &[Word]) {
-    match behind(words, b"--json") {
-        Some(rest) => (Report::Json, rest),
-        None => (otherwise, words),
-    }
-}
-
-/// What a word asks about a line.
-fn scope_named(alloc: Global, word: &[u8]) -> Result<Option<Scope>, AllocError> {
-    if word == b"--switches".as_slice() {
-        return Ok(Some(Scope::Switches));
-    }
-    if let Some(asked) = word.strip_prefix(b"--of=".as_slice()) {
-        return Ok(Some(Scope::Of(Word::from_bytes(alloc, asked)?)));
-    }
-    if let Some(asked) = word.strip_prefix(b"--not=".as_slice()) {
-        return Ok(Some(Scope::Not(Word::from_bytes(alloc, asked)?)));
-    }
-    Ok(None)
-}
-
-/// What the first of these words asks about a line, and the words behind it.
-fn cut_scope(alloc: Global, words: &[Word]) -> Result<(Scope, &[Word]), AllocError> {
-    if let [word, rest @ ..] = words {
-        if let Some(scope) = scope_named(alloc, word.as_bytes())? {
-            return Ok((scope, rest));
+/// The files of a check: words behind `--` are files too.
+fn files_asked(alloc: Global, request: &Request) -> Result<Listing<Word>, AllocError> {
+    let mut files = copy_words(alloc, request.files.as_slice())?;
+    if let Some(words) = &request.command {
+        for word in words.as_slice() {
+            files.push(word.clone()?)?;
         }
     }
-    Ok((Scope::Words, words))
+    Ok(files)
 }
 
-/// What these words after the command ask for: a word for JSON may be before or after the one that
-/// says what is asked.
-fn why_asked(alloc: Global, words: &[Word]) -> Result<Call, CallFault> {
-    let (report, words) = cut_report(Report::Lines, words);
-    let (scope, words) = cut_scope(alloc, words)?;
-    let (report, words) = cut_report(report, words);
+/// The check that a call asks for.
+fn check_asked(alloc: Global, request: &Request) -> Result<Call, CallFault> {
+    let files = files_asked(alloc, request)?;
+    if files.is_empty() {
+        return Err(CallFault::NoFiles);
+    }
+    let selection = selection_of(alloc, request.chosen.as_slice(), files)?;
+    Ok(Call::Check(selection))
+}
+
+/// What an option asks about a command, if it asks that.
+fn scope_by(option: &Chosen) -> Result<Option<Scope>, AllocError> {
+    match option.choice {
+        Choice::Switches => Ok(Some(Scope::Switches)),
+        Choice::Of => Ok(Some(Scope::Of(option.argument.clone()?))),
+        Choice::Not => Ok(Some(Scope::Not(option.argument.clone()?))),
+        _ => Ok(None),
+    }
+}
+
+/// What options ask about a command: the last one counts.
+fn scope_of(chosen: &[Chosen]) -> Result<Scope, AllocError> {
+    let mut scope = Scope::Words;
+    for option in chosen {
+        if let Some(asked) = scope_by(option)? {
+            scope = asked;
+        }
+    }
+    Ok(scope)
+}
+
+/// The form of a report.
+fn report_of(chosen: &[Chosen]) -> Report {
+    let json = chosen
+        .iter()
+        .any(|option| matches!(option.choice, Choice::Json));
+    if json { Report::Json } else { Report::Lines }
+}
+
+/// What a call asks about a command.
+fn why_asked(rt: &HostRuntime, request: &Request) -> Result<Call, CallFault> {
+    let command = command_alone(rt, Tool::Why, request)?;
+    let chosen = request.chosen.as_slice();
+    let scope = scope_of(chosen)?;
+    let report = report_of(chosen);
     Ok(Call::Why {
         view: View { scope, report },
-        line: copy_words(alloc, words)?,
+        command,
     })
+}
+
+/// What a call of a tool with these words asks for.
+fn tool_asked(rt: &HostRuntime, tool: Tool, words: &[Word]) -> Result<Call, CallFault> {
+    let request = request_of(rt.alloc(), tool, words)?;
+    if request.asks_help() {
+        return Ok(Call::Ask(Question::Tool(tool)));
+    }
+    match tool {
+        Tool::Check => check_asked(rt.alloc(), &request),
+        Tool::Plan => plan_asked(rt, &request),
+        Tool::After => run_asked(rt, &request),
+        Tool::Diff => difference_asked(rt, &request),
+        Tool::Why => why_asked(rt, &request),
+    }
+}
+
+/// What the first word asks of the program itself.
+fn question_asked(alloc: Global, word: &Word) -> Result<Call, CallFault> {
+    let bytes = word.as_bytes();
+    if bytes == b"--help".as_slice() || bytes == b"-h".as_slice() {
+        return Ok(Call::Ask(Question::Help));
+    }
+    if bytes == b"--version".as_slice() {
+        return Ok(Call::Ask(Question::Version));
+    }
+    let near = near_tool(alloc, bytes)?;
+    let word = word.clone()?;
+    Err(CallFault::UnknownTool { word, near })
 }
 
 /// What a call with these arguments asks for.
 ///
 /// # Errors
-/// Lack of memory. It has no arguments, or the first one is no command. The words of `--fail` are too
-/// few or too many. The words of `diff` aren't two, or two, `--` and a line. `check` has no path, none
-/// after `--over`, or a word that begins with `-` and is no option.
-pub fn call_of(alloc: Global, args: &[Word]) -> Result<Call, CallFault> {
-    let [command, ..] = args else {
-        return Err(CallFault::NoCommand);
+/// Lack of memory. It has no arguments, or the first one is no tool. An option is none of the tool,
+/// or lacks its argument. The files or the command of the tool are wanting, or nobody here reads
+/// the line of its program.
+pub fn call_of(rt: &HostRuntime, args: &[Word]) -> Result<Call, CallFault> {
+    let [first, words @ ..] = args else {
+        return Err(CallFault::NoTool);
     };
-    if let Some(words) = behind(args, b"plan") {
-        return plan_asked(alloc, words);
+    match tool_named(first.as_bytes()) {
+        Some(tool) => tool_asked(rt, tool, words),
+        None => question_asked(rt.alloc(), first),
     }
-    if let Some(words) = behind(args, b"after") {
-        return run_asked(alloc, words);
-    }
-    if let Some(words) = behind(args, b"diff") {
-        return difference_asked(alloc, words);
-    }
-    if let Some(words) = behind(args, b"check") {
-        return check_asked(alloc, words);
-    }
-    if let Some(words) = behind(args, b"why") {
-        return why_asked(alloc, words);
-    }
-    if let Some(_) = behind(args, b"--help") {
-        return Ok(Call::Ask(Question::Help));
-    }
-    if let Some(_) = behind(args, b"--version") {
-        return Ok(Call::Ask(Question::Version));
-    }
-    Err(CallFault::UnknownCommand(command.clone()?))
 }

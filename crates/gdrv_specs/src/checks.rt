@@ -1,8 +1,9 @@
 //! Prints what is found in spec files.
 
+use crate::colouring::Style;
 use crate::outcome::Outcome;
-use crate::printing::put_visible;
-use crate::requesting::Request;
+use crate::printing::Printer;
+use crate::selecting::Selection;
 use crate::warning_names::{is_name_of, warning_text};
 use drv_check::{
     Checking, FileCheck, Finding, Findings, MOST_FAULTS, Note, Place, Report, Source, Spot, Told,
@@ -86,22 +87,22 @@ fn is_named(warning: Warning, names: &[Word]) -> bool {
 }
 
 /// Whether a check prints this.
-fn is_on(request: &Request, note: &Note) -> bool {
+fn is_on(selection: &Selection, note: &Note) -> bool {
     match note {
         Note::Fault(_) => true,
-        Note::Warned(warning) => !is_named(*warning, request.off.as_slice()),
+        Note::Warned(warning) => !is_named(*warning, selection.off.as_slice()),
     }
 }
 
 /// The findings that are not switched off.
 fn shown_findings(
     alloc: Global,
-    request: &Request,
+    selection: &Selection,
     findings: Findings,
 ) -> Result<Vec<Finding>, AllocError> {
     let mut shown = Vec::new(alloc);
     for finding in findings.into_vec() {
-        if is_on(request, &finding.note) {
+        if is_on(selection, &finding.note) {
             shown.push(finding)?;
         }
     }
@@ -136,23 +137,24 @@ fn verdict(strict: bool, findings: &[Finding]) -> u8 {
 fn put_report<S: System>(
     alloc: Global,
     sys: &mut S,
-    request: &Request,
+    printer: &Printer,
+    selection: &Selection,
     checking: Checking,
 ) -> Result<u8, AllocError> {
     let ended = is_full(&checking, MOST_FAULTS);
-    let findings = shown_findings(alloc, request, checking.findings)?;
-    let status = verdict(request.strict, findings.as_slice());
+    let findings = shown_findings(alloc, selection, checking.findings)?;
+    let status = verdict(selection.strict, findings.as_slice());
     let more = findings.len().saturating_sub(MOST_TOLD);
     let report = Report {
         told: all_told(alloc, checking.sources.as_slice(), findings)?,
         unshown: if ended { None } else { Some(more) },
     };
-    let text = if request.json {
-        report_json(alloc, &report)?
+    let (style, text) = if selection.json {
+        (Style::Plain, report_json(alloc, &report)?)
     } else {
-        report_text(alloc, &report)?
+        (Style::Findings, report_text(alloc, &report)?)
     };
-    match put_visible(alloc, sys, &text)? {
+    match printer.put(alloc, sys, style, &text)? {
         0 => Ok(status),
         failed => Ok(failed),
     }
@@ -161,16 +163,21 @@ fn put_report<S: System>(
 /// Writes the faults of spec files to standard output and what is surely not meant, 100 of them at
 /// most, each with its place (GCC manual, "Spec Files"). It reads the files and those that they include, and does
 /// nothing else: it starts no program and makes, changes and removes no file.
-pub fn tell_check<S: System>(alloc: Global, sys: &mut S, request: &Request) -> Outcome {
+pub fn tell_check<S: System>(
+    alloc: Global,
+    sys: &mut S,
+    printer: &Printer,
+    selection: &Selection,
+) -> Outcome {
     let check = FileCheck {
-        whose: request.whose,
-        over: request.over.as_slice(),
-        names: request.files.as_slice(),
+        whose: selection.whose,
+        over: selection.over.as_slice(),
+        names: selection.files.as_slice(),
     };
     let Ok(checking) = check_files(alloc, &check, sys, &mut FactTable::new(alloc)) else {
         return Outcome::Ended(Ending::OutOfMemory);
     };
-    match put_report(alloc, sys, request, checking) {
+    match put_report(alloc, sys, printer, selection, checking) {
         Ok(status) => Outcome::Ended(Ending::Done(status)),
         Err(_) => Outcome::Ended(Ending::OutOfMemory),
     }

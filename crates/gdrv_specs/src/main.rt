@@ -1,112 +1,103 @@
-//! The tools for spec files: they say what a line of the driver would do, and do not do it.
+//! The tools for spec files: they say what a command would do, and do not do it.
 #![tactic(auto)]
 
 mod calling;
 mod checks;
-mod cutting;
+mod colouring;
+mod command_line;
 mod differing;
 mod explaining;
 mod forms;
 mod help;
+mod misuse;
 mod noting;
+mod options;
 mod outcome;
 mod planning;
 mod printing;
+mod reading;
 mod requesting;
 mod running;
+mod selecting;
+mod terminals;
 mod warning_names;
+mod wording;
 
 use calling::{Call, call_of};
 use checks::tell_check;
+use colouring::Style;
 use differing::tell_difference;
-use drv_check::visible;
+use drv_compile::Process;
 use drv_run::{Ending, Refusal};
-use drv_system::{Event, HostSystem, System, arguments, clock_seed, complain};
+use drv_system::{Event, HostSystem, System, arguments, complain};
 use drv_words::Word;
 use explaining::tell_why;
 use help::Question;
 use noting::call_note;
-use outcome::Outcome;
+use outcome::{Outcome, TROUBLE};
 use planning::tell_plan;
+use printing::Printer;
 use running::tell_after;
 use std::alloc::AllocError;
 use std::io::{self, ErrorKind};
 use std::process::ExitCode;
-use std::rt::Env;
+use terminals::{error_printer, output_printer};
 
 const OUT_OF_MEMORY: &[u8] = b"gdrv-specs: out of memory\n";
 
-/// Writes a text to standard error, of whose bytes none steers a terminal.
-fn say(rt: &HostRuntime, text: &Word) {
-    match visible(rt.alloc(), text) {
+/// Writes a text to standard error, of whose bytes none steers a terminal but those of its colours.
+fn say(rt: &HostRuntime, printer: &Printer, text: &Word) {
+    match printer.shown(rt.alloc(), Style::Findings, text) {
         Ok(shown) => complain(rt, shown.as_bytes()),
         Err(_) => complain(rt, OUT_OF_MEMORY),
     }
 }
 
-/// The exit status of a call of the tool of this name that tells nothing. That of a comparison is
-/// another than where two plans differ.
-fn trouble_of(args: &[Word]) -> u8 {
-    match args {
-        [tool, ..] if tool.as_bytes() == b"diff".as_slice() => 2,
-        _ => 1,
-    }
-}
-
 /// Tells the user of an outcome, and gives its exit status.
-fn finish(rt: &HostRuntime, outcome: &Outcome, trouble: u8) -> ExitCode {
+fn finish(rt: &HostRuntime, printer: &Printer, outcome: &Outcome) -> ExitCode {
     match outcome.text(rt.alloc()) {
-        Ok(text) => say(rt, &text),
+        Ok(text) => say(rt, printer, &text),
         Err(_) => complain(rt, OUT_OF_MEMORY),
     }
-    ExitCode::from(outcome.status(trouble))
+    ExitCode::from(outcome.status())
 }
 
-/// Ends with status 1 for lack of arguments, and says why.
+/// Ends for lack of arguments, and says why.
 fn without_arguments(rt: &HostRuntime, error: &io::Error) -> ExitCode {
     match format!(in rt.alloc(); "gdrv-specs: {error}\n") {
         Ok(text) if error.kind() != ErrorKind::OutOfMemory => complain(rt, text.as_bytes()),
         _ => complain(rt, OUT_OF_MEMORY),
     }
-    ExitCode::from(1)
+    ExitCode::from(TROUBLE)
 }
 
-/// Answers a question on standard output. The exit status is 1 where it couldn't be written.
+/// Answers a question on standard output.
 fn answer(rt: &HostRuntime, asked: Question) -> Outcome {
     let stream = rt.stdout();
     match asked.answer(&mut io::writer(&stream)) {
         Ok(()) => Outcome::Ended(Ending::Done(0)),
-        Err(_) => Outcome::Ended(Ending::Done(1)),
+        Err(_) => Outcome::Ended(Ending::Done(TROUBLE)),
     }
 }
 
 /// Does what a call asks for.
-fn act(rt: &HostRuntime, sys: &mut HostSystem, call: Call) -> Result<Outcome, AllocError> {
+fn act(rt: &HostRuntime, sys: &mut HostSystem, call: &Call) -> Result<Outcome, AllocError> {
     let alloc = rt.alloc();
+    let printer = output_printer(rt, sys)?;
+    let host = &mut Process::new(rt.clone()?);
     Ok(match call {
-        Call::Ask(asked) => answer(rt, asked),
-        Call::Plan { form, line } => tell_plan(alloc, sys, form, line, clock_seed(rt)?),
-        Call::After { given, line } => {
-            tell_after(alloc, sys, given.as_slice(), line, clock_seed(rt)?)
+        Call::Ask(asked) => answer(rt, *asked),
+        Call::Plan { form, command } => tell_plan(alloc, sys, host, *form, command),
+        Call::After { given, command } => {
+            tell_after(alloc, sys, host, &printer, given.as_slice(), command)
         }
-        Call::Differ(comparison) => tell_difference(alloc, sys, &comparison, clock_seed(rt)?),
-        Call::Check(request) => tell_check(alloc, sys, &request),
-        Call::Why { view, line } => tell_why(alloc, sys, &view, line, clock_seed(rt)?),
+        Call::Differ(comparison) => tell_difference(alloc, sys, host, &printer, comparison),
+        Call::Check(selection) => tell_check(alloc, sys, &printer, selection),
+        Call::Why { view, command } => tell_why(alloc, sys, host, &printer, view, command),
     })
 }
 
-/// What the arguments of this process ask for.
-fn whole(rt: &HostRuntime, sys: &mut HostSystem, args: &[Word]) -> Outcome {
-    match call_of(rt.alloc(), args) {
-        Ok(call) => match act(rt, sys, call) {
-            Ok(outcome) => outcome,
-            Err(_) => Outcome::Ended(Ending::OutOfMemory),
-        },
-        Err(fault) => Outcome::Misused(fault),
-    }
-}
-
-/// Whether an outcome is the refusal of a spec file.
+/// Whether an outcome is the refusal of a spec file of the driver.
 fn is_of_specs(outcome: &Outcome) -> bool {
     match outcome {
         Outcome::Ended(Ending::Refused(Refusal::Specs(_))) => true,
@@ -116,26 +107,40 @@ fn is_of_specs(outcome: &Outcome) -> bool {
 }
 
 /// After the refusal of a spec file says where its fault is, by the events of the call.
-fn tell_place(rt: &HostRuntime, args: &[Word], outcome: &Outcome, journal: &[Event]) {
+fn tell_place(
+    rt: &HostRuntime,
+    printer: &Printer,
+    call: &Call,
+    outcome: &Outcome,
+    journal: &[Event],
+) {
     if !is_of_specs(outcome) {
         return;
     }
-    let Ok(call) = call_of(rt.alloc(), args) else {
-        return;
-    };
-    if let Ok(note) = call_note(rt.alloc(), &call, journal) {
-        say(rt, &note);
+    if let Ok(note) = call_note(rt.alloc(), call, journal) {
+        say(rt, printer, &note);
     }
+}
+
+/// Does what a call asks for, and tells the user how it ended.
+fn carry_out(rt: &HostRuntime, call: &Call) -> Result<ExitCode, AllocError> {
+    let mut sys = HostSystem::new(rt.clone()?);
+    let printer = error_printer(rt, &mut sys)?;
+    let outcome = act(rt, &mut sys, call)?;
+    let status = finish(rt, &printer, &outcome);
+    tell_place(rt, &printer, call, &outcome, sys.journal());
+    Ok(status)
 }
 
 /// Does what the arguments of this process ask for, and tells the user how it ended.
 fn run(rt: &HostRuntime, args: &[Word]) -> Result<ExitCode, AllocError> {
-    let mut sys = HostSystem::new(rt.clone()?);
-    let trouble = trouble_of(args);
-    let outcome = whole(rt, &mut sys, args);
-    let status = finish(rt, &outcome, trouble);
-    tell_place(rt, args, &outcome, sys.journal());
-    Ok(status)
+    match call_of(rt, args) {
+        Ok(call) => carry_out(rt, &call),
+        Err(fault) => {
+            let printer = Printer { palette: None };
+            Ok(finish(rt, &printer, &Outcome::Misused(fault)))
+        }
+    }
 }
 
 fn main(rt: HostRuntime) -> ExitCode {
@@ -145,6 +150,9 @@ fn main(rt: HostRuntime) -> ExitCode {
     };
     match run(&rt, args.as_slice()) {
         Ok(status) => status,
-        Err(_) => finish(&rt, &Outcome::Ended(Ending::OutOfMemory), 1),
+        Err(_) => {
+            complain(&rt, OUT_OF_MEMORY);
+            ExitCode::from(TROUBLE)
+        }
     }
 }

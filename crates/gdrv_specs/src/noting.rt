@@ -1,23 +1,23 @@
 //! What is said after a refusal: where in a spec file its fault is.
 
 use crate::calling::Call;
-use crate::differing::with_specs;
+use crate::command_line::{CommandLine, Program};
 use drv_args::Settings;
 use drv_check::{SpecFiles, fault_note};
 use drv_run::{Ending, line_of_call};
-use drv_specs::builtin;
+use drv_specs::{SpecSet, builtin};
 use drv_system::{Event, FactTable, PathKind, ReadAnswer, ScriptSystem, System};
 use drv_words::{Listing, Word};
 use std::alloc::{AllocError, Global};
 
-/// Where the spec files of these settings are refused, as a note.
-fn settings_note<S: System>(
+/// Where the spec files of these settings are refused over a set, as a note.
+pub(crate) fn settings_note<S: System>(
     alloc: Global,
+    set: SpecSet,
     settings: &Settings,
     sys: &mut S,
     facts: &mut FactTable,
 ) -> Result<Word, AllocError> {
-    let set = builtin(alloc)?;
     let folders = settings.prefixes.as_slice();
     let names = settings.specs.as_slice();
     fault_note(alloc, set, &SpecFiles { folders, names }, sys, facts)
@@ -28,14 +28,15 @@ fn settings_note<S: System>(
 ///
 /// # Errors
 /// Why the words are no line, or lack of memory.
-pub fn line_note<S: System>(
+fn line_note<S: System>(
     alloc: Global,
     args: Listing<Word>,
     sys: &mut S,
     facts: &mut FactTable,
 ) -> Result<Word, Ending> {
     let line = line_of_call(alloc, args, sys, facts)?;
-    let note = settings_note(alloc, &line.settings, sys, facts)?;
+    let set = builtin(alloc)?;
+    let note = settings_note(alloc, set, &line.settings, sys, facts)?;
     Ok(note)
 }
 
@@ -103,17 +104,24 @@ fn system_of(alloc: Global, journal: &[Event]) -> Result<ScriptSystem, AllocErro
     Ok(ScriptSystem::new(alloc, files, folders, variables, Listing::new(alloc)))
 }
 
-/// The lines that a call plans, one after another.
+/// Adds the line of a command of the driver. The refusal of a compiler's line has its note.
+fn push_line(lines: &mut Vec<Listing<Word>>, command: &CommandLine) -> Result<(), AllocError> {
+    if let Program::Driver = &command.program {
+        lines.push(command.words.clone()?)?;
+    }
+    Ok(())
+}
+
+/// The lines of the driver that a call plans, one after another.
 fn lines_of(alloc: Global, call: &Call) -> Result<Vec<Listing<Word>>, AllocError> {
     let mut lines = Vec::new(alloc);
     match call {
-        Call::Plan { line, .. } => lines.push(line.clone()?)?,
-        Call::After { line, .. } => lines.push(line.clone()?)?,
-        Call::Why { line, .. } => lines.push(line.clone()?)?,
+        Call::Plan { command, .. } => push_line(&mut lines, command)?,
+        Call::After { command, .. } => push_line(&mut lines, command)?,
+        Call::Why { command, .. } => push_line(&mut lines, command)?,
         Call::Differ(comparison) => {
-            let line = comparison.line.as_slice();
-            lines.push(with_specs(alloc, &comparison.first, line)?)?;
-            lines.push(with_specs(alloc, &comparison.second, line)?)?;
+            push_line(&mut lines, &comparison.first.command)?;
+            push_line(&mut lines, &comparison.second.command)?;
         }
         Call::Ask(_) | Call::Check(_) => {}
     }

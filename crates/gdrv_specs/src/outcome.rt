@@ -1,9 +1,11 @@
 //! How a call of the program ends.
 
 use crate::calling::CallFault;
+use crate::misuse::misuse_line;
+use crate::wording::{line_around, line_of};
 use drv_after::GivenFault;
 use drv_run::{Ending, Refusal, refusal_text};
-use drv_words::Word;
+use drv_words::{Word, copy_word};
 use std::alloc::{AllocError, Global};
 
 /// How a call of the program ends.
@@ -11,28 +13,33 @@ use std::alloc::{AllocError, Global};
 pub enum Outcome {
     /// As a call of the driver ends.
     Ended(Ending),
+    /// `gdrv-cc` refuses the line with this text.
+    Told(Word),
+    /// The driver of `gdrv-cc` refuses the line.
+    Undone {
+        /// What `gdrv-cc` says.
+        text: Word,
+        /// The spec file with which it is refused, where with another one it may not be.
+        with: Option<Word>,
+        /// Where in a spec file the fault is.
+        note: Word,
+    },
     /// With the spec file of this path the line is refused, and with another one it may not be.
     RefusedWith(Word, Refusal),
     /// The line asks for the specs, so it has no plan.
     NoPlan,
     /// The line asks for its plan alone, so nothing is carried out.
     NoRun,
+    /// The line is a question, which the compiler answers.
+    Question,
     /// This word gives no answer.
     Unanswered(Word, GivenFault),
     /// The call asks for nothing.
     Misused(CallFault),
 }
 
-/// The name of the program, as it says it before what it tells.
-const NAME: &[u8] = b"gdrv-specs: ";
-
-/// A line that names these words.
-fn line_of(alloc: Global, words: &[u8]) -> Result<Word, AllocError> {
-    let mut line = Word::from_bytes(alloc, NAME)?;
-    line.extend_from_slice(words)?;
-    line.push(b'\n')?;
-    Ok(line)
-}
+/// The exit status of a call that tells nothing.
+pub const TROUBLE: u8 = 2;
 
 /// The text of a refused line: the words of the driver after the name of the program.
 fn refusal_line(alloc: Global, refusal: &Refusal) -> Result<Word, AllocError> {
@@ -40,23 +47,31 @@ fn refusal_line(alloc: Global, refusal: &Refusal) -> Result<Word, AllocError> {
     line_of(alloc, words.as_bytes())
 }
 
-/// A line with a word between two texts.
-fn line_around(
-    alloc: Global,
-    before: &[u8],
-    word: &Word,
-    after: &[u8],
-) -> Result<Word, AllocError> {
-    let mut words = Word::from_bytes(alloc, before)?;
-    words.extend_from_slice(word.as_bytes())?;
-    words.extend_from_slice(after)?;
-    line_of(alloc, words.as_bytes())
+/// The note that names the spec file with which a line is refused.
+fn with_line(alloc: Global, path: &Word) -> Result<Word, AllocError> {
+    line_around(alloc, b"note: refused with '", path, b"'")
 }
 
 /// The text of a line that is refused with a spec file: a note names the file.
 fn refused_with_lines(alloc: Global, path: &Word, refusal: &Refusal) -> Result<Word, AllocError> {
     let mut lines = refusal_line(alloc, refusal)?;
-    let note = line_around(alloc, b"note: refused with '", path, b"'")?;
+    let note = with_line(alloc, path)?;
+    lines.extend_from_slice(note.as_bytes())?;
+    Ok(lines)
+}
+
+/// The text of a line that the driver of `gdrv-cc` refuses, with its notes.
+fn undone_lines(
+    alloc: Global,
+    text: &Word,
+    with: &Option<Word>,
+    note: &Word,
+) -> Result<Word, AllocError> {
+    let mut lines = text.clone()?;
+    if let Some(path) = copy_word(with)? {
+        let named = with_line(alloc, &path)?;
+        lines.extend_from_slice(named.as_bytes())?;
+    }
     lines.extend_from_slice(note.as_bytes())?;
     Ok(lines)
 }
@@ -72,49 +87,44 @@ fn unanswered_line(alloc: Global, word: &Word, fault: GivenFault) -> Result<Word
     }
 }
 
-/// The text about a call that asks for nothing.
-fn misuse_line(alloc: Global, fault: &CallFault) -> Result<Word, AllocError> {
-    match fault {
-        CallFault::NoCommand => line_of(alloc, b"no command; 'gdrv-specs --help' lists them"),
-        CallFault::UnknownCommand(word) => {
-            let after = b"'; 'gdrv-specs --help' lists them";
-            line_around(alloc, b"unknown command '", word, after)
-        }
-        CallFault::MissingAnswer => line_of(alloc, b"missing argument to '--fail'"),
-        CallFault::TooManyAnswers => line_of(alloc, b"more than 1000 answers"),
-        CallFault::NotTwoFiles => line_of(alloc, b"'diff' takes two files, and a line after '--'"),
-        CallFault::MissingFile => line_of(alloc, b"missing argument to '--over'"),
-        CallFault::NoFiles => line_of(alloc, b"'check' takes one file or more"),
-        CallFault::UnknownOption(word) => line_around(
-            alloc,
-            b"'check' has no option '",
-            word,
-            b"'",
-        ),
-        CallFault::Memory => line_of(alloc, b"out of memory"),
+/// The text about how a call of the driver ends: no byte where the call itself said all.
+fn ended_line(alloc: Global, ending: &Ending) -> Result<Word, AllocError> {
+    match ending {
+        Ending::Done(_) => Ok(Word::empty(alloc)),
+        Ending::Refused(refusal) => refusal_line(alloc, refusal),
+        Ending::OutOfMemory => line_of(alloc, b"out of memory"),
     }
 }
 
 impl Outcome {
-    /// The exit status, where that of a call which tells nothing is this one.
-    pub fn status(&self, trouble: u8) -> u8 {
+    /// The exit status.
+    pub fn status(&self) -> u8 {
         match self {
             Outcome::Ended(Ending::Done(status)) => *status,
-            _ => trouble,
+            _ => TROUBLE,
+        }
+    }
+
+    /// The text about a line that has nothing to tell.
+    fn text_of_nothing(&self, alloc: Global) -> Result<Word, AllocError> {
+        match self {
+            Outcome::NoPlan => line_of(alloc, b"a line with '-dumpspecs' has no plan"),
+            Outcome::NoRun => line_of(alloc, b"a line with '-###' has no run"),
+            Outcome::Question => line_of(alloc, b"the compiler itself answers this line"),
+            _ => Ok(Word::empty(alloc)),
         }
     }
 
     /// The text on standard error: no byte where the call itself said all.
     pub fn text(&self, alloc: Global) -> Result<Word, AllocError> {
         match self {
-            Outcome::Ended(Ending::Done(_)) => Ok(Word::empty(alloc)),
-            Outcome::Ended(Ending::Refused(refusal)) => refusal_line(alloc, refusal),
-            Outcome::Ended(Ending::OutOfMemory) => line_of(alloc, b"out of memory"),
+            Outcome::Ended(ending) => ended_line(alloc, ending),
+            Outcome::Told(text) => text.clone(),
+            Outcome::Undone { text, with, note } => undone_lines(alloc, text, with, note),
             Outcome::RefusedWith(path, refusal) => refused_with_lines(alloc, path, refusal),
-            Outcome::NoPlan => line_of(alloc, b"a line with '-dumpspecs' has no plan"),
-            Outcome::NoRun => line_of(alloc, b"a line with '-###' has no run"),
             Outcome::Unanswered(word, fault) => unanswered_line(alloc, word, *fault),
             Outcome::Misused(fault) => misuse_line(alloc, fault),
+            _ => self.text_of_nothing(alloc),
         }
     }
 }

@@ -1,15 +1,20 @@
-//! Prints the plan of a line.
+//! Prints the plan of a command.
 
 ghost use Rattle.gdrv_specs.specs.Plans.{TellsOf, TellsPlan, plan_in};
 ghost use Rattle.gdrv_specs.specs.Told.{PutsText, TellsWork};
 ghost use Rattle.drv_run.specs.declared.work.Work.{Work};
 ghost use Rattle.gdrv_specs.specs.Forms.{form_text};
+ghost use Rattle.gdrv_specs.specs.declared.command_line.Program.TheVariants.{Driver};
 ghost use Rattle.std.specs.Option.{option_map};
 ghost use Rattle.std.specs.Prelude.{◌≡◌, IfOk, OnErr, Some};
 
+use crate::command_line::{CommandLine, Compiler, Program};
 use crate::forms::{Form, form_text};
 use crate::outcome::Outcome;
-use drv_run::{Ending, Work, status_of, work_of_call};
+use crate::printing::status_told;
+use crate::reading::{read, say_first};
+use drv_compile::Host;
+use drv_run::{Ending, Work, work_of_call};
 use drv_system::{FactTable, System};
 use drv_words::{Listing, Plan, Word};
 use std::alloc::{AllocError, Global};
@@ -37,7 +42,7 @@ fn put_plan<S: System>(
     ensures memory { OnErr result (S.events sys.new ≡ S.events sys.old) }
 {
     let text = form_text(alloc, form, plan)?;
-    Ok(status_of(sys.put(&text)?))
+    Ok(status_told(sys.put(&text)?))
 }
 
 /// Tells the plan of a work that has this one.
@@ -68,7 +73,7 @@ fn tell_work<S: System>(alloc: Global, sys: &mut S, form: Form, work: &Work) -> 
 /// Options", `-###`). It asks what the plan needs, and does nothing else: it starts no program and
 /// makes, changes and removes no file. A line that is refused, and one with `-dumpspecs`, which has
 /// no plan, write nothing. The seed is for the names of temporaries.
-pub fn tell_plan<S: System>(
+fn tell_driver_plan<S: System>(
     alloc: Global,
     sys: &mut S,
     form: Form,
@@ -81,5 +86,47 @@ pub fn tell_plan<S: System>(
     match work_of_call(alloc, line, seed, sys, facts) {
         Ok(work) => tell_work(alloc, sys, form, &work),
         Err(ending) => Outcome::Ended(ending),
+    }
+}
+
+/// Tells the plan of a compiler's line, which the call of that compiler has up to there.
+fn tell_compiler_plan<S: System, H: Host<S>>(
+    alloc: Global,
+    sys: &mut S,
+    host: &mut H,
+    form: Form,
+    compiler: &Compiler,
+    command: &CommandLine,
+) -> Outcome {
+    let reading = match read(alloc, compiler, command, sys, host) {
+        Ok(reading) => reading,
+        Err(unread) => return unread.outcome(),
+    };
+    match say_first(sys, &reading.prepared) {
+        Ok(()) => tell_work(alloc, sys, form, &reading.prepared.work),
+        Err(_) => Outcome::Ended(Ending::OutOfMemory),
+    }
+}
+
+/// Writes the plan of a command in a form to standard output. It asks what the plan needs, and does
+/// nothing else. A line that is refused, and one that has no plan, write nothing.
+pub fn tell_plan<S: System, H: Host<S>>(
+    alloc: Global,
+    sys: &mut S,
+    host: &mut H,
+    form: Form,
+    command: &CommandLine,
+) -> Outcome
+    ensures driver { (command.now.program ≡ Driver) → TellsPlan (S.events sys.old) (S.events sys.new)
+        form command.now.words command.now.seed result }
+{
+    match &command.program {
+        Program::Driver => match command.words.clone() {
+            Ok(words) => tell_driver_plan(alloc, sys, form, words, command.seed),
+            Err(_) => Outcome::Ended(Ending::OutOfMemory),
+        },
+        Program::Compiler(compiler) => {
+            tell_compiler_plan(alloc, sys, host, form, compiler, command)
+        }
     }
 }

@@ -1,97 +1,151 @@
-//! What a call asks to be checked.
+//! The words of a tool's call: its options, its files, and the command behind `--`.
 
-use crate::warning_names::is_warning;
-use drv_check::Names;
-use drv_words::{Listing, Word};
+use crate::calling::CallFault;
+use crate::options::{Choice, Given, OptionRow, Tool, near_option, option_given};
+use drv_words::{Listing, Word, copy_words};
 use std::alloc::{AllocError, Global};
 
-/// Files to be checked, and how.
+/// An option that a call has.
 #[derive(Drop)]
-pub struct Request {
-    /// Whether the check prints JSON.
-    pub json: bool,
-    /// Whether warnings count for the exit status.
-    pub strict: bool,
-    /// Whose texts count as run, though no text names them.
-    pub whose: Names,
-    /// The names of the warnings that it doesn't print.
-    pub off: Listing<Word>,
-    /// The paths of the files that are loaded first.
-    pub over: Listing<Word>,
-    /// Whether the next word is one of these.
-    pub awaits: bool,
-    /// The paths of the files.
-    pub files: Listing<Word>,
-    /// The last word that begins as an option but is no option.
-    pub unknown: Option<Word>,
+pub struct Chosen {
+    /// What it asks.
+    pub choice: Choice,
+    /// Its argument; the option itself where it takes none.
+    pub argument: Word,
 }
 
-/// The name of a warning that a word switches off.
-fn name_off(word: &[u8]) -> Option<&[u8]> {
-    let name = word.strip_prefix(b"-Wno-".as_slice())?;
-    if is_warning(name) { Some(name) } else { None }
+/// The words of a tool's call.
+#[derive(Drop)]
+pub struct Request {
+    /// Its options, in their order.
+    pub chosen: Listing<Chosen>,
+    /// Its words that are no option.
+    pub files: Listing<Word>,
+    /// The words behind `--`, if that is there.
+    pub command: Option<Listing<Word>>,
+}
+
+/// The words that are read so far.
+#[derive(Drop)]
+struct Progress {
+    request: Request,
+    /// The option whose argument the next word is.
+    awaits: Option<OptionRow>,
 }
 
 impl Request {
-    /// What a call without words asks.
+    /// The call without words.
     fn new(alloc: Global) -> Request {
         Request {
-            json: false,
-            strict: false,
-            whose: Names::Driver,
-            off: Listing::new(alloc),
-            over: Listing::new(alloc),
-            awaits: false,
+            chosen: Listing::new(alloc),
             files: Listing::new(alloc),
-            unknown: None,
+            command: None,
         }
     }
 
-    /// Takes a word that is the name of a warning, an option that there isn't, or a file.
-    fn take_other(&mut self, alloc: Global, word: &Word) -> Result<(), AllocError> {
-        if let Some(name) = name_off(word.as_bytes()) {
-            self.off.push(Word::from_bytes(alloc, name)?)?;
-        } else if word.as_bytes().starts_with(b"-") {
-            self.unknown = Some(word.clone()?);
-        } else {
-            self.files.push(word.clone()?)?;
-        }
+    /// Whether it asks how the tool is used.
+    pub fn asks_help(&self) -> bool {
+        self.chosen
+            .as_slice()
+            .iter()
+            .any(|chosen| matches!(chosen.choice, Choice::Help))
+    }
+
+    /// Adds an option.
+    fn choose(&mut self, row: OptionRow, argument: Word) -> Result<(), AllocError> {
+        let choice = row.choice;
+        self.chosen.push(Chosen { choice, argument })?;
         Ok(())
     }
 
-    /// Takes one more word, if none awaits it.
-    fn take_word(&mut self, alloc: Global, word: &Word) -> Result<(), AllocError> {
-        let bytes = word.as_bytes();
-        if bytes == b"--json".as_slice() {
-            self.json = true;
-        } else if bytes == b"-Werror".as_slice() {
-            self.strict = true;
-        } else if bytes == b"--gcc".as_slice() {
-            self.whose = Names::Gcc;
-        } else if bytes == b"--over".as_slice() {
-            self.awaits = true;
-        } else {
-            self.take_other(alloc, word)?;
-        }
-        Ok(())
-    }
-
-    /// Takes one more word.
-    fn take(&mut self, alloc: Global, word: &Word) -> Result<(), AllocError> {
-        if !self.awaits {
-            return self.take_word(alloc, word);
-        }
-        self.over.push(word.clone()?)?;
-        self.awaits = false;
+    /// Adds a word that is no option.
+    fn add_file(&mut self, word: &Word) -> Result<(), AllocError> {
+        self.files.push(word.clone()?)?;
         Ok(())
     }
 }
 
-/// What words ask to be checked.
-pub fn request_of(alloc: Global, words: &[Word]) -> Result<Request, AllocError> {
-    let mut request = Request::new(alloc);
-    for word in words {
-        request.take(alloc, word)?;
+/// Why a tool doesn't take an option.
+fn no_option(alloc: Global, tool: Tool, word: &Word) -> CallFault {
+    let near = match near_option(alloc, tool, word.as_bytes()) {
+        Ok(near) => near,
+        Err(_) => return CallFault::Memory,
+    };
+    match word.clone() {
+        Ok(word) => CallFault::UnknownOption { tool, word, near },
+        Err(_) => CallFault::Memory,
+    }
+}
+
+impl Progress {
+    /// Takes what a word says of an option.
+    fn take_given(&mut self, alloc: Global, given: Given<'_>) -> Result<(), AllocError> {
+        match given {
+            Given::Alone(row) => self.request.choose(row, Word::from_bytes(alloc, row.name)?),
+            Given::Joined(row, argument) => {
+                self.request.choose(row, Word::from_bytes(alloc, argument)?)
+            }
+            Given::Awaits(row) => {
+                self.awaits = Some(row);
+                Ok(())
+            }
+        }
+    }
+
+    /// Takes a word that begins as an option.
+    fn take_option(&mut self, alloc: Global, tool: Tool, word: &Word) -> Result<(), CallFault> {
+        match option_given(tool, word.as_bytes()) {
+            Some(given) => Ok(self.take_given(alloc, given)?),
+            None => Err(no_option(alloc, tool, word)),
+        }
+    }
+
+    /// Takes one more word. A hyphen alone is no option.
+    fn take(&mut self, alloc: Global, tool: Tool, word: &Word) -> Result<(), CallFault> {
+        if let Some(row) = self.awaits.take() {
+            return Ok(self.request.choose(row, word.clone()?)?);
+        }
+        if word.len() > 1 && word.as_bytes().starts_with(b"-") {
+            return self.take_option(alloc, tool, word);
+        }
+        Ok(self.request.add_file(word)?)
+    }
+
+    /// The call, if no option awaits its argument.
+    fn whole(self) -> Result<Request, CallFault> {
+        let Progress { request, awaits } = self;
+        match awaits {
+            Some(row) => Err(CallFault::MissingArgument(row.name)),
+            None => Ok(request),
+        }
+    }
+}
+
+/// The words before the `--`, if that is there, and how many they are.
+fn options_of(alloc: Global, tool: Tool, words: &[Word]) -> Result<(Progress, usize), CallFault> {
+    let mut progress = Progress {
+        request: Request::new(alloc),
+        awaits: None,
+    };
+    for (place, word) in words.iter().enumerate() {
+        if word.as_bytes() == b"--".as_slice() {
+            return Ok((progress, place));
+        }
+        progress.take(alloc, tool, word)?;
+    }
+    Ok((progress, words.len()))
+}
+
+/// What the words of a tool's call ask for.
+///
+/// # Errors
+/// Lack of memory; the first word that begins as an option and is none of the tool; an option
+/// without its argument.
+pub fn request_of(alloc: Global, tool: Tool, words: &[Word]) -> Result<Request, CallFault> {
+    let (progress, place) = options_of(alloc, tool, words)?;
+    let mut request = progress.whole()?;
+    if let [_, command @ ..] = words.get(place..).unwrap_or(&[]) {
+        request.command = Some(copy_words(alloc, command)?);
     }
     Ok(request)
 }

@@ -1,11 +1,15 @@
-//! Prints a run of a line, over answers that are given ahead.
+//! Prints a run of a command, over answers that are given ahead.
 
+use crate::colouring::Style;
+use crate::command_line::CommandLine;
 use crate::outcome::Outcome;
-use crate::printing::tell_answer;
+use crate::printing::Printer;
+use crate::reading::{say, work_of};
 use drv_after::{Given, given_of, story_over};
-use drv_run::{Ending, Manner, Work, work_of_call};
-use drv_system::{FactTable, System};
-use drv_words::{Listing, Plan, Word};
+use drv_compile::Host;
+use drv_run::{Ending, Manner, Work};
+use drv_system::System;
+use drv_words::{Plan, Word};
 use std::alloc::{AllocError, Global};
 
 /// The answers that these words give, one each, or how the call ends for the first word that gives
@@ -25,47 +29,61 @@ fn answers_of(
     Ok(Ok(answers))
 }
 
-/// Tells the run of a plan over the answers that these words give.
-fn tell_run<S: System>(
+/// The text of a plan's run over the answers that these words give, or how the call ends.
+fn story_of(
     alloc: Global,
-    sys: &mut S,
     words: &[Word],
     plan: &Plan,
     manner: Manner,
-) -> Result<Outcome, AllocError> {
+) -> Result<Result<Word, Outcome>, AllocError> {
     match answers_of(alloc, plan, words)? {
         Ok(given) => {
             let given = given.as_slice();
             let text = story_over(alloc, plan, manner.pass_codes, manner.window, given)?;
-            Ok(tell_answer(alloc, sys, Ok(Some(text))))
+            Ok(Ok(text))
         }
-        Err(outcome) => Ok(outcome),
+        Err(outcome) => Ok(Err(outcome)),
     }
 }
 
-/// Writes to standard output what a line of the driver would start, make and remove, and what it
-/// would leave, where these words give some answers ahead and all else is well. It asks what the
-/// plan needs, and does nothing else. A line that is refused, and one that carries no plan out,
-/// write nothing, and so does a word that gives no answer. The seed is for the names of temporaries.
-pub fn tell_after<S: System>(
+/// Tells the run of a work, if it has one.
+fn tell_run<S: System>(
     alloc: Global,
     sys: &mut S,
+    printer: &Printer,
     words: &[Word],
-    line: Listing<Word>,
-    seed: u32,
+    work: &Work,
 ) -> Outcome {
-    let work = match work_of_call(alloc, line, seed, sys, &mut FactTable::new(alloc)) {
-        Ok(work) => work,
-        Err(ending) => return Outcome::Ended(ending),
+    let (plan, manner) = match work {
+        Work::Dump(_) => return Outcome::NoPlan,
+        Work::Show(_) => return Outcome::NoRun,
+        Work::CarryOut { plan, manner } => (plan, *manner),
     };
-    let Work::CarryOut { plan, manner } = &work else {
-        return match work {
-            Work::Dump(_) => Outcome::NoPlan,
-            _ => Outcome::NoRun,
-        };
+    match story_of(alloc, words, plan, manner) {
+        Ok(Ok(text)) => printer.tell(alloc, sys, Style::Plain, &text),
+        Ok(Err(outcome)) => outcome,
+        Err(_) => Outcome::Ended(Ending::OutOfMemory),
+    }
+}
+
+/// Writes to standard output what a command would start, make and remove, and what it would leave,
+/// where these words give some answers ahead and all else is well. It asks what the plan needs, and
+/// does nothing else. A line that is refused, and one that carries no plan out, write nothing, and so
+/// does a word that gives no answer. The seed is for the names of temporaries.
+pub fn tell_after<S: System, H: Host<S>>(
+    alloc: Global,
+    sys: &mut S,
+    host: &mut H,
+    printer: &Printer,
+    words: &[Word],
+    command: &CommandLine,
+) -> Outcome {
+    let meaning = match work_of(alloc, command, sys, host) {
+        Ok(meaning) => meaning,
+        Err(unread) => return unread.outcome(),
     };
-    match tell_run(alloc, sys, words, plan, *manner) {
-        Ok(outcome) => outcome,
+    match say(sys, &meaning.first) {
+        Ok(()) => tell_run(alloc, sys, printer, words, &meaning.work),
         Err(_) => Outcome::Ended(Ending::OutOfMemory),
     }
 }

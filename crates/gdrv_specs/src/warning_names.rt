@@ -68,16 +68,3 @@ pub fn warning_text(alloc: Global, warning: Warning) -> Result<Word, AllocError>
 pub fn is_name_of(name: &[u8], warning: Warning) -> bool {
     name == warning_name(warning)
 }
-
-/// Whether some warning has this name.
-pub fn is_warning(name: &[u8]) -> bool {
-    is_name_of(name, Warning::AppendToNothing)
-        || is_name_of(name, Warning::DirectiveInBody)
-        || is_name_of(name, Warning::QuotedWord)
-        || is_name_of(name, Warning::NeverTrue)
-        || is_name_of(name, Warning::UnknownText)
-        || is_name_of(name, Warning::HiddenPair)
-        || is_name_of(name, Warning::Unreachable)
-        || is_name_of(name, Warning::LostMark)
-        || is_name_of(name, Warning::UnusedText)
-}

@@ -1,5 +1,5 @@
 use Rattle.gdrv_specs.proofs.Told.{tells_after, tells_before}
-use Rattle.gdrv_specs.proofs.planning.tell_plan.Goals as goal
+use Rattle.gdrv_specs.proofs.planning.tell_driver_plan.Goals as goal
 use Rattle.gdrv_specs.specs.Plans.{TellsOf}
 
 -- Names: `tells_after`: a work whose text was written. `tells_before`: what is printed before a work.
