@@ -353,19 +353,6 @@ refusal_said {journal} {F' = F'} {first = first} calling own args seed text stat
           (refused (refuses F' (extends_refl F')));
     }
 
--- For `say_stop`: if a text was said, or memory lacked and nothing was, then that is so of the stop that has it.
-pub told_said : (journal journal' : List Event) (text : List ℕ) (outcome : Outcome) → TellsText journal journal' text outcome
-    → TellsStop journal journal' (Told text) outcome
-told_said journal journal' text (Done status) says = says
-told_said journal journal' text (Unnoted status) says = says
-told_said journal journal' text OutOfMemory says = says
-
-pub undone_said : (journal journal' : List Event) (text : List ℕ) (line : DriverLine) (outcome : Outcome)
-    → TellsText journal journal' text outcome → TellsStop journal journal' (Undone text line) outcome
-undone_said journal journal' text line (Done status) says = says
-undone_said journal journal' text line (Unnoted status) says = says
-undone_said journal journal' text line OutOfMemory says = says
-
 -- For `say_stop`: if a refusal was said, or memory lacked and nothing was, then the call is `Compiled`.
 pub compiled_stopped : {journal mid journal'' : List Event} {F' : Facts} {first notes notes' : List HostEvent} (calling : Calling)
     (own : Option (List ℕ)) (args : List (List ℕ)) (seed : ℕ)

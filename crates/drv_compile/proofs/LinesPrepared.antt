@@ -160,47 +160,6 @@ performs_noted line call before mid after result knows free =
 
 -- the work of a line
 
--- For `prepare_plan`: if each part is that of what the driver is called with, then the record of them is what the definition plans.
-pub planned_so : (F : Facts) (line : GccLine) (driven : Driven) (specs about lent wrapper said hint remark : List ℕ) (items : List Item)
-    (children : List Variable) (work : Work) → specs ≡ line.chain.specs → items ≡ driven.line.items → children ≡ driven.children
-    → about ≡ line.chain.about → lent ≡ about
-    → wrapper ≡ wrapper_of items → said ≡ opening lent items children → Works F driven.line line.request.now.seed work
-    → hint ≡ gone_text line.request.now.calling.now.name specs line.request.now.calling.now.machine → remark ≡ []
-    → IsPlanned F line.request.now.calling.now line.chain driven line.request.now.seed (record {
-      work = work;
-      line = Some driven.line;
-      children = driven.children;
-      wrapper = wrapper;
-      said = said;
-      hint =
-          hint;
-      about = about;
-      remark = remark;
-    })
-planned_so F line driven specs about lent wrapper said hint remark items children work same are set of lends wraps opens works hints none =
-    record {
-      opens =
-          sym (opens ∙ ap (λ t. opening t items children) (lends ∙ of) ∙ ap (λ w. opening line.chain.about w children) are
-          ∙ ap (opening line.chain.about driven.line.items) set);
-      works = works;
-      line = refl;
-      children = refl;
-      wrapper = wraps ∙ ap wrapper_of are;
-      hint = hints ∙ ap (λ s. gone_text line.request.now.calling.now.name s line.request.now.calling.now.machine) same;
-      about = of;
-      remark = none;
-    }
-
--- For `prepare_plan`: if the stop says the refusal by the code's copy of the name, then the line of the driver fails with that text.
-pub failed_undone : (F : Facts) (line : GccLine) (driven : Driven) (name : List ℕ) (stop made : Stop)
-    → name ≡ line.request.now.calling.now.name → made ≡ undone stop driven.line
-    → IfTold stop (IsFailure F name driven.line line.request.now.seed)
-    → IfTold made (IsFailure F line.request.now.calling.now.name driven.line line.request.now.seed)
-failed_undone F line driven name stop made named is tells =
-    subst (λ s. IfTold s (IsFailure F line.request.now.calling.now.name driven.line line.request.now.seed)) (sym is)
-    (undone_tells stop driven.line (IsFailure F line.request.now.calling.now.name driven.line line.request.now.seed)
-    (subst (λ n. IfTold stop (IsFailure F n driven.line line.request.now.seed)) named tells))
-
 -- For `prepare_line`: if nobody carries the line out, and the stop says why, then nothing is prepared, for that reason.
 pub undriven_plan : (F : Facts) (line : GccLine) (call : Call) (events : List HostEvent) (stop : Stop) (result : Result Prepared Stop)
     → IsErrAnd result (λ s. s ≡ stop) → IfTold stop (Undriven F line.request.now.calling.now line.chain call line.given events)
