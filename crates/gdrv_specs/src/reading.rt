@@ -72,7 +72,7 @@ fn note_of<S: System>(
 }
 
 /// Why a compiler's line has no plan.
-fn unread<S: System>(
+fn stopped<S: System>(
     alloc: Global,
     stop: Stop,
     outside: &mut Outside<'_, S>,
@@ -96,7 +96,7 @@ fn prepared_over<S: System, H: Host<S>>(
 ) -> Result<Prepared, Unread> {
     match prepare(alloc, request, outside, host) {
         Ok(prepared) => Ok(prepared),
-        Err(stop) => Err(unread(alloc, stop, outside)?),
+        Err(stop) => Err(stopped(alloc, stop, outside)?),
     }
 }
 
