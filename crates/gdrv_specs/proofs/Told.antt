@@ -12,7 +12,7 @@ use Rattle.gdrv_specs.specs.declared.outcome.Outcome.{Outcome}
 use Rattle.std.proofs.Common.{◌≡◌, ◌∙◌, ◌++◌, Err, List, Ok, [], ap, inl, inr, refl, subst, sym, ℕ}
 use Rattle.std.proofs.lemmas.List.{append-nil}
 
--- For `tell_driver_plan` (src/planning.rt): a call adds questions to the journal, and one text at most.
+-- For `tell_driver_plan` and `tell_plan` (src/planning.rt): a call adds questions to the journal, and one text at most.
 -- Names: `F`, `F'` and `G` are what is known of the outside. `journal` is the events of the system before, `journal'` after the questions,
 -- and `journal''` at the end. `line` is the words of the line. `seed` is that for the names of temporaries. `work` is what the line asks
 -- for, and `ending` how it ends in place of that. `T` says what is printed of a work. `outcome` is how the call ends. `Comes F args seed
@@ -58,4 +58,15 @@ tells_after {F' = F'} T line seed work outcome empty asks comes tells = record {
   questions = subst (λ G. AreNew G asks.asked) empty asks.questions;
   journal_grows = tells.1 ∙ ap (λ events. events ++ tells.0) asks.journal_grows;
   ends = inr (work, subst (λ G. Comes G line seed (Ok work)) (known empty asks) (comes F' (extends_refl F')), tells.2);
+}
+
+-- a call that lacks memory before it asks anything
+pub tells_nothing : (T : Telling) (journal : List Event) (line : List (List ℕ)) (seed : ℕ)
+    → Tells T journal journal line seed (Ended OutOfMemory)
+tells_nothing T journal line seed = record {
+  asked = [];
+  told = [];
+  questions = tt;
+  journal_grows = sym (append-nil journal) ∙ sym (append-nil (journal ++ []));
+  ends = inl refl;
 }
