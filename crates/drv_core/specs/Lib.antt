@@ -1,13 +1,15 @@
 pub mod Choices
 pub mod Code
 pub mod Codes
+pub mod Events
 pub mod Filled
 pub mod Links
 pub mod Needed
-pub mod Outcomes
+pub mod Possible
 pub mod Removals
 pub mod Reported
 pub mod Run
+pub mod Serial
 pub mod Started
 pub mod Story
 pub mod Waited

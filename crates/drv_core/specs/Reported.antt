@@ -1,5 +1,4 @@
-use Rattle.drv_core.specs.Outcomes.{is_claimed, is_started}
-use Rattle.drv_core.specs.Story.{removal_failed, report}
+use Rattle.drv_core.specs.Events.{is_claimed, is_started, removal_failed, reports}
 use Rattle.drv_words.specs.declared.answers.Answer.{Answer}
 use Rattle.drv_words.specs.declared.answers.Answer.TheVariants as answer
 use Rattle.drv_words.specs.declared.answers.WaitAnswer.TheVariants.{Lost, Signal}
@@ -32,4 +31,4 @@ pub data Reported : List RunEvent → Type 0 where
   silent : (e : RunEvent) (events : List RunEvent) → note_for e.step e.answer ≡ None → is_report e.step ≡ false → Reported events
       → Reported (e ∷ events)
   told : (e : RunEvent) (n : Note) (told : Bool) (events : List RunEvent) → note_for e.step e.answer ≡ Some n → Reported events
-      → Reported (e ∷ report n told ∷ events)
+      → Reported (e ∷ reports n told ∷ events)

@@ -1,11 +1,10 @@
-use Rattle.drv_core.specs.Outcomes.{Answers, JobAnswers, job_failed, started}
-use Rattle.drv_core.specs.Windowed.{Windowed, serial}
-use Rattle.drv_words.specs.Places.{group_at, job_at}
+use Rattle.drv_core.specs.Events.{failed, job_of}
+use Rattle.drv_core.specs.Links.{is_work_of, link_run}
+use Rattle.drv_core.specs.Windowed.{source_at}
 use Rattle.drv_words.specs.declared.answers.Answer.{Answer}
 use Rattle.drv_words.specs.declared.answers.Answer.TheVariants as answer
 use Rattle.drv_words.specs.declared.answers.StartAnswer.TheVariants as start
 use Rattle.drv_words.specs.declared.plan.Command.{Command}
-use Rattle.drv_words.specs.declared.plan.Job.{Job}
 use Rattle.drv_words.specs.declared.plan.Plan.{Plan}
 use Rattle.drv_words.specs.declared.steps.Place.{Place}
 use Rattle.drv_words.specs.declared.steps.Place.TheVariants as place
@@ -13,44 +12,52 @@ use Rattle.drv_words.specs.declared.steps.RunEvent.{RunEvent}
 use Rattle.drv_words.specs.declared.steps.Step.{Step}
 use Rattle.drv_words.specs.declared.steps.Step.TheVariants as step
 use Rattle.std.specs.List.{flat_map}
-use Rattle.std.specs.Option.{option_to_list}
-use Rattle.std.specs.Prelude.{◌≡◌, ◌+◌, ⊤, List, [], ◌∷◌, ◌++◌, false, if◌then◌else◌, nat_eq, slice_get, ℕ}
+use Rattle.std.specs.Prelude.{◌≡◌, ◌+◌, ◌-◌, ◌<◌, ◌&&◌, List, [], ◌∷◌, ◌++◌, if◌then◌else◌, length, nat_eq, suc, zero, ℕ}
 
 -- Which commands of a plan are started (POSIX c99, "Consequences of Errors"; this project's profile).
 
--- the planned list of a job: its commands, group after group
-abbrev pub commands_of : Job → List Command
-commands_of job = flat_map (λ group. group) job.groups
+-- members of a group, from number i on: one and `more` others
+abbrev pub members : ℕ → ℕ → ℕ → ℕ → List Place
+members k g i zero = place.Command k g i ∷ []
+members k g i (suc more) = place.Command k g i ∷ members k g (i + 1) more
 
--- the command at a place of the plan, if it belongs to job k
-abbrev pub command_at : Plan → ℕ → Place → List Command
-command_at plan k (place.Command j g i) = if nat_eq j k then option_to_list (slice_get (group_at (job_at plan j) g) i) else []
-command_at plan k p = []
+-- the planned list of job k: its commands, group after group, from group g on
+abbrev pub planned : ℕ → ℕ → List (List Command) → List Place
+planned k g [] = []
+planned k g (c ∷ groups) = members k g 0 (length c - 1) ++ planned k (g + 1) groups
 
--- the command of job k that this step and answer started, if any
-abbrev pub started_by : Plan → ℕ → Step → Answer → List Command
-started_by plan k (step.Start p from_pipe to_pipe) (answer.Start (start.Started id)) = command_at plan k p
-started_by plan k s a = []
+-- what happens to a job: a command of it is started, or a claim, start or wait of it fails
+pub data Act : Type 0 where
+  Starts : (p : Place) → Act
+  Fails : Act
+
+-- the act of job k that a step and its answer are, if any
+abbrev pub act_of : ℕ → Step → Answer → List Act
+act_of k (step.Start p from_pipe to_pipe) (answer.Start (start.Started id)) = if nat_eq (job_of p) k then Starts p ∷ [] else []
+act_of k s x = if is_work_of k s && failed x then Fails ∷ [] else []
+
+-- the acts of job k in events
+abbrev pub acts_in : ℕ → List RunEvent → List Act
+acts_in k events = flat_map (λ e. act_of k e.step e.answer) events
+
+-- the commands that acts start
+abbrev pub starts_of : List Act → List Place
+starts_of [] = []
+starts_of (Starts p ∷ acts) = p ∷ starts_of acts
+starts_of (Fails ∷ acts) = starts_of acts
 
 -- the started commands of job k, in the order of the events
-abbrev pub started_in : Plan → ℕ → List RunEvent → List Command
-started_in plan k events = flat_map (λ e. started_by plan k e.step e.answer) events
+abbrev pub started_in : ℕ → List RunEvent → List Place
+started_in k events = starts_of (acts_in k events)
 
--- The started commands of job k are the planned list up to its first failure, as its answers say. So they are the first commands of that
--- list, and all of them if the job did not fail.
-pub record StartsFirst (plan : Plan) (events : List RunEvent) (k : ℕ) (job : Job) (a : JobAnswers) : Type 0 where
-  pub by_rule : started_in plan k events ≡ started job a
-  pub rest : List Command
-  pub first : commands_of job ≡ started_in plan k events ++ rest
-  pub every : job_failed a ≡ false → started_in plan k events ≡ commands_of job
+-- The commands of the list are started one after another, until something fails. So each is started exactly if no failure of the job comes
+-- before it.
+pub data InOrder : List Place → List Act → Type 0 where
+  all_started : InOrder [] []
+  starts : {p : Place} {ps : List Place} {acts : List Act} → InOrder ps acts → InOrder (p ∷ ps) (Starts p ∷ acts)
+  fails : {ps : List Place} {acts : List Act} → starts_of acts ≡ [] → InOrder ps (Fails ∷ acts)
 
--- the same for each job, from number k on
-abbrev pub EachStartsFirst : Plan → List RunEvent → ℕ → List Job → List JobAnswers → Type 0
-EachStartsFirst plan events k [] xs = ⊤
-EachStartsFirst plan events k (job ∷ jobs) [] = ⊤
-EachStartsFirst plan events k (job ∷ jobs) (a ∷ xs) = StartsFirst plan events k job a × EachStartsFirst plan events (k + 1) jobs xs
-
--- Each job starts the same commands in the same order as in the run of window 1 with the same answers.
-abbrev pub StartsTheSame : Type 0
-StartsTheSame = (plan : Plan) (N : ℕ) (o : Answers) (E : List RunEvent) (w : Windowed plan N o E) (k : ℕ)
-    → started_in plan k (serial plan o w.blocks) ≡ started_in plan k E
+-- the same of each source, and of the link if it is run
+pub record StartsInOrder (plan : Plan) (events : List RunEvent) : Type 0 where
+  pub sources : (k : ℕ) → k < length plan.jobs → InOrder (planned k 0 (source_at plan k).groups) (acts_in k events)
+  pub link : InOrder (planned (length plan.jobs) 0 (link_run plan events).groups) (acts_in (length plan.jobs) events)

@@ -1,111 +1,109 @@
-use Rattle.drv_core.specs.Outcomes.{Answers, File, GroupAnswers, JobAnswers, Told, is_claimed, link_run, removed_at_end}
-use Rattle.drv_words.specs.declared.answers.Answer.{Answer}
-use Rattle.drv_words.specs.declared.answers.Answer.TheVariants as answer
+use Rattle.drv_core.specs.Events.{Block, claims, closes, is_claimed, positive, removal_failed, removes, reports, starts, waits}
 use Rattle.drv_words.specs.declared.answers.ClaimAnswer.{ClaimAnswer}
+use Rattle.drv_words.specs.declared.answers.ClaimAnswer.TheVariants as claim
+use Rattle.drv_words.specs.declared.answers.NotStarted.{NotStarted}
 use Rattle.drv_words.specs.declared.answers.RemoveAnswer.{RemoveAnswer}
-use Rattle.drv_words.specs.declared.answers.RemoveAnswer.TheVariants as remove
-use Rattle.drv_words.specs.declared.answers.StartAnswer.{StartAnswer}
-use Rattle.drv_words.specs.declared.answers.StartAnswer.TheVariants.{NotStarted, Started}
-use Rattle.drv_words.specs.declared.answers.WaitAnswer.{WaitAnswer}
+use Rattle.drv_words.specs.declared.answers.StartAnswer.TheVariants as start
 use Rattle.drv_words.specs.declared.answers.WaitAnswer.TheVariants.{Exit, Lost, Signal}
 use Rattle.drv_words.specs.declared.plan.Command.{Command}
 use Rattle.drv_words.specs.declared.plan.Job.{Job}
-use Rattle.drv_words.specs.declared.plan.Plan.{Plan}
-use Rattle.drv_words.specs.declared.steps.Note.{Note}
+use Rattle.drv_words.specs.declared.plan.Temp.{Temp}
 use Rattle.drv_words.specs.declared.steps.Note.TheVariants as note
-use Rattle.drv_words.specs.declared.steps.Place.{Place}
 use Rattle.drv_words.specs.declared.steps.Place.TheVariants as place
-use Rattle.drv_words.specs.declared.steps.RunEvent.{RunEvent}
-use Rattle.drv_words.specs.declared.steps.Step.{Step}
-use Rattle.drv_words.specs.declared.steps.Step.TheVariants as step
-use Rattle.std.specs.Prelude.{◌+◌, Bool, List, [], ◌∷◌, ◌++◌, false, if◌then◌else◌, length, nat_lt, true, ℕ}
+use Rattle.std.specs.Prelude.{◌≡◌, ◌+◌, ◌-◌, ◌||◌, Bool, List, [], ◌∷◌, false, length, suc, true, zero, ℕ}
 
--- The story of a job: the blocks of events that its answers make (this project's profile). A report directly follows the answer that it
--- reports.
+-- The story of a job: its blocks of events in order (POSIX c99, "Consequences of Errors"; this project's profile).
 
--- events that belong together: no event of another source comes between them
-abbrev pub Block : Type 0
-Block = List RunEvent
+-- a child that was started, and the member of its group that it is
+pub record Kid : Type 0 where
+  pub member : ℕ
+  pub id : ℕ
 
--- a step and its answer
-abbrev pub event : Step → Answer → RunEvent
-event s a = record { step = s; answer = a }
+-- What is left of a job's story. `Claims`: claim number i, then those of `ts`. `Starts`: group number g, of one command and `more`, then the
+-- groups `gs`. `Waits`: this child of group g, then `kids`; fault: whether the group has had one. `Removes`: failure file number i, then
+-- those of `fs`.
+pub data Left : Type 0 where
+  Fresh : Left
+  Claims : (i : ℕ) → (ts : List Temp) → Left
+  Starts : (g : ℕ) → (more : ℕ) → (gs : List (List Command)) → Left
+  Waits : (g : ℕ) → (fault : Bool) → (kid : Kid) → (kids : List Kid) → (gs : List (List Command)) → Left
+  Removes : (i : ℕ) → (fs : List (List ℕ)) → Left
+  Over : Left
 
--- a report; told: whether it was written
-abbrev pub report : Note → Bool → RunEvent
-report n told = event (step.Report n) (answer.Reported told)
+-- the groups from number g on
+abbrev pub to_groups : ℕ → List (List Command) → Left
+to_groups g [] = Over
+to_groups g (c ∷ gs) = Starts g (length c - 1) gs
 
--- one claim, with its report
-abbrev pub claim_block : ℕ → ℕ → Told ClaimAnswer → Block
-claim_block k i a = event (step.Claim (place.Temp k i)) (answer.Claim a.answer)
-    ∷ (if is_claimed a.answer then [] else report (note.NotClaimed (place.Temp k i)) a.told ∷ [])
+-- the claims from number i on, then the groups
+abbrev pub to_claims : Job → ℕ → List Temp → Left
+to_claims job i [] = to_groups 0 job.groups
+to_claims job i (t ∷ ts) = Claims i ts
 
--- the claims of job k, from the i-th on
-abbrev pub claim_blocks : ℕ → ℕ → List (Told ClaimAnswer) → List Block
-claim_blocks k i [] = []
-claim_blocks k i (a ∷ xs) = claim_block k i a ∷ claim_blocks k (i + 1) xs
+-- the failure files from number i on
+abbrev pub to_removals : ℕ → List (List ℕ) → Left
+to_removals i [] = Over
+to_removals i (f ∷ fs) = Removes i fs
 
--- The starts of a group of n, from member i on. All but the first read a pipe, all but the last write one. A refused start ends them,
--- followed by its report and, if an earlier member was started, by the closing of the pipe.
-abbrev pub start_event : ℕ → ℕ → ℕ → ℕ → StartAnswer → RunEvent
-start_event k g n i a = event (step.Start (place.Command k g i) (nat_lt 0 i) (nat_lt (i + 1) n)) (answer.Start a)
+-- after the starts of a group, and between its waits; where no child of the first group was started, nothing is removed
+abbrev pub to_waits : Job → ℕ → Bool → List Kid → List (List Command) → Left
+to_waits job g fault (kid ∷ kids) gs = Waits g fault kid kids gs
+to_waits job g true [] gs = to_removals 0 job.on_failure
+to_waits job g false [] gs = to_groups (g + 1) gs
 
--- the events of such starts; refused: whether the report of a refused start was written
-abbrev pub starts_block : ℕ → ℕ → ℕ → ℕ → Bool → List StartAnswer → Block
-starts_block k g n i refused [] = []
-starts_block k g n i refused (Started id ∷ xs) = start_event k g n i (Started id) ∷ starts_block k g n (i + 1) refused xs
-starts_block k g n i refused (NotStarted why ∷ xs) =
-    start_event k g n i (NotStarted why) ∷ report (note.NotStarted (place.Command k g i)) refused
-    ∷ (if nat_lt 0 i then event step.ClosePipe answer.Closed ∷ [] else [])
+-- after the starts; a first start that was refused in the first group leaves nothing to do
+abbrev pub after_starts : Job → ℕ → Bool → List Kid → List (List Command) → Left
+after_starts job zero fault [] gs = Over
+after_starts job (suc g) fault [] gs = to_waits job (suc g) fault [] gs
+after_starts job g fault (kid ∷ kids) gs = Waits g fault kid kids gs
 
--- one wait, with its report
-abbrev pub wait_report : Place → WaitAnswer → Bool → Block
-wait_report p (Exit n) told = []
-wait_report p Signal told = report (note.Signalled p) told ∷ []
-wait_report p Lost told = report (note.Lost p) told ∷ []
+-- a job without groups has the empty story
+abbrev pub begin_with : List (List Command) → Left
+begin_with [] = Over
+begin_with (c ∷ gs) = Fresh
 
--- the wait for child `id`, which is member i of the group
-abbrev pub wait_block : ℕ → ℕ → ℕ → ℕ → Told WaitAnswer → Block
-wait_block k g i id w =
-    event (step.Wait (place.Command k g i) id) (answer.Wait w.answer) ∷ wait_report (place.Command k g i) w.answer w.told
+abbrev pub begin : Job → Left
+begin job = begin_with job.groups
 
--- the waits for the started members, from member i on
-abbrev pub wait_blocks : ℕ → ℕ → ℕ → List StartAnswer → List (Told WaitAnswer) → List Block
-wait_blocks k g i (Started id ∷ xs) (w ∷ ws) = wait_block k g i id w ∷ wait_blocks k g (i + 1) xs ws
-wait_blocks k g i xs ws = []
+-- The starts of a group from member i on, `more` others after it, with the children and whether one was refused. All but the first read a
+-- pipe, all but the last write one.
+pub data Starting (k g : ℕ) : ℕ → ℕ → Block → List Kid → Bool → Type 0 where
+  last : {i id : ℕ} → Starting k g i 0 (starts (place.Command k g i) (positive i) false (start.Started id) ∷ [])
+      (record { member = i; id = id } ∷ []) false
+  more : {i m id : ℕ} {b : Block} {kids : List Kid} {fault : Bool} → Starting k g (i + 1) m b kids fault
+      → Starting k g i (suc m) (starts (place.Command k g i) (positive i) true (start.Started id) ∷ b)
+      (record { member = i; id = id } ∷ kids) fault
+  -- the first is refused
+  refused_first : {m : ℕ} {why : NotStarted} {told : Bool} → Starting k g 0 m (starts (place.Command k g 0) false (positive m) (start.NotStarted why)
+      ∷ reports (note.NotStarted (place.Command k g 0)) told ∷ []) [] true
+  -- another is refused, and the pipe is closed
+  refused_later : {i m : ℕ} {why : NotStarted} {told : Bool} → Starting k g (suc i) m (starts (place.Command k g (suc i)) true (positive m)
+      (start.NotStarted why) ∷ reports (note.NotStarted (place.Command k g (suc i))) told ∷ closes ∷ []) [] true
 
--- each group's starts, then its waits
-abbrev pub group_blocks : ℕ → ℕ → List (List Command) → List GroupAnswers → List Block
-group_blocks k g (c ∷ cs) (a ∷ xs) = (starts_block k g (length c) 0 a.refused a.starts ∷ wait_blocks k g 0 a.starts a.waits)
-    ++ group_blocks k (g + 1) cs xs
-group_blocks k g cs xs = []
+-- a whole block leads on
+pub data Goes (k : ℕ) (job : Job) : Left → Block → Left → Type 0 where
+  begins : {b : Block} {m : Left} → Goes k job (to_claims job 0 job.temps) b m → Goes k job Fresh b m
+  claimed : {i : ℕ} {ts : List Temp} → Goes k job (Claims i ts) (claims (place.Temp k i) claim.Claimed ∷ []) (to_claims job (i + 1) ts)
+  unclaimed : {i : ℕ} {ts : List Temp} {x : ClaimAnswer} {told : Bool} → is_claimed x ≡ false
+      → Goes k job (Claims i ts) (claims (place.Temp k i) x ∷ reports (note.NotClaimed (place.Temp k i)) told ∷ []) Over
+  started : {g m : ℕ} {gs : List (List Command)} {b : Block} {kids : List Kid} {fault : Bool} → Starting k g 0 m b kids fault
+      → Goes k job (Starts g m gs) b (after_starts job g fault kids gs)
+  exited : {g code : ℕ} {fault : Bool} {kid : Kid} {kids : List Kid} {gs : List (List Command)}
+      → Goes k job (Waits g fault kid kids gs) (waits (place.Command k g kid.member) kid.id (Exit code) ∷ [])
+      (to_waits job g (fault || positive code) kids gs)
+  signalled : {g : ℕ} {fault told : Bool} {kid : Kid} {kids : List Kid} {gs : List (List Command)}
+      → Goes k job (Waits g fault kid kids gs) (waits (place.Command k g kid.member) kid.id Signal
+      ∷ reports (note.Signalled (place.Command k g kid.member)) told ∷ []) (to_waits job g true kids gs)
+  lost : {g : ℕ} {fault told : Bool} {kid : Kid} {kids : List Kid} {gs : List (List Command)}
+      → Goes k job (Waits g fault kid kids gs) (waits (place.Command k g kid.member) kid.id Lost
+      ∷ reports (note.Lost (place.Command k g kid.member)) told ∷ []) (to_waits job g true kids gs)
+  removed : {i : ℕ} {fs : List (List ℕ)} {x : RemoveAnswer} → removal_failed x ≡ false
+      → Goes k job (Removes i fs) (removes (place.OnFailure k i) x ∷ []) (to_removals (i + 1) fs)
+  stays : {i : ℕ} {fs : List (List ℕ)} {x : RemoveAnswer} {told : Bool} → removal_failed x ≡ true
+      → Goes k job (Removes i fs) (removes (place.OnFailure k i) x ∷ reports (note.NotRemoved (place.OnFailure k i)) told ∷ [])
+      (to_removals (i + 1) fs)
 
--- whether a removal failed; a file that isn't there, or is no plain file, is no failure
-abbrev pub removal_failed : RemoveAnswer → Bool
-removal_failed remove.Removed = false
-removal_failed remove.Missing = false
-removal_failed remove.NotPlain = false
-removal_failed remove.Failed = true
-
--- the removal of a place, with its report
-abbrev pub removal_block : Place → Told RemoveAnswer → Block
-removal_block p a = event (step.Remove p) (answer.Remove a.answer)
-    ∷ (if removal_failed a.answer then report (note.NotRemoved p) a.told ∷ [] else [])
-
--- a job's removals of its own failure files, from the i-th on
-abbrev pub own_removals : ℕ → ℕ → List (Told RemoveAnswer) → List Block
-own_removals k i [] = []
-own_removals k i (a ∷ xs) = removal_block (place.OnFailure k i) a ∷ own_removals k (i + 1) xs
-
--- the claims, the groups, and the job's own removals
-abbrev pub story : ℕ → Job → JobAnswers → List Block
-story k job a = claim_blocks k 0 a.claims ++ (group_blocks k 0 job.groups a.groups ++ own_removals k 0 a.removals)
-
--- the removals at the end, of these files with these answers
-abbrev pub end_removals : List File → List (Told RemoveAnswer) → List Block
-end_removals (f ∷ fs) (a ∷ xs) = removal_block f.place a ∷ end_removals fs xs
-end_removals fs xs = []
-
--- the events after the sources: the link's story, then the removals at the end
-abbrev pub after_sources : Plan → Answers → List Block
-after_sources plan o = story (length plan.jobs) (link_run plan.link o.jobs) o.link ++ end_removals (removed_at_end plan o) o.last
+-- the blocks of a job, to the end
+pub data Story (k : ℕ) (job : Job) : Left → List Block → Type 0 where
+  over : Story k job Over []
+  next : {s m : Left} {b : Block} {bs : List Block} → Goes k job s b m → Story k job m bs → Story k job s (b ∷ bs)

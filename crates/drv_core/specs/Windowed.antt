@@ -1,16 +1,24 @@
-use Rattle.drv_core.specs.Outcomes.{Answers, JobAnswers, none, whole}
-use Rattle.drv_core.specs.Story.{Block, after_sources, story}
+use Rattle.drv_core.specs.Events.{Block, events_of, failed, job_of, removal_failed, removes, reports}
+use Rattle.drv_core.specs.Story.{Fresh, Goes, Left, Over, Story, Waits, begin}
+use Rattle.drv_words.specs.Places.{no_job}
 use Rattle.drv_words.specs.declared.answers.Answer.{Answer}
 use Rattle.drv_words.specs.declared.answers.Answer.TheVariants as answer
-use Rattle.drv_words.specs.declared.answers.StartAnswer.TheVariants.{Started}
+use Rattle.drv_words.specs.declared.answers.ClaimAnswer.TheVariants as claim
+use Rattle.drv_words.specs.declared.answers.RemoveAnswer.{RemoveAnswer}
 use Rattle.drv_words.specs.declared.plan.Job.{Job}
 use Rattle.drv_words.specs.declared.plan.Plan.{Plan}
+use Rattle.drv_words.specs.declared.plan.Temp.{Temp}
+use Rattle.drv_words.specs.declared.steps.Note.TheVariants as note
+use Rattle.drv_words.specs.declared.steps.Place.{Place}
+use Rattle.drv_words.specs.declared.steps.Place.TheVariants as place
 use Rattle.drv_words.specs.declared.steps.RunEvent.{RunEvent}
 use Rattle.drv_words.specs.declared.steps.Step.{Step}
 use Rattle.drv_words.specs.declared.steps.Step.TheVariants as step
-use Rattle.std.specs.List.{flat_map}
-use Rattle.std.specs.Prelude.{◌≡◌, ◌&&◌, ◌||◌, ◌+◌, ◌≤◌, ⊤, Bool, List, [], ◌∷◌, ◌++◌, false, if◌then◌else◌, length, min, nat_eq, nat_lt}
-use Rattle.std.specs.Prelude.{not, suc, true, zero, ℕ}
+use Rattle.std.specs.Cmp.Lexicographic.{pointwise}
+use Rattle.std.specs.List.{filter, list_any}
+use Rattle.std.specs.Option.{option_to_list}
+use Rattle.std.specs.Prelude.{◌≡◌, ◌&&◌, ◌+◌, ◌<◌, Bool, List, [], ◌∷◌, ◌++◌, false, get_or, if◌then◌else◌, length}
+use Rattle.std.specs.Prelude.{map, min, nat_eq, suc, true, unwrap_or, zero, ℕ}
 
 -- A whole run of a plan with at most N sources under way at once (this project's profile).
 
@@ -24,124 +32,150 @@ abbrev pub of : ℕ → List SourceBlock → List Block
 of k [] = []
 of k (b ∷ bs) = if nat_eq b.source k then b.block ∷ of k bs else of k bs
 
--- whether source k has a block
-abbrev pub has : ℕ → List SourceBlock → Bool
-has k bs = not (none (of k bs))
-
--- the events of blocks
-abbrev pub events_of : List Block → List RunEvent
-events_of blocks = flat_map (λ b. b) blocks
-
 -- the blocks without their sources
 abbrev pub blocks_of : List SourceBlock → List Block
 blocks_of [] = []
 blocks_of (b ∷ bs) = b.block ∷ blocks_of bs
 
--- how many children an answer starts: one or none
-abbrev pub child_started : Answer → ℕ
-child_started (answer.Start (Started id)) = 1
-child_started a = 0
+-- whether a story has not begun
+abbrev pub is_fresh : Left → Bool
+is_fresh Fresh = true
+is_fresh s = false
 
--- the same of an event
-abbrev pub starts_child : RunEvent → ℕ
-starts_child e = child_started e.answer
+-- whether it has not ended
+abbrev pub is_left : Left → Bool
+is_left Over = false
+is_left s = true
 
--- whether a step is a wait
-abbrev pub child_awaited : Step → ℕ
-child_awaited (step.Wait p id) = 1
-child_awaited s = 0
+-- whether it has begun and not ended
+abbrev pub is_under_way : Left → Bool
+is_under_way Fresh = false
+is_under_way Over = false
+is_under_way s = true
 
--- the same of an event
-abbrev pub waits_child : RunEvent → ℕ
-waits_child e = child_awaited e.step
-
--- a sum over events
-abbrev pub total : (RunEvent → ℕ) → List RunEvent → ℕ
-total f [] = 0
-total f (e ∷ es) = f e + total f es
-
--- a child was started and has not been waited for
-abbrev pub in_flight : List Block → Bool
-in_flight bs = nat_lt (total waits_child (events_of bs)) (total starts_child (events_of bs))
-
--- whether a block has a wait
-abbrev pub is_wait : Block → Bool
-is_wait b = nat_lt 0 (total waits_child b)
+-- whether a child was started and not yet waited for
+abbrev pub is_flying : Left → Bool
+is_flying (Waits g fault kid kids gs) = true
+is_flying s = false
 
 -- how many sources below n pass the test
 abbrev pub count : ℕ → (ℕ → Bool) → ℕ
 count zero p = 0
 count (suc n) p = (if p n then 1 else 0) + count n p
 
--- A block of source k may come next, of n sources in a window of N; wait: whether the block is a wait. The three functions say which
--- sources have begun, which have blocks to come (this one among them), and which have a child in flight.
-pub record MayCome (n N : ℕ) (begun left flying : ℕ → Bool) (k : ℕ) (wait : Bool) : Type 0 where
-  pub is_source : nat_lt k n ≡ true
-  -- no earlier source that hasn't begun has blocks to come
-  pub in_order : count k (λ j. not (begun j) && left j) ≡ 0
-  -- with it at most N sources have begun and not ended
-  pub in_window : count n (λ j. (begun j || nat_eq j k) && left j) ≤ N
-  -- before a wait, as many sources as possible have a child in flight
-  pub all_in_flight : wait ≡ true → count n flying ≡ min N (count n left)
+-- the stages, with m as that of source k
+abbrev pub put : (ℕ → Left) → ℕ → Left → ℕ → Left
+put st k m j = if nat_eq k j then m else st j
 
--- whether a source has blocks to come and the first may come next; waits: whether that block is a wait
-abbrev pub may_go_on : ℕ → ℕ → (ℕ → Bool) → (ℕ → Bool) → (ℕ → Bool) → (ℕ → Bool) → ℕ → Bool
-may_go_on n N begun left flying waits k =
-    left k && (nat_eq (count k (λ j. not (begun j) && left j)) 0 && (nat_lt (count n (λ j. (begun j || nat_eq j k) && left j)) (N + 1)
-    && (not (waits k) || nat_eq (count n flying) (min N (count n left)))))
+-- A block of source k may come next, of n sources in a window of N. Sources begin in plan order, at most N are under way, and at a wait as
+-- many as possible have a child in flight.
+pub record MayCome (n N : ℕ) (st : ℕ → Left) (k : ℕ) : Type 0 where
+  pub is_source : k < n
+  pub in_order : is_fresh (st k) ≡ true → (j : ℕ) → j < k → is_fresh (st j) ≡ false
+  pub in_window : is_fresh (st k) ≡ true → count n (λ j. is_under_way (st j)) < N
+  pub all_fly : is_flying (st k) ≡ true → count n (λ j. is_flying (st j)) ≡ min N (count n (λ j. is_left (st j)))
 
--- each block may come in its turn, after `before`; `left`: the sources that have more blocks to come after them
-abbrev pub AllMayCome : ℕ → ℕ → (ℕ → Bool) → List SourceBlock → List SourceBlock → Type 0
-AllMayCome n N left before [] = ⊤
-AllMayCome n N left before (b ∷ after) =
-    MayCome n N (λ j. has j before) (λ j. has j (b ∷ after) || left j) (λ j. in_flight (of j before)) b.source (is_wait b.block)
-    × AllMayCome n N left (before ++ b ∷ []) after
+-- blocks of the sources lead from these stages to those
+pub data Leads (n N : ℕ) (job : ℕ → Job) : (ℕ → Left) → List SourceBlock → (ℕ → Left) → Type 0 where
+  no_more : {st : ℕ → Left} → Leads n N job st [] st
+  goes_on : {st : ℕ → Left} {k : ℕ} {b : Block} {m : Left} {bs : List SourceBlock} {end : ℕ → Left} → MayCome n N st k → Goes k (job k) (st k) b m
+      → Leads n N job (put st k m) bs end → Leads n N job st (record { source = k; block = b } ∷ bs) end
 
--- no source has more blocks to come
-abbrev pub nowhere : ℕ → Bool
-nowhere j = false
+-- the source of a number
+abbrev pub source_at : Plan → ℕ → Job
+source_at plan k = get_or plan.jobs k no_job
 
--- the blocks of each source, from source k on, are its story
-abbrev pub TellStories : List SourceBlock → ℕ → List Job → List JobAnswers → Type 0
-TellStories blocks k [] xs = ⊤
-TellStories blocks k (job ∷ jobs) [] = ⊤
-TellStories blocks k (job ∷ jobs) (a ∷ xs) = (of k blocks ≡ story k job a) × TellStories blocks (k + 1) jobs xs
+-- the stages at the start
+abbrev pub begins : Plan → ℕ → Left
+begins plan k = begin (source_at plan k)
 
--- E is a whole run with these answers: whole blocks of the sources' stories in a permitted order, then the link's story and the removals at
--- the end. `blocks` are those of the sources. `stories` says that they are the stories of the answers, `may_come` that their order is
--- permitted, and `all_answers` that no answer is missing.
-pub record Windowed (plan : Plan) (N : ℕ) (o : Answers) (E : List RunEvent) : Type 0 where
+-- the link, if there is one and nothing failed in these events
+abbrev pub link_after : Plan → List RunEvent → Job
+link_after plan events = if list_any (λ e. failed e.answer) events then no_job else unwrap_or plan.link no_job
+
+-- The files that are removed at the end.
+
+-- a file of a plan, by its place and path
+pub record File : Type 0 where
+  pub place : Place
+  pub path : List ℕ
+
+-- the temporaries of job k, from number i on
+abbrev pub temp_files : ℕ → ℕ → List Temp → List File
+temp_files k i [] = []
+temp_files k i (t ∷ ts) = record { place = place.Temp k i; path = t.path } ∷ temp_files k (i + 1) ts
+
+-- the marked files of job k, from number i on
+abbrev pub marked_files : ℕ → ℕ → List (List ℕ) → List File
+marked_files k i [] = []
+marked_files k i (m ∷ ms) = record { place = place.Marked k i; path = m } ∷ marked_files k (i + 1) ms
+
+-- the temporaries and the marked files of job k
+abbrev pub job_files : ℕ → Job → List File
+job_files k job = temp_files k 0 job.temps ++ marked_files k 0 job.marked
+
+-- the same of the jobs from number k on
+abbrev pub files_from : ℕ → List Job → List File
+files_from k [] = []
+files_from k (job ∷ jobs) = job_files k job ++ files_from (k + 1) jobs
+
+-- those of the sources, then those of the link
+abbrev pub all_files : Plan → List File
+all_files plan = files_from 0 (plan.jobs ++ option_to_list plan.link)
+
+-- whether a place is temporary i of job k
+abbrev pub is_temp : ℕ → ℕ → Place → Bool
+is_temp k i (place.Temp j h) = nat_eq j k && nat_eq h i
+is_temp k i p = false
+
+-- whether an event is that temporary's claim, and it was claimed
+abbrev pub has_claimed : ℕ → ℕ → Step → Answer → Bool
+has_claimed k i (step.Claim p) (answer.Claim claim.Claimed) = is_temp k i p
+has_claimed k i s x = false
+
+-- whether a step is a claim or a start of job k
+abbrev pub is_call_of : ℕ → Step → Bool
+is_call_of k (step.Claim p) = nat_eq (job_of p) k
+is_call_of k (step.Start p from_pipe to_pipe) = nat_eq (job_of p) k
+is_call_of k s = false
+
+-- whether a file is one that is removed: a claimed temporary, or a marked file of a job that made a call
+abbrev pub is_due : List RunEvent → Place → Bool
+is_due events (place.Temp k i) = list_any (λ e. has_claimed k i e.step e.answer) events
+is_due events (place.Marked k i) = list_any (λ e. is_call_of k e.step) events
+is_due events p = false
+
+-- each path once, at its first place
+abbrev pub each_once : List (List ℕ) → List File → List File
+each_once seen [] = []
+each_once seen (f ∷ fs) = if list_any (pointwise nat_eq f.path) seen then each_once seen fs else f ∷ each_once (f.path ∷ seen) fs
+
+-- the files that are due after these events, by their places
+abbrev pub due : Plan → List RunEvent → List Place
+due plan events = map (λ f. f.place) (each_once [] (filter (λ f. is_due events f.place) (all_files plan)))
+
+-- the removals of these files
+pub data Removals : List Place → List RunEvent → Type 0 where
+  all_removed : Removals [] []
+  removed : {p : Place} {ps : List Place} {x : RemoveAnswer} {events : List RunEvent} → removal_failed x ≡ false → Removals ps events
+      → Removals (p ∷ ps) (removes p x ∷ events)
+  stays : {p : Place} {ps : List Place} {x : RemoveAnswer} {told : Bool} {events : List RunEvent} → removal_failed x ≡ true
+      → Removals ps events → Removals (p ∷ ps) (removes p x ∷ reports (note.NotRemoved p) told ∷ events)
+
+-- E is a whole run: whole blocks of the sources' stories in a permitted order, then the link's story, then the removals at the end.
+pub record Windowed (plan : Plan) (N : ℕ) (E : List RunEvent) : Type 0 where
   pub blocks : List SourceBlock
-  pub events : E ≡ events_of (blocks_of blocks) ++ events_of (after_sources plan o)
-  pub stories : TellStories blocks 0 plan.jobs o.jobs
-  pub may_come : AllMayCome (length plan.jobs) N nowhere [] blocks
-  pub all_answers : whole plan o ≡ true
+  pub ends : ℕ → Left
+  pub link : List Block
+  pub last : List RunEvent
+  pub events : E ≡ events_of (blocks_of blocks) ++ (events_of link ++ last)
+  pub leads : Leads (length plan.jobs) N (source_at plan) (begins plan) blocks ends
+  pub ended : (k : ℕ) → ends k ≡ Over
+  pub link_story : Story (length plan.jobs) (link_after plan (events_of (blocks_of blocks)))
+      (begin (link_after plan (events_of (blocks_of blocks)))) link
+  pub last_removals : Removals (due plan (events_of (blocks_of blocks) ++ events_of link)) last
 
--- E is the beginning of a whole run. `o` is answers of that run, and `rest` the events that are missing.
+-- E is the beginning of a whole run; `rest`: the events that are missing
 pub record IsBeginning (plan : Plan) (N : ℕ) (E : List RunEvent) : Type 0 where
-  pub o : Answers
   pub rest : List RunEvent
-  pub windowed : Windowed plan N o (E ++ rest)
-
--- E is a whole run, with some answers
-pub record IsWhole (plan : Plan) (N : ℕ) (E : List RunEvent) : Type 0 where
-  pub o : Answers
-  pub windowed : Windowed plan N o E
-
--- the sources' blocks, source by source in plan order
-abbrev pub only : ℕ → List SourceBlock → List SourceBlock
-only k [] = []
-only k (b ∷ bs) = if nat_eq b.source k then b ∷ only k bs else only k bs
-
--- the blocks of the first n sources, source by source
-abbrev pub by_source : ℕ → List SourceBlock → List SourceBlock
-by_source zero bs = []
-by_source (suc n) bs = by_source n bs ++ only n bs
-
--- the events of a run, rearranged source by source
-abbrev pub serial : (plan : Plan) (o : Answers) → List SourceBlock → List RunEvent
-serial plan o blocks = events_of (blocks_of (by_source (length plan.jobs) blocks)) ++ events_of (after_sources plan o)
-
--- every run, rearranged source by source, is a run of window 1 with the same answers
-abbrev pub Rearranges : Type 0
-Rearranges = (plan : Plan) (N : ℕ) (o : Answers) (E : List RunEvent) (w : Windowed plan N o E) → Windowed plan 1 o (serial plan o w.blocks)
+  pub whole : Windowed plan N (E ++ rest)

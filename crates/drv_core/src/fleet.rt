@@ -1,17 +1,20 @@
 //! The sources of a run, and the source in progress.
 
 // In clauses: `fleet_of` is what definitions see of the sources. `AllFilled` says that no group of
-// any job is empty. `HasRoom` says that a stage which starts a child has room for it.
-ghost use Rattle.drv_core.specs.Code.Fleet.{able, all_fly, asked_of, busy, closed, ended};
-ghost use Rattle.drv_core.specs.Code.Fleet.{first_busy, flying, fresh, fresh_fleet, may_go, opened};
-ghost use Rattle.drv_core.specs.Code.Fleet.{selected, stage_in, taken, turned, worked, source_in};
-ghost use Rattle.drv_core.specs.Filled.{AllFilled};
-ghost use Rattle.drv_core.specs.Code.FleetView.{all_may, fleet_of, source_of};
-ghost use Rattle.drv_core.specs.Code.Source.{awaits, inside, left};
-ghost use Rattle.drv_core.specs.Code.SourceView.{HasRoom};
-ghost use Rattle.std.specs.Prelude.{◌≡◌, ◌+◌, ◌<◌, ◌≤◌, IfOk, OnOk, drop, get_or, length, map};
+// any job is empty. `AllInRoom` says that each source has room for its children.
+ghost use Rattle.drv_core.specs.Code.Fleet.{asked_of, busy, closed, ended, first_busy, flying};
+ghost use Rattle.drv_core.specs.Code.Fleet.{all_fly, fresh_fleet, going, able, may_begin, may_go, opened};
+ghost use Rattle.drv_core.specs.Code.Fleet.{selected, taken, turned, worked};
+ghost use Rattle.drv_core.specs.Code.FleetView.{AllInRoom, all_may, fleet_of, turn_in};
+ghost use Rattle.drv_core.specs.Code.Machine.{Out};
+ghost use Rattle.drv_core.specs.Code.Turns.{awaits, is_inside, is_left};
+ghost use Rattle.drv_core.specs.Filled.{Filled};
+ghost use Rattle.drv_core.specs.Story.{begin};
 ghost use Rattle.drv_words.specs.Places.{no_job};
+ghost use Rattle.drv_words.specs.declared.plan.Job.{Job};
 ghost use Rattle.std.specs.List.{filter, position};
+ghost use Rattle.std.specs.Prelude.{◌≡◌, ◌+◌, ◌<◌, ◌≤◌, IfOk, List, OnOk, drop, get_or, length};
+ghost use Rattle.std.specs.Prelude.{slice_get, ℕ};
 ghost use Rattle.std.specs.Vec.{vec_capacity};
 
 use crate::source::SourceState;
@@ -59,7 +62,7 @@ fn busy_place(jobs: &[Job]) -> Option<usize>
 }
 
 /// The first job from `from` on that has something to do, or the number of jobs.
-#[tactic(auto, using(crate::proofs::Stories::Places::place_within))]
+#[tactic(auto, using(crate::proofs::Searches::place_within))]
 fn first_busy(jobs: &[Job], from: usize) -> usize
     requires { from ≤ length jobs.now }
     ensures { result ≡ first_busy from (drop from jobs.now) }
@@ -77,8 +80,11 @@ fn count_busy(jobs: &[Job]) -> usize
 
 /// A source for each job. No job has an empty group.
 fn sources_of(alloc: Global, jobs: &[Job]) -> Result<Vec<SourceState>, AllocError>
-    ensures fresh { IfOk result (λ made. map source_of made.items ≡ map fresh jobs.now) }
-    ensures filled { OnOk result (AllFilled jobs.now) }
+    ensures fresh { IfOk result (λ made. (k : ℕ) → turn_in (get_or jobs.now k no_job)
+        (slice_get made.items k) ≡ Out (begin (get_or jobs.now k no_job))) }
+    ensures many { IfOk result (λ made. length made.items ≡ length jobs.now) }
+    ensures room { IfOk result (λ made. AllInRoom jobs.now made.items) }
+    ensures filled { OnOk result ((k : ℕ) → Filled (get_or jobs.now k no_job)) }
 {
     let mut sources = Vec::with_capacity(alloc, jobs.len())?;
     for job in jobs {
@@ -91,8 +97,10 @@ fn sources_of(alloc: Global, jobs: &[Job]) -> Result<Vec<SourceState>, AllocErro
 impl Fleet {
     /// The sources before the run.
     pub(crate) fn new(alloc: Global, jobs: &[Job], window: Window) -> Result<Fleet, AllocError>
-        ensures fresh { IfOk result (λ made. fleet_of made ≡ fresh_fleet jobs.now window) }
-        ensures filled { OnOk result (AllFilled jobs.now) }
+        ensures fresh { IfOk result (λ made. fleet_of jobs.now made ≡ fresh_fleet jobs.now window) }
+        ensures many { IfOk result (λ made. length made.sources.items ≡ length jobs.now) }
+        ensures room { IfOk result (λ made. AllInRoom jobs.now made.sources.items) }
+        ensures filled { OnOk result ((k : ℕ) → Filled (get_or jobs.now k no_job)) }
     {
         let sources = sources_of(alloc, jobs)?;
         // One more than the window, so that there is always room for one more.
@@ -112,7 +120,7 @@ impl Fleet {
     pub(crate) fn asks(&self, jobs: &[Job]) -> Option<Step>
         requires jobs { self.now.current < length jobs.now }
         requires sources { self.now.current < length self.now.sources.items }
-        ensures { result ≡ asked_of jobs.now (fleet_of self.now) }
+        ensures { result ≡ asked_of jobs.now (fleet_of jobs.now self.now) }
     {
         self.sources[self.current].asks(self.current, &jobs[self.current])
     }
@@ -121,10 +129,11 @@ impl Fleet {
     pub(crate) fn take(&mut self, jobs: &[Job], answer: Answer)
         requires jobs { self.old.current < length jobs.now }
         requires sources { self.old.current < length self.old.sources.items }
-        requires children { HasRoom (stage_in (fleet_of self.old) self.old.current)
-            (source_in (fleet_of self.old) self.old.current).room }
+        requires children { AllInRoom jobs.now self.old.sources.items }
         requires room { length self.old.begun.items < vec_capacity self.old.begun }
-        ensures { fleet_of self.new ≡ taken jobs.now (fleet_of self.old) answer }
+        ensures taken { fleet_of jobs.now self.new ≡ taken jobs.now (fleet_of jobs.now self.old) answer }
+        ensures many { length self.new.sources.items ≡ length self.old.sources.items }
+        ensures children { AllInRoom jobs.now self.new.sources.items }
     {
         self.work(jobs, answer);
         // Within a block no other source may go on.
@@ -138,10 +147,10 @@ impl Fleet {
     fn work(&mut self, jobs: &[Job], answer: Answer)
         requires jobs { self.old.current < length jobs.now }
         requires sources { self.old.current < length self.old.sources.items }
-        requires children { HasRoom (stage_in (fleet_of self.old) self.old.current)
-            (source_in (fleet_of self.old) self.old.current).room }
-        ensures fleet { fleet_of self.new
-            ≡ worked (get_or jobs.now self.old.current no_job) (fleet_of self.old) answer }
+        requires children { AllInRoom jobs.now self.old.sources.items }
+        ensures fleet { fleet_of jobs.now self.new ≡ worked jobs.now (fleet_of jobs.now self.old) answer }
+        ensures many { length self.new.sources.items ≡ length self.old.sources.items }
+        ensures children { AllInRoom jobs.now self.new.sources.items }
         ensures current { self.new.current ≡ self.old.current }
         ensures begun { self.new.begun.items ≡ self.old.begun.items }
         ensures capacity { vec_capacity self.new.begun ≡ vec_capacity self.old.begun }
@@ -151,7 +160,8 @@ impl Fleet {
 
     /// Whether the source in progress has an open block.
     pub(crate) fn is_inside(&self) -> bool
-        ensures { result ≡ inside (stage_in (fleet_of self.now) self.now.current) }
+        ensures { (jobs : List Job)
+            → result ≡ is_inside ((fleet_of jobs self.now).turns self.now.current) }
     {
         match self.sources.as_slice().get(self.current) {
             Some(source) => source.is_inside(),
@@ -161,7 +171,8 @@ impl Fleet {
 
     /// Whether the source in progress has more to do.
     fn is_left(&self) -> bool
-        ensures { result ≡ left (stage_in (fleet_of self.now) self.now.current) }
+        ensures { (jobs : List Job)
+            → result ≡ is_left ((fleet_of jobs self.now).turns self.now.current) }
     {
         match self.sources.as_slice().get(self.current) {
             Some(source) => source.is_left(),
@@ -173,7 +184,8 @@ impl Fleet {
     fn turn(&mut self, jobs: &[Job])
         requires jobs { self.old.current < length jobs.now }
         requires room { length self.old.begun.items < vec_capacity self.old.begun }
-        ensures { fleet_of self.new ≡ turned jobs.now (fleet_of self.old) }
+        ensures turned { fleet_of jobs.now self.new ≡ turned jobs.now (fleet_of jobs.now self.old) }
+        ensures sources { self.new.sources.items ≡ self.old.sources.items }
     {
         self.open(jobs);
         self.close();
@@ -184,7 +196,8 @@ impl Fleet {
     fn open(&mut self, jobs: &[Job])
         requires jobs { self.old.current < length jobs.now }
         requires room { length self.old.begun.items < vec_capacity self.old.begun }
-        ensures { fleet_of self.new ≡ opened jobs.now (fleet_of self.old) }
+        ensures opened { fleet_of jobs.now self.new ≡ opened jobs.now (fleet_of jobs.now self.old) }
+        ensures sources { self.new.sources.items ≡ self.old.sources.items }
     {
         // Any other source has begun already, and is in the list.
         if self.current == self.next {
@@ -195,7 +208,8 @@ impl Fleet {
 
     /// After its last block a source has ended.
     fn close(&mut self)
-        ensures { fleet_of self.new ≡ closed (fleet_of self.old) }
+        ensures closed { (jobs : List Job) → fleet_of jobs self.new ≡ closed (fleet_of jobs self.old) }
+        ensures sources { self.new.sources.items ≡ self.old.sources.items }
     {
         if !self.is_left() {
             self.end();
@@ -204,7 +218,8 @@ impl Fleet {
 
     /// The source in progress has ended.
     fn end(&mut self)
-        ensures { fleet_of self.new ≡ ended (fleet_of self.old) }
+        ensures ended { (jobs : List Job) → fleet_of jobs self.new ≡ ended (fleet_of jobs self.old) }
+        ensures sources { self.new.sources.items ≡ self.old.sources.items }
     {
         let number = self.current;
         self.begun.retain(|other| *other != number);
@@ -213,7 +228,7 @@ impl Fleet {
 
     /// Whether the next block of a source is a wait.
     fn awaits(&self, number: usize) -> bool
-        ensures { result ≡ awaits (stage_in (fleet_of self.now) number) }
+        ensures { (jobs : List Job) → result ≡ awaits ((fleet_of jobs self.now).turns number) }
     {
         match self.sources.as_slice().get(number) {
             Some(source) => source.awaits(),
@@ -223,7 +238,7 @@ impl Fleet {
 
     /// How many sources have a child in flight.
     fn count_flying(&self) -> usize
-        ensures { result ≡ flying (fleet_of self.now) }
+        ensures { (jobs : List Job) → result ≡ flying (fleet_of jobs self.now) }
     {
         let begun = self.begun.as_slice();
         begun.iter().filter(|number| self.awaits(**number)).count()
@@ -231,7 +246,7 @@ impl Fleet {
 
     /// A source may wait once all sources that can have a child in flight have one.
     fn allowance(&self) -> Allowed
-        ensures { all_may result ≡ all_fly (fleet_of self.now) }
+        ensures { (jobs : List Job) → all_may result ≡ all_fly (fleet_of jobs self.now) }
     {
         if self.count_flying() == self.window.sources().min(self.unended) {
             Allowed::All
@@ -242,7 +257,8 @@ impl Fleet {
 
     /// Whether a source that has begun may go on.
     fn may_go(&self, allowed: Allowed, number: usize) -> bool
-        ensures { result ≡ may_go (all_may allowed) (fleet_of self.now) number }
+        ensures { (jobs : List Job)
+            → result ≡ may_go (all_may allowed) (fleet_of jobs self.now) number }
     {
         match allowed {
             Allowed::All => true,
@@ -253,9 +269,8 @@ impl Fleet {
     /// The source of this number among those that have begun and may go on, or else the next one
     /// that begins.
     fn nth_going(&self, choice: usize) -> usize
-        ensures { result ≡ get_or
-            (filter (may_go (all_fly (fleet_of self.now)) (fleet_of self.now)) self.now.begun.items)
-            choice self.now.next }
+        ensures { (jobs : List Job)
+            → result ≡ get_or (going (fleet_of jobs self.now)) choice self.now.next }
     {
         let allowed = self.allowance();
         let begun = self.begun.as_slice();
@@ -265,8 +280,7 @@ impl Fleet {
 
     /// How many of the sources that have begun may go on.
     fn count_going(&self) -> usize
-        ensures going { result ≡ length (filter
-            (may_go (all_fly (fleet_of self.now)) (fleet_of self.now)) self.now.begun.items) }
+        ensures going { (jobs : List Job) → result ≡ length (going (fleet_of jobs self.now)) }
         ensures few { result ≤ length self.now.begun.items }
     {
         let allowed = self.allowance();
@@ -277,13 +291,19 @@ impl Fleet {
             .count()
     }
 
+    /// Whether the next source may begin: the window has room for it.
+    fn may_begin(&self, jobs: &[Job]) -> bool
+        ensures { result ≡ may_begin jobs.now (fleet_of jobs.now self.now) }
+    {
+        self.next < jobs.len() && self.begun.as_slice().len() < self.window.sources()
+    }
+
     /// How many sources may go on.
     pub(crate) fn count_able(&self, jobs: &[Job]) -> usize
-        ensures { result ≡ length (able jobs.now (fleet_of self.now)) }
+        ensures { result ≡ length (able jobs.now (fleet_of jobs.now self.now)) }
     {
         let going = self.count_going();
-        // The next source may begin too, if the window has room.
-        if self.next < jobs.len() && self.begun.as_slice().len() < self.window.sources() {
+        if self.may_begin(jobs) {
             going + 1
         } else {
             going
@@ -291,8 +311,10 @@ impl Fleet {
     }
 
     /// Goes on with the source of this number among those that may.
-    pub(crate) fn select(&mut self, jobs: &[Job], choice: usize)
-        ensures { fleet_of self.new ≡ selected jobs.now (fleet_of self.old) choice }
+    pub(crate) fn select(&mut self, choice: usize)
+        ensures selected { (jobs : List Job)
+            → fleet_of jobs self.new ≡ selected (fleet_of jobs self.old) choice }
+        ensures sources { self.new.sources.items ≡ self.old.sources.items }
     {
         self.current = self.nth_going(choice);
     }

@@ -2,7 +2,6 @@
 #![tactic(auto)]
 
 mod action;
-mod answered;
 mod fleet;
 mod law;
 mod leftovers;
@@ -15,7 +14,8 @@ mod work;
 
 pub use action::Action;
 pub use law::{
-    interleaving_law, linking_law, removal_law, report_law, started_first, status_law, waiting_law,
+    bound_law, interleaving_law, linking_law, possible_law, removal_law, report_law, started_first,
+    waiting_law,
 };
 pub use needed::events_needed;
 pub use run::Run;

@@ -22,7 +22,7 @@ pub fn events_needed(plan: &Plan) -> Option<usize>
 }
 
 /// The events so far plus those of one more job.
-#[tactic(auto, using(crate::proofs::Bounds::Needs::too_many, crate::proofs::Bounds::Needs::one_more))]
+#[tactic(auto, using(crate::proofs::Needs::too_many, crate::proofs::Needs::one_more))]
 fn with_job(before: usize, job: &Job) -> Option<usize>
     ensures { result ≡ fitting (before + job_events job.now) }
 {

@@ -2,10 +2,9 @@
 
 // In clauses: `Adds` says that files were numbered after those before.
 ghost use Rattle.drv_core.specs.Code.LeftoverView.{leftover_list};
-ghost use Rattle.drv_core.specs.Code.LeftoverFiles.{all_files, files_from, job_files, temp_files};
+ghost use Rattle.drv_core.specs.Windowed.{all_files, files_from, job_files, marked_files, temp_files};
 ghost use Rattle.drv_core.specs.Code.Numbering.{numbered_files, number_in, numbered_too};
 ghost use Rattle.drv_core.specs.Code.NumberingView.{Adds, IsNoted};
-ghost use Rattle.drv_core.specs.Outcomes.{marked_files};
 ghost use Rattle.std.specs.Prelude.{◌≡◌, ◌∷◌, [], IfOk, List, OnOk, unwrap_or, ℕ};
 
 use crate::leftovers::Leftover;
@@ -90,14 +89,10 @@ impl<'p> Numbering<'p> {
         Ok(())
     }
 
-    /// Adds the files of a job, if it makes calls.
+    /// Adds the files of a job.
     fn add_job(&mut self, number: usize, job: &'p Job) -> Result<(), AllocError>
         ensures { Adds result (job_files number job.now) self.old self.new }
     {
-        // A job without commands makes no call, so it leaves no file.
-        if job.groups.as_slice().is_empty() {
-            return Ok(());
-        }
         self.add_temps(number, job)?;
         self.add_marked(number, job)
     }

@@ -1,20 +1,18 @@
 //! The run of a plan: the next step for every answer, and the result.
 
-// In clauses: `IfMake` holds of the next step, if there is one. `KeptWork` is what is known of every
-// run. `run_state_of` is what definitions see of a run. `needed` is the most events of a plan's
-// run. `run_of` is the events of a run among those of a journal. `Windowed` says that events are a
-// whole run with these answers.
+// In clauses: `IfMake` holds of the next step, if there is one. `Kept` is what is known of every run.
+// `course_of` is what definitions see of a run. `needed` is the most events of a plan's run.
+// `run_of` is what callers see of it. `Windowed` says that events are a whole run.
 ghost use Rattle.drv_core.specs.Choices.{BetweenBlocks, ChoicesAre, IsChoice, IsNextOf, IsOfFirst};
-ghost use Rattle.drv_core.specs.Code.Source.{is_kind};
+ghost use Rattle.drv_core.specs.Code.Course.{asked_by, choosing, stepped};
+ghost use Rattle.drv_core.specs.Code.CourseView.{course_of};
+ghost use Rattle.drv_core.specs.Code.Machine.{is_kind};
+ghost use Rattle.drv_core.specs.Code.RunView.{Kept, run_of};
+ghost use Rattle.drv_core.specs.Codes.{status_from, status_of};
+ghost use Rattle.drv_core.specs.Events.{event};
 ghost use Rattle.drv_core.specs.Needed.{needed};
-ghost use Rattle.drv_core.specs.Outcomes.{Answers, status_from, status_of};
-ghost use Rattle.drv_core.specs.Code.RunState.{moved, next_of};
-ghost use Rattle.drv_core.specs.Code.RunStateView.{run_state_of};
-ghost use Rattle.drv_core.specs.Code.Reached.{choosing};
 ghost use Rattle.drv_core.specs.Run.{IfDone, IfMake, step_in};
-ghost use Rattle.drv_core.specs.Code.RunView.{KeptWork, run_of};
-ghost use Rattle.drv_core.specs.Story.{event};
-ghost use Rattle.drv_core.specs.Windowed.{IsBeginning, IsWhole, Windowed};
+ghost use Rattle.drv_core.specs.Windowed.{IsBeginning, Windowed};
 ghost use Rattle.drv_core.specs.declared.action.Action.TheVariants as action;
 ghost use Rattle.drv_words.specs.declared.steps.Step.{Step};
 ghost use Rattle.drv_words.specs.Stepping.{can_make, fits, pipe_pending};
@@ -22,7 +20,7 @@ ghost use Rattle.std.specs.Prelude.{◌≡◌, ◌<◌, ◌≤◌, ◌++◌, ◌
 
 use crate::action::Action;
 use crate::window::Window;
-use crate::work::RunState;
+use crate::work::{RunState, greatest_code};
 use drv_words::{Answer, Plan, RunEvent};
 use std::alloc::{AllocError, Global};
 use std::marker::Model;
@@ -45,11 +43,11 @@ impl<'a> Model for Run<'a> {
 
     ghost Value = { specs.Run };
 
-    ghost use Rattle.drv_core.specs.Code.RunView.{KeptWork, run_of};
+    ghost use Rattle.drv_core.specs.Code.RunView.{Kept, run_of};
 
     ghost view = { λ r. run_of r.plan.now r.pass_codes r.work };
 
-    ghost invariant = { λ r. KeptWork r.plan.now r.work };
+    ghost invariant = { λ r. Kept r.plan.now r.work };
 }
 
 /// The status if this is the greatest code.
@@ -60,25 +58,25 @@ fn status_code(pass_codes: bool, code: u8) -> u8
 }
 
 /// The next step, or the status if there is none.
-#[tactic(auto, using(crate::proofs::Contracts::Runs::is_ready))]
+#[tactic(auto, using(crate::proofs::Runs::is_ready))]
 fn look(plan: &Plan, pass_codes: bool, work: &RunState) -> Action
-    requires { KeptWork plan.now work.now }
+    requires { Kept plan.now work.now }
     ensures { result ≡ (run_of plan.now pass_codes work.now).action }
 {
     match work.asks(plan) {
         Some(step) => Action::Make(step),
-        None => Action::Done(status_code(pass_codes, work.code)),
+        None => Action::Done(status_code(pass_codes, greatest_code(work.events.as_slice()))),
     }
 }
 
 /// Takes the answer to the next step.
 fn advance(plan: &Plan, work: &mut RunState, answer: Answer)
-    requires kept { KeptWork plan.now work.old }
-    requires kind { (s : Step) → next_of plan.now (run_state_of work.old) ≡ Some s
+    requires kept { Kept plan.now work.old }
+    requires kind { (s : Step) → asked_by plan.now (course_of plan.now work.old) ≡ Some s
         → is_kind s answer ≡ true }
-    ensures kept { KeptWork plan.now work.new }
-    ensures moved { (s : Step) → next_of plan.now (run_state_of work.old) ≡ Some s
-        → run_state_of work.new ≡ moved plan.now (run_state_of work.old) s answer }
+    ensures kept { Kept plan.now work.new }
+    ensures moved { (s : Step) → asked_by plan.now (course_of plan.now work.old) ≡ Some s
+        → course_of plan.now work.new ≡ stepped plan.now (course_of plan.now work.old) s answer }
     ensures window { work.new.fleet.window ≡ work.old.fleet.window }
 {
     match work.asks(plan) {
@@ -89,13 +87,13 @@ fn advance(plan: &Plan, work: &mut RunState, answer: Answer)
 
 /// Goes on with the chosen source.
 fn turn(plan: &Plan, work: &mut RunState, choice: usize)
-    requires kept { KeptWork plan.now work.old }
+    requires kept { Kept plan.now work.old }
     requires choice { IsChoice plan.now work.old.fleet.window work.old.events.items choice }
-    ensures kept { KeptWork plan.now work.new }
-    ensures chosen { run_state_of work.new ≡ choosing plan.now (run_state_of work.old) choice }
+    ensures kept { Kept plan.now work.new }
+    ensures chosen { course_of plan.now work.new ≡ choosing (course_of plan.now work.old) choice }
     ensures window { work.new.fleet.window ≡ work.old.fleet.window }
 {
-    work.choose(plan, choice);
+    work.choose(choice);
 }
 
 impl<'a> Run<'a> {
@@ -138,13 +136,12 @@ impl<'a> Run<'a> {
         ensures bound { length self.now.events ≤ needed self.now.plan }
         ensures fewer { IfMake result (λ step. length self.now.events < needed self.now.plan) }
         ensures unfinished { IfMake result
-            (λ step. IsWhole self.now.plan self.now.window self.now.events → ⊥) }
+            (λ step. Windowed self.now.plan self.now.window self.now.events → ⊥) }
         ensures whole { IfDone result
-            (λ status. IsWhole self.now.plan self.now.window self.now.events) }
+            (λ status. Windowed self.now.plan self.now.window self.now.events) }
         ensures pipe { IfDone result (λ status. pipe_pending self.now.events ≡ false) }
-        ensures status { IfDone result (λ status. (o : Answers)
-            → Windowed self.now.plan self.now.window o self.now.events
-            → status ≡ status_of self.now.pass_codes o) }
+        ensures status { IfDone result
+            (λ status. status ≡ status_of self.now.pass_codes self.now.events) }
     {
         look(self.plan, self.pass_codes, &self.work)
     }
@@ -183,10 +180,9 @@ impl<'a> Run<'a> {
     pub fn status(&self) -> u8
         requires { IfMake self.now.action (λ step. ⊥) }
         ensures done { self.now.action ≡ action.Done result }
-        ensures status { (o : Answers) → Windowed self.now.plan self.now.window o self.now.events
-            → result ≡ status_of self.now.pass_codes o }
+        ensures status { result ≡ status_of self.now.pass_codes self.now.events }
     {
-        status_code(self.pass_codes, self.work.code)
+        status_code(self.pass_codes, greatest_code(self.work.events.as_slice()))
     }
 
     /// How many sources may go on, if the events so far are whole blocks of the sources and a

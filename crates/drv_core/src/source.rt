@@ -1,26 +1,30 @@
 //! One source of a run: its next step, and the effect of each answer.
 
-// In clauses: `stage_at` is the stage of a source. `Filled` says that no group of a job is empty.
-ghost use Rattle.drv_core.specs.Code.Source.{after, after_claim, after_refusal, after_removal};
-ghost use Rattle.drv_core.specs.Code.Source.{after_start, after_wait, asks, begin};
-ghost use Rattle.drv_core.specs.Code.Source.{end_group, enter_claims, enter_group, enter_removals};
-ghost use Rattle.drv_core.specs.Code.Source.{enter_waits, wait_note};
+// In clauses: `turn_of` is what a source stands for. `asked` is its next step, and `took` what an
+// answer leaves. `InRoom` says that there is room for the children of each group.
+ghost use Rattle.drv_core.specs.Code.Machine.{In, Out, after, after_claim, after_removal, after_start};
+ghost use Rattle.drv_core.specs.Code.Machine.{after_wait, asked, asked_now, begun_turn, took};
+ghost use Rattle.drv_core.specs.Code.Machine.{took_now};
+ghost use Rattle.drv_core.specs.Code.Machine as inside;
+ghost use Rattle.drv_core.specs.Code.SourceView.{InGroup, InRoom, has_failed, kid_at, kids_from};
+ghost use Rattle.drv_core.specs.Code.SourceView.{turn_at, turn_of};
+ghost use Rattle.drv_core.specs.Events.{positive};
 ghost use Rattle.drv_core.specs.Filled.{Filled};
-ghost use Rattle.drv_core.specs.Code.Fleet.{fresh};
-ghost use Rattle.drv_core.specs.Code.FleetView.{source_of};
-ghost use Rattle.drv_core.specs.Outcomes.{greatest, none};
-ghost use Rattle.drv_core.specs.Code.Source.{Starts, awaits, inside, left};
-ghost use Rattle.drv_core.specs.Code.SourceView.{HasRoom, has_failed, is_told, stage_at};
+ghost use Rattle.drv_core.specs.Code.Turns.{awaits, is_inside, is_left};
+ghost use Rattle.drv_core.specs.Story.{Over, after_starts, begin, to_claims, to_groups, to_removals};
+ghost use Rattle.drv_core.specs.Story.{to_waits};
+ghost use Rattle.drv_core.specs.declared.source.Stage.TheVariants as stage;
+ghost use Rattle.drv_words.specs.Places.{group_at, no_job};
+ghost use Rattle.drv_words.specs.declared.plan.Job.{Job};
+ghost use Rattle.drv_words.specs.declared.answers.Answer.TheVariants as answer;
 ghost use Rattle.drv_words.specs.declared.steps.Place.TheVariants as place;
 ghost use Rattle.drv_words.specs.declared.steps.Step.TheVariants as step;
-ghost use Rattle.drv_words.specs.Places.{group_at, no_job};
-ghost use Rattle.std.specs.Prelude.{◌≡◌, ◌||◌, ◌+◌, ◌<◌, IfOk, OnOk, Some, false, get_or, length};
-ghost use Rattle.std.specs.Prelude.{nat_eq, nat_lt, not};
+ghost use Rattle.std.specs.Prelude.{◌≡◌, ◌||◌, ◌+◌, ◌-◌, ◌<◌, ◌≤◌, [], IfOk, List, OnOk, drop, false, length};
+ghost use Rattle.std.specs.Prelude.{nat_eq, nat_lt, not, true, ℕ};
 ghost use Rattle.std.specs.Vec.{vec_capacity};
 
-use crate::answered::{ReportAnswer, claim_of, remove_of, start_of, told_of, wait_of};
 use drv_words::{
-    Answer, ClaimAnswer, Job, NotStarted, Note, Place, RemoveAnswer, StartAnswer, Step, WaitAnswer,
+    Answer, ClaimAnswer, Job, Note, Place, RemoveAnswer, StartAnswer, Step, WaitAnswer,
 };
 use std::alloc::{AllocError, Global};
 
@@ -45,47 +49,30 @@ pub(crate) struct GroupWait {
 /// The stage of a source.
 #[derive(Clone, Copy)]
 pub(crate) enum Stage {
+    /// Nothing was done yet.
+    Fresh,
     /// The temporary of this number is claimed next.
-    Claims {
-        index: usize,
-    },
+    Claims { index: usize },
     /// The claim failed and is reported next.
-    ClaimReport {
-        index: usize,
-        answer: ClaimAnswer,
-    },
-    /// The next command of this group is started.
-    Starts {
-        group: usize,
-    },
+    ClaimReport { index: usize },
+    /// The first command of this group is started next.
+    Starts { group: usize },
+    /// Another command of the group is started next.
+    Group { group: usize },
     /// The start failed and is reported next.
-    StartReport {
-        group: usize,
-        why: NotStarted,
-    },
+    StartReport { group: usize },
     /// The pipe that the command would have read is closed next.
-    Closing {
-        group: usize,
-        why: NotStarted,
-        told: ReportAnswer,
-    },
+    Closing { group: usize },
     /// A child of the group is waited for next.
-    Waits {
-        wait: GroupWait,
-    },
-    /// A signal ended the child, or it was lost, which is reported next.
-    WaitReport {
-        wait: GroupWait,
-        answer: WaitAnswer,
-    },
+    Waits { wait: GroupWait },
+    /// A signal ended the child, which is reported next.
+    SignalReport { wait: GroupWait },
+    /// The child was lost, which is reported next.
+    LossReport { wait: GroupWait },
     /// This file is removed next, after a failure.
-    Removals {
-        index: usize,
-    },
+    Removals { index: usize },
     /// The removal failed and is reported next.
-    RemovalReport {
-        index: usize,
-    },
+    RemovalReport { index: usize },
     /// Nothing is left to do.
     Ended,
 }
@@ -94,8 +81,6 @@ pub(crate) enum Stage {
 #[derive(Drop)]
 pub(crate) struct SourceState {
     pub(crate) stage: Stage,
-    /// Whether an earlier group started a command.
-    pub(crate) started_before: bool,
     /// The children of the group, in the order of their starts.
     pub(crate) children: Vec<u64>,
 }
@@ -120,7 +105,7 @@ fn group_len(job: &Job, group: usize) -> usize
 
 /// The most commands of a group. No group is empty.
 fn widest(job: &Job) -> usize
-    ensures most { result ≡ greatest (λ group. length group) job.now.groups }
+    ensures most { (g : ℕ) → length (group_at job.now g) ≤ result }
     ensures filled { Filled job.now }
 {
     let mut most = 0;
@@ -130,47 +115,162 @@ fn widest(job: &Job) -> usize
     most
 }
 
-/// The report on a child that a signal ended, or that was lost.
-fn wait_note(job: usize, group: usize, index: usize, answer: WaitAnswer) -> Note
-    ensures { result ≡ wait_note job group index answer }
+/// The stage of a group's first start, if there is such a group.
+#[tactic(auto, using(crate::proofs::Stages::groups_on))]
+fn group_stage(job: &Job, group: usize) -> Stage
+    ensures turn { (ids : List ℕ) → turn_at job.now result ids
+        ≡ Out (to_groups group (drop group job.now.groups)) }
+    ensures within { InGroup job.now result [] }
 {
-    let place = Place::Command { job, group, index };
-    match answer {
-        WaitAnswer::Exit(_) => Note::Lost(place),
-        WaitAnswer::Signal => Note::Signalled(place),
-        WaitAnswer::Lost => Note::Lost(place),
+    if group < job.groups.len() {
+        Stage::Starts { group }
+    } else {
+        Stage::Ended
+    }
+}
+
+/// The stage after a group that has no fault.
+#[tactic(auto, using(crate::proofs::Stages::groups_next))]
+fn stage_after_group(job: &Job, group: usize) -> Stage
+    ensures turn { (ids : List ℕ) → turn_at job.now result ids
+        ≡ Out (to_groups (group + 1) (drop (group + 1) job.now.groups)) }
+    ensures within { InGroup job.now result [] }
+{
+    if is_followed(group, job.groups.len()) {
+        Stage::Starts { group: group + 1 }
+    } else {
+        Stage::Ended
+    }
+}
+
+/// The stage of the first block.
+#[tactic(auto, using(crate::proofs::Stages::claims_on))]
+fn first_stage(job: &Job) -> Stage
+    ensures turn { (ids : List ℕ) → turn_at job.now result ids
+        ≡ Out (to_claims job.now 0 job.now.temps) }
+    ensures within { InGroup job.now result [] }
+{
+    if job.temps.as_slice().is_empty() {
+        group_stage(job, 0)
+    } else {
+        Stage::Claims { index: 0 }
+    }
+}
+
+/// The stage after a claim that succeeded.
+#[tactic(auto, using(crate::proofs::Stages::claims_next))]
+fn stage_after_claim(job: &Job, index: usize) -> Stage
+    ensures turn { (ids : List ℕ) → turn_at job.now result ids
+        ≡ Out (to_claims job.now (index + 1) (drop (index + 1) job.now.temps)) }
+    ensures within { InGroup job.now result [] }
+{
+    if is_followed(index, job.temps.len()) {
+        Stage::Claims { index: index + 1 }
+    } else {
+        group_stage(job, 0)
+    }
+}
+
+/// The stage of the removals of a failed job.
+#[tactic(auto, using(crate::proofs::Stages::removals_on))]
+fn stage_after_failure(job: &Job) -> Stage
+    ensures turn { (ids : List ℕ) → turn_at job.now result ids
+        ≡ Out (to_removals 0 job.now.on_failure) }
+    ensures within { (ids : List ℕ) → InGroup job.now result ids }
+{
+    if job.on_failure.as_slice().is_empty() {
+        Stage::Ended
+    } else {
+        Stage::Removals { index: 0 }
+    }
+}
+
+/// The stage after a removal.
+#[tactic(auto, using(crate::proofs::Stages::removals_next))]
+fn stage_after_removal(job: &Job, index: usize) -> Stage
+    ensures turn { (ids : List ℕ) → turn_at job.now result ids
+        ≡ Out (to_removals (index + 1) (drop (index + 1) job.now.on_failure)) }
+    ensures within { (ids : List ℕ) → InGroup job.now result ids }
+{
+    if is_followed(index, job.on_failure.len()) {
+        Stage::Removals { index: index + 1 }
+    } else {
+        Stage::Ended
     }
 }
 
 impl GroupState {
     /// The state of the group after a command has ended with this code.
     fn after_exit(self, code: u8) -> GroupState
-        ensures { has_failed result ≡ (has_failed self || not (nat_eq code 0)) }
+        ensures { has_failed result ≡ (has_failed self || positive code) }
     {
         if code == 0 { self } else { GroupState::Failed }
     }
 }
 
 impl SourceState {
-    /// The next step of the source of this number; `None` once its story has ended.
-    pub(crate) fn asks(&self, number: usize, job: &Job) -> Option<Step>
-        ensures { result ≡ asks number job.now (stage_at self.now) }
+    /// The command that is started next.
+    fn place(&self, job: usize, group: usize) -> Place
+        ensures { result ≡ place.Command job group (length self.now.children.items) }
     {
-        match self.stage {
+        Place::Command {
+            job,
+            group,
+            index: self.children.as_slice().len(),
+        }
+    }
+
+    /// The start of another command of a group.
+    fn next_start(&self, number: usize, job: &Job, group: usize) -> Step
+        ensures { result ≡ step.Start (place.Command number group (length self.now.children.items))
+            (positive (length self.now.children.items))
+            (positive (length (group_at job.now group) - 1 - length self.now.children.items)) }
+    {
+        let index = self.children.as_slice().len();
+        Step::Start {
+            place: self.place(number, group),
+            from_pipe: index > 0,
+            to_pipe: is_followed(index, group_len(job, group)),
+        }
+    }
+
+    /// The wait for a child of the group.
+    fn next_wait(&self, number: usize, wait: GroupWait) -> Step
+        ensures { result ≡ step.Wait (place.Command number wait.group wait.index)
+            (kid_at self.now.children.items wait.index).id }
+    {
+        let id = match self.children.as_slice().get(wait.index) {
+            Some(id) => *id,
+            None => 0,
+        };
+        Step::Wait {
+            place: command(number, wait),
+            id,
+        }
+    }
+
+    /// The next step at a stage, of which something was done.
+    fn step_at(&self, number: usize, job: &Job, stage: Stage) -> Option<Step>
+        ensures { result ≡ asked_now number (turn_at job.now stage self.now.children.items) }
+    {
+        match stage {
+            Stage::Fresh => None,
             Stage::Claims { index } => Some(Step::Claim(Place::Temp { job: number, index })),
-            Stage::ClaimReport { index, .. } => Some(Step::Report(Note::NotClaimed(Place::Temp {
+            Stage::ClaimReport { index } => Some(Step::Report(Note::NotClaimed(Place::Temp {
                 job: number,
                 index,
             }))),
-            Stage::Starts { group } => Some(self.start(number, job, group)),
-            Stage::StartReport { group, .. } => Some(Step::Report(Note::NotStarted(self.place(
+            Stage::Starts { group } => Some(first_start(number, job, group)),
+            Stage::Group { group } => Some(self.next_start(number, job, group)),
+            Stage::StartReport { group } => Some(Step::Report(Note::NotStarted(self.place(
                 number, group,
             )))),
             Stage::Closing { .. } => Some(Step::ClosePipe),
-            Stage::Waits { wait } => Some(self.wait(number, wait.group, wait.index)),
-            Stage::WaitReport { wait, answer } => Some(Step::Report(wait_note(
-                number, wait.group, wait.index, answer,
-            ))),
+            Stage::Waits { wait } => Some(self.next_wait(number, wait)),
+            Stage::SignalReport { wait } => Some(Step::Report(Note::Signalled(command(
+                number, wait,
+            )))),
+            Stage::LossReport { wait } => Some(Step::Report(Note::Lost(command(number, wait)))),
             Stage::Removals { index } => Some(Step::Remove(Place::OnFailure {
                 job: number,
                 index,
@@ -183,168 +283,74 @@ impl SourceState {
         }
     }
 
-    /// The command that is started next.
-    fn place(&self, job: usize, group: usize) -> Place
-        ensures { result ≡ place.Command job group (length self.now.children.items) }
-    {
-        Place::Command {
-            job,
-            group,
-            index: self.children.as_slice().len(),
-        }
-    }
-
-    /// The start of the next command of a group.
-    fn start(&self, number: usize, job: &Job, group: usize) -> Step
-        ensures { Some result
-            ≡ asks number job.now (Starts group self.now.started_before self.now.children.items) }
-    {
-        let index = self.children.as_slice().len();
-        Step::Start {
-            place: self.place(number, group),
-            from_pipe: index > 0,
-            to_pipe: is_followed(index, group_len(job, group)),
-        }
-    }
-
-    /// The wait for the child of this index.
-    fn wait(&self, job: usize, group: usize, index: usize) -> Step
-        ensures { result
-            ≡ step.Wait (place.Command job group index) (get_or self.now.children.items index 0) }
-    {
-        let id = match self.children.as_slice().get(index) {
-            Some(id) => *id,
-            None => 0,
-        };
-        Step::Wait {
-            place: Place::Command { job, group, index },
-            id,
-        }
-    }
-
-    /// Takes the answer to the next step.
-    pub(crate) fn take(&mut self, job: &Job, answer: Answer)
-        requires room { HasRoom (stage_at self.old) (vec_capacity self.old.children) }
-        ensures stage { stage_at self.new ≡ after job.now (stage_at self.old) answer }
-        ensures capacity { vec_capacity self.new.children ≡ vec_capacity self.old.children }
+    /// The next step of the source of this number; `None` once its story has ended.
+    pub(crate) fn asks(&self, number: usize, job: &Job) -> Option<Step>
+        ensures { result ≡ asked number job.now (turn_of job.now self.now) }
     {
         match self.stage {
-            Stage::Claims { index } => self.take_claim(job, index, claim_of(answer)),
-            Stage::ClaimReport { .. } => self.stage = Stage::Ended,
-            Stage::Starts { group } => self.take_start(job, group, start_of(answer)),
-            Stage::StartReport { group, why } => self.take_refusal(
-                job,
-                group,
-                why,
-                told_of(answer),
-            ),
-            Stage::Closing { group, .. } => self.enter_waits(job, group, GroupState::Failed),
-            Stage::Waits { wait } => self.take_wait(job, wait, wait_of(answer)),
-            Stage::WaitReport { wait, .. } => self.pass_wait(job, wait, GroupState::Failed),
-            Stage::Removals { index } => self.take_removal(job, index, remove_of(answer)),
-            Stage::RemovalReport { index } => self.pass_removal(job, index),
-            Stage::Ended => {}
+            Stage::Fresh => self.step_at(number, job, first_stage(job)),
+            stage => self.step_at(number, job, stage),
         }
+    }
+
+    /// Goes on with another group, or ends.
+    fn enter(&mut self, stage: Stage)
+        ensures stage { self.new.stage ≡ stage }
+        ensures children { self.new.children.items ≡ [] }
+        ensures capacity { vec_capacity self.new.children ≡ vec_capacity self.old.children }
+    {
+        self.children.clear();
+        self.stage = stage;
     }
 
     /// Takes the answer to a claim.
-    fn take_claim(&mut self, job: &Job, index: usize, claimed: ClaimAnswer)
-        ensures stage { stage_at self.new ≡ after_claim job.now index claimed }
+    fn take_claim(&mut self, job: &Job, index: usize, answer: Answer)
+        ensures turn { turn_of job.now self.new
+            ≡ after_claim job.now index (drop (index + 1) job.now.temps) answer }
+        ensures within { InGroup job.now self.new.stage self.new.children.items }
         ensures capacity { vec_capacity self.new.children ≡ vec_capacity self.old.children }
     {
-        match claimed {
-            ClaimAnswer::Claimed => {
-                if is_followed(index, job.temps.len()) {
-                    self.stage = Stage::Claims { index: index + 1 };
-                } else {
-                    self.enter_first_group(job);
-                }
-            }
-            ClaimAnswer::Taken => self.stage = Stage::ClaimReport {
-                index,
-                answer: claimed,
-            },
-            ClaimAnswer::Failed => self.stage = Stage::ClaimReport {
-                index,
-                answer: claimed,
-            },
-        }
-    }
-
-    /// Takes the answer to a start.
-    fn take_start(&mut self, job: &Job, group: usize, started: StartAnswer)
-        requires room { length self.old.children.items < vec_capacity self.old.children }
-        ensures stage { stage_at self.new
-            ≡ after_start job.now group self.old.started_before self.old.children.items started }
-        ensures capacity { vec_capacity self.new.children ≡ vec_capacity self.old.children }
-    {
-        match started {
-            StartAnswer::Started(id) => {
-                let count = self.children.as_slice().len();
-                self.children.push_reserved(id);
-                if is_followed(count, group_len(job, group)) {
-                    self.stage = Stage::Starts { group };
-                } else {
-                    self.enter_waits(job, group, GroupState::Sound);
-                }
-            }
-            StartAnswer::NotStarted(why) => self.stage = Stage::StartReport { group, why },
-        }
-    }
-
-    /// Goes on after the report of a refused start.
-    fn take_refusal(&mut self, job: &Job, group: usize, why: NotStarted, told: ReportAnswer)
-        ensures stage { stage_at self.new
-            ≡ after_refusal job.now group self.old.started_before self.old.children.items why
-            (is_told told) }
-        ensures capacity { vec_capacity self.new.children ≡ vec_capacity self.old.children }
-    {
-        // The child before the refused one writes a pipe that nothing will read.
-        if !self.children.as_slice().is_empty() {
-            self.stage = Stage::Closing { group, why, told };
-        } else {
-            self.enter_waits(job, group, GroupState::Failed);
-        }
-    }
-
-    /// Takes the answer to a wait.
-    fn take_wait(&mut self, job: &Job, wait: GroupWait, ended: WaitAnswer)
-        ensures stage { stage_at self.new
-            ≡ after_wait job.now wait.group self.old.started_before self.old.children.items
-            wait.index (has_failed wait.state) ended }
-        ensures capacity { vec_capacity self.new.children ≡ vec_capacity self.old.children }
-    {
-        match ended {
-            WaitAnswer::Exit(code) => self.pass_wait(job, wait, wait.state.after_exit(code)),
-            WaitAnswer::Signal => self.stage = Stage::WaitReport {
-                wait,
-                answer: ended,
-            },
-            WaitAnswer::Lost => self.stage = Stage::WaitReport {
-                wait,
-                answer: ended,
-            },
+        match answer {
+            Answer::Claim(ClaimAnswer::Claimed) => self.enter(stage_after_claim(job, index)),
+            _ => self.stage = Stage::ClaimReport { index },
         }
     }
 
     /// Takes the answer to a removal.
-    fn take_removal(&mut self, job: &Job, index: usize, removed: RemoveAnswer)
-        ensures stage { stage_at self.new ≡ after_removal job.now index removed }
+    fn take_removal(&mut self, job: &Job, index: usize, answer: Answer)
+        ensures turn { turn_of job.now self.new
+            ≡ after_removal index (drop (index + 1) job.now.on_failure) answer }
+        ensures within { InGroup job.now self.new.stage self.new.children.items }
         ensures capacity { vec_capacity self.new.children ≡ vec_capacity self.old.children }
     {
-        match removed {
-            RemoveAnswer::Removed => self.pass_removal(job, index),
-            RemoveAnswer::Missing => self.pass_removal(job, index),
-            RemoveAnswer::NotPlain => self.pass_removal(job, index),
-            RemoveAnswer::Failed => self.stage = Stage::RemovalReport { index },
+        match answer {
+            Answer::Remove(RemoveAnswer::Removed) => self.stage = stage_after_removal(job, index),
+            Answer::Remove(RemoveAnswer::Missing) => self.stage = stage_after_removal(job, index),
+            Answer::Remove(RemoveAnswer::NotPlain) => self.stage = stage_after_removal(job, index),
+            _ => self.stage = Stage::RemovalReport { index },
+        }
+    }
+
+    /// Ends a group in this state: the job goes on, or has failed.
+    fn end_group(&mut self, job: &Job, group: usize, state: GroupState)
+        ensures turn { turn_of job.now self.new
+            ≡ Out (to_waits job.now group (has_failed state) [] (drop (group + 1) job.now.groups)) }
+        ensures within { InGroup job.now self.new.stage self.new.children.items }
+        ensures capacity { vec_capacity self.new.children ≡ vec_capacity self.old.children }
+    {
+        match state {
+            GroupState::Failed => self.enter(stage_after_failure(job)),
+            GroupState::Sound => self.enter(stage_after_group(job, group)),
         }
     }
 
     /// Goes on after a child that was waited for, with the group in this state.
+    #[tactic(auto, using(crate::proofs::Stages::waits_next, crate::proofs::Stages::kids_gone))]
     fn pass_wait(&mut self, job: &Job, wait: GroupWait, state: GroupState)
-        ensures stage { stage_at self.new
-            ≡ enter_waits job.now wait.group self.old.started_before self.old.children.items
-            (wait.index + 1) (has_failed state) }
+        ensures turn { turn_of job.now self.new ≡ Out (to_waits job.now wait.group (has_failed state)
+            (drop (wait.index + 1) (kids_from 0 self.old.children.items))
+            (drop (wait.group + 1) job.now.groups)) }
+        ensures within { InGroup job.now self.new.stage self.new.children.items }
         ensures capacity { vec_capacity self.new.children ≡ vec_capacity self.old.children }
     {
         if is_followed(wait.index, self.children.as_slice().len()) {
@@ -359,183 +365,221 @@ impl SourceState {
         }
     }
 
-    /// Goes on after a removal.
-    fn pass_removal(&mut self, job: &Job, index: usize)
-        ensures stage { stage_at self.new ≡ enter_removals job.now (index + 1) }
+    /// Takes the answer to a wait.
+    fn take_wait(&mut self, job: &Job, wait: GroupWait, answer: Answer)
+        ensures turn { turn_of job.now self.new ≡ after_wait job.now wait.group
+            (has_failed wait.state) (kid_at self.old.children.items wait.index)
+            (drop (wait.index + 1) (kids_from 0 self.old.children.items))
+            (drop (wait.group + 1) job.now.groups) answer }
+        ensures within { InGroup job.now self.new.stage self.new.children.items }
         ensures capacity { vec_capacity self.new.children ≡ vec_capacity self.old.children }
     {
-        if is_followed(index, job.on_failure.len()) {
-            self.stage = Stage::Removals { index: index + 1 };
-        } else {
-            self.stage = Stage::Ended;
+        match answer {
+            Answer::Wait(WaitAnswer::Exit(code)) => self.pass_wait(
+                job,
+                wait,
+                wait.state.after_exit(code),
+            ),
+            Answer::Wait(WaitAnswer::Signal) => self.stage = Stage::SignalReport { wait },
+            _ => self.stage = Stage::LossReport { wait },
         }
     }
 
     /// Waits for the children of a group, from the first on.
+    #[tactic(auto, using(crate::proofs::Stages::starts_on, crate::proofs::Stages::no_starts))]
     fn enter_waits(&mut self, job: &Job, group: usize, state: GroupState)
-        ensures stage { stage_at self.new
-            ≡ enter_waits job.now group self.old.started_before self.old.children.items
-            0 (has_failed state) }
+        ensures turn { turn_of job.now self.new ≡ Out (after_starts job.now group (has_failed state)
+            (kids_from 0 self.old.children.items) (drop (group + 1) job.now.groups)) }
+        ensures within { InGroup job.now self.new.stage self.new.children.items }
         ensures capacity { vec_capacity self.new.children ≡ vec_capacity self.old.children }
     {
-        if self.has_child() {
+        if !self.children.as_slice().is_empty() {
             let wait = GroupWait {
                 group,
                 index: 0,
                 state,
             };
             self.stage = Stage::Waits { wait };
+        } else if group == 0 {
+            // A job that started no command has written no file.
+            self.enter(Stage::Ended);
         } else {
             self.end_group(job, group, state);
         }
     }
 
-    /// Whether a child of the group was started.
-    fn has_child(&self) -> bool
-        ensures { result ≡ not (none self.now.children.items) }
+    /// Takes the answer to a start.
+    #[tactic(auto, using(crate::proofs::Stages::start_more, crate::proofs::Stages::start_last))]
+    fn take_start(&mut self, job: &Job, group: usize, answer: Answer)
+        requires room { length self.old.children.items < vec_capacity self.old.children }
+        ensures turn { turn_of job.now self.new
+            ≡ after_start job.now group (length self.old.children.items)
+            (length (group_at job.now group) - 1 - length self.old.children.items)
+            (kids_from 0 self.old.children.items) (drop (group + 1) job.now.groups) answer }
+        ensures within { InGroup job.now self.new.stage self.new.children.items }
+        ensures capacity { vec_capacity self.new.children ≡ vec_capacity self.old.children }
     {
-        match self.children.as_slice() {
-            [] => false,
-            [_, ..] => true,
+        match answer {
+            Answer::Start(StartAnswer::Started(id)) => {
+                let count = self.children.as_slice().len();
+                self.children.push_reserved(id);
+                if is_followed(count, group_len(job, group)) {
+                    self.stage = Stage::Group { group };
+                } else {
+                    self.enter_waits(job, group, GroupState::Sound);
+                }
+            }
+            _ => self.stage = Stage::StartReport { group },
         }
     }
 
-    /// Ends a group: the job goes on, or has failed.
-    fn end_group(&mut self, job: &Job, group: usize, state: GroupState)
-        ensures stage { stage_at self.new
-            ≡ end_group job.now group
-            (self.old.started_before || not (none self.old.children.items)) (has_failed state) }
+    /// Goes on after the report of a refused start.
+    #[tactic(auto, using(crate::proofs::Stages::refused))]
+    fn take_refusal(&mut self, job: &Job, group: usize, answer: Answer)
+        ensures turn { turn_of job.now self.new
+            ≡ after job.now (inside.StartReport group (length self.old.children.items)
+            (kids_from 0 self.old.children.items) (drop (group + 1) job.now.groups)) answer }
+        ensures within { InGroup job.now self.new.stage self.new.children.items }
         ensures capacity { vec_capacity self.new.children ≡ vec_capacity self.old.children }
     {
-        self.started_before = self.started_before || self.has_child();
-        match state {
-            // A job that started no command has written no file.
-            GroupState::Failed => if self.started_before && !job.on_failure.as_slice().is_empty() {
-                self.stage = Stage::Removals { index: 0 };
-            } else {
-                self.stage = Stage::Ended;
-            },
-            GroupState::Sound => if is_followed(group, job.groups.len()) {
-                self.enter_group(job, group + 1);
-            } else {
-                self.stage = Stage::Ended;
-            },
-        }
-    }
-
-    /// Goes on with the first command of a group, if there is such a group.
-    fn enter_group(&mut self, job: &Job, group: usize)
-        ensures stage { stage_at self.new ≡ enter_group job.now group self.old.started_before }
-        ensures capacity { vec_capacity self.new.children ≡ vec_capacity self.old.children }
-    {
-        self.children.clear();
-        if group < job.groups.len() {
-            self.stage = Stage::Starts { group };
+        // The child before the refused one writes a pipe that nothing will read.
+        if !self.children.as_slice().is_empty() {
+            self.stage = Stage::Closing { group };
         } else {
-            self.stage = Stage::Ended;
+            self.enter_waits(job, group, GroupState::Failed);
         }
     }
 
-    /// Goes on with the first command of the first group, if there is one.
-    fn enter_first_group(&mut self, job: &Job)
-        ensures stage { stage_at self.new ≡ enter_group job.now 0 false }
+    /// Begins the first block, where nothing was done yet.
+    fn open(&mut self, job: &Job)
+        requires within { InGroup job.now self.old.stage self.old.children.items }
+        ensures turn { turn_of job.now self.new ≡ begun_turn job.now (turn_of job.now self.old) }
+        ensures within { InGroup job.now self.new.stage self.new.children.items }
         ensures capacity { vec_capacity self.new.children ≡ vec_capacity self.old.children }
     {
-        self.started_before = false;
-        self.enter_group(job, 0);
+        match self.stage {
+            Stage::Fresh => self.enter(first_stage(job)),
+            _ => {}
+        }
+    }
+
+    /// Takes the answer to the next step, where something was done.
+    #[tactic(auto, using(crate::proofs::Stages::start_first))]
+    fn take_now(&mut self, job: &Job, answer: Answer)
+        requires room { InRoom job.now self.old }
+        ensures turn { turn_of job.now self.new ≡ took_now job.now (turn_of job.now self.old) answer }
+        ensures within { InGroup job.now self.new.stage self.new.children.items }
+        ensures capacity { vec_capacity self.new.children ≡ vec_capacity self.old.children }
+    {
+        match self.stage {
+            Stage::Fresh => {}
+            Stage::Claims { index } => self.take_claim(job, index, answer),
+            Stage::ClaimReport { .. } => self.stage = Stage::Ended,
+            Stage::Starts { group } => self.take_start(job, group, answer),
+            Stage::Group { group } => self.take_start(job, group, answer),
+            Stage::StartReport { group } => self.take_refusal(job, group, answer),
+            Stage::Closing { group } => self.enter_waits(job, group, GroupState::Failed),
+            Stage::Waits { wait } => self.take_wait(job, wait, answer),
+            Stage::SignalReport { wait } => self.pass_wait(job, wait, GroupState::Failed),
+            Stage::LossReport { wait } => self.pass_wait(job, wait, GroupState::Failed),
+            Stage::Removals { index } => self.take_removal(job, index, answer),
+            Stage::RemovalReport { index } => self.stage = stage_after_removal(job, index),
+            Stage::Ended => {}
+        }
+    }
+
+    /// Takes the answer to the next step.
+    pub(crate) fn take(&mut self, job: &Job, answer: Answer)
+        requires room { InRoom job.now self.old }
+        ensures turn { turn_of job.now self.new ≡ took job.now (turn_of job.now self.old) answer }
+        ensures room { InRoom job.now self.new }
+    {
+        self.open(job);
+        self.take_now(job, answer);
     }
 
     /// A source before its first step, with room for the children of each group. No group is empty.
     pub(crate) fn new(alloc: Global, job: &Job) -> Result<SourceState, AllocError>
-        ensures fresh { IfOk result (λ made. source_of made ≡ fresh job.now) }
+        ensures fresh { IfOk result (λ made. turn_of job.now made ≡ Out (begin job.now)) }
+        ensures room { IfOk result (λ made. InRoom job.now made) }
         ensures filled { OnOk result (Filled job.now) }
     {
-        let mut source = SourceState {
-            stage: Stage::Ended,
-            started_before: false,
-            children: Vec::with_capacity(alloc, widest(job))?,
+        let children = Vec::with_capacity(alloc, widest(job).max(1))?;
+        // A job without commands makes no call, so it claims nothing either.
+        let stage = if job.groups.as_slice().is_empty() {
+            Stage::Ended
+        } else {
+            Stage::Fresh
         };
-        source.begin(job);
-        Ok(source)
+        Ok(SourceState { stage, children })
     }
 
     /// A source with nothing to do.
-    pub(crate) fn idle(alloc: Global) -> SourceState
-        ensures { source_of result ≡ fresh no_job }
+    pub(crate) fn idle(alloc: Global) -> Result<SourceState, AllocError>
+        ensures fresh { IfOk result (λ made. turn_of no_job made ≡ Out Over) }
+        ensures room { IfOk result (λ made. InRoom no_job made) }
     {
-        SourceState {
+        let children = Vec::with_capacity(alloc, 1)?;
+        Ok(SourceState {
             stage: Stage::Ended,
-            started_before: false,
-            children: Vec::new(alloc),
-        }
+            children,
+        })
     }
 
     /// Whether there is more to do.
     pub(crate) fn is_left(&self) -> bool
-        ensures { result ≡ left (stage_at self.now) }
+        ensures { (job : Job) → result ≡ is_left (turn_of job self.now) }
     {
-        match self.stage {
-            Stage::Claims { .. } => true,
-            Stage::ClaimReport { .. } => true,
-            Stage::Starts { .. } => true,
-            Stage::StartReport { .. } => true,
-            Stage::Closing { .. } => true,
-            Stage::Waits { .. } => true,
-            Stage::WaitReport { .. } => true,
-            Stage::Removals { .. } => true,
-            Stage::RemovalReport { .. } => true,
-            Stage::Ended => false,
-        }
+        !matches!(self.stage, Stage::Ended)
     }
 
     /// Whether the next block is a wait for a child.
     pub(crate) fn awaits(&self) -> bool
-        ensures { result ≡ awaits (stage_at self.now) }
+        ensures { (job : Job) → result ≡ awaits (turn_of job self.now) }
     {
-        match self.stage {
-            Stage::Claims { .. } => false,
-            Stage::ClaimReport { .. } => false,
-            Stage::Starts { .. } => false,
-            Stage::StartReport { .. } => false,
-            Stage::Closing { .. } => false,
-            Stage::Waits { wait } => wait.index < self.children.as_slice().len(),
-            Stage::WaitReport { .. } => false,
-            Stage::Removals { .. } => false,
-            Stage::RemovalReport { .. } => false,
-            Stage::Ended => false,
-        }
+        matches!(self.stage, Stage::Waits { .. })
     }
 
     /// Whether a block is open.
     pub(crate) fn is_inside(&self) -> bool
-        ensures { result ≡ inside (stage_at self.now) }
+        ensures { (job : Job) → result ≡ is_inside (turn_of job self.now) }
     {
         match self.stage {
-            Stage::Claims { .. } => false,
             Stage::ClaimReport { .. } => true,
-            Stage::Starts { .. } => self.has_child(),
+            Stage::Group { .. } => true,
             Stage::StartReport { .. } => true,
             Stage::Closing { .. } => true,
-            Stage::Waits { .. } => false,
-            Stage::WaitReport { .. } => true,
-            Stage::Removals { .. } => false,
+            Stage::SignalReport { .. } => true,
+            Stage::LossReport { .. } => true,
             Stage::RemovalReport { .. } => true,
-            Stage::Ended => false,
+            _ => false,
         }
     }
+}
 
-    /// Begins the work, if there is a group.
-    pub(crate) fn begin(&mut self, job: &Job)
-        ensures stage { stage_at self.new ≡ begin job.now }
-        ensures capacity { vec_capacity self.new.children ≡ vec_capacity self.old.children }
-    {
-        // A job without commands makes no call, so it claims nothing either.
-        if job.groups.as_slice().is_empty() {
-            self.stage = Stage::Ended;
-        } else if !job.temps.as_slice().is_empty() {
-            self.stage = Stage::Claims { index: 0 };
-        } else {
-            self.enter_first_group(job);
-        }
+/// The command of a child.
+fn command(job: usize, wait: GroupWait) -> Place
+    ensures { result ≡ place.Command job wait.group wait.index }
+{
+    Place::Command {
+        job,
+        group: wait.group,
+        index: wait.index,
+    }
+}
+
+/// The start of the first command of a group.
+fn first_start(number: usize, job: &Job, group: usize) -> Step
+    ensures { result ≡ step.Start (place.Command number group 0) false
+        (positive (length (group_at job.now group) - 1)) }
+{
+    Step::Start {
+        place: Place::Command {
+            job: number,
+            group,
+            index: 0,
+        },
+        from_pipe: false,
+        to_pipe: group_len(job, group) > 1,
     }
 }

@@ -1,33 +1,24 @@
 //! The progress of a run: its phases one after another, and the events so far.
-//!
-//! A block is events of one source between which no other source has any. It is open from its first
-//! event until its last.
 
-// In clauses: `run_state_of` is what definitions see of a run. `needed` is the most events of a
-// plan's run. `Filled` says that no group of a job is empty. `AllFilled` says that no group of any
-// job is empty. `HasRoom` says that a stage which starts a child has room for it. `leftovers_of` is
-// what definitions see of the leftover files.
-ghost use Rattle.drv_core.specs.Code.Course.{link_of};
+// In clauses: `course_of` is what definitions see of a run. `Rooms` says that there is room for what
+// it does, and `Unswept` that before the removals nothing was counted.
+ghost use Rattle.drv_core.specs.Code.Course.{after_link, after_sources, asked_by, between, choices_of};
+ghost use Rattle.drv_core.specs.Code.Course.{choosing, fresh_course, link_job, linking, removed};
+ghost use Rattle.drv_core.specs.Code.Course.{removing, sourced, stepped};
+ghost use Rattle.drv_core.specs.Code.LeftoverView.{IsFresh};
+ghost use Rattle.drv_core.specs.Code.CourseView.{Ready, Rooms, Unswept, course_of};
+ghost use Rattle.drv_core.specs.Code.Fleet.{taken};
+ghost use Rattle.drv_core.specs.Code.Machine.{Out, asked, took};
+ghost use Rattle.drv_core.specs.Code.SourceView.{InRoom, turn_of};
+ghost use Rattle.drv_core.specs.Codes.{greatest_code};
+ghost use Rattle.drv_core.specs.Events.{answer_code, code_of, is_claimed, is_started};
 ghost use Rattle.drv_core.specs.Filled.{AllFilled, Filled};
-ghost use Rattle.drv_core.specs.Code.Fleet.{fresh, taken};
-ghost use Rattle.drv_core.specs.Code.FleetView.{fleet_of, source_of};
-ghost use Rattle.drv_core.specs.Code.LeftoverView.{leftovers_of};
 ghost use Rattle.drv_core.specs.Needed.{needed};
-ghost use Rattle.drv_core.specs.Outcomes.{answer_code, code_of, is_claimed, is_started};
-ghost use Rattle.drv_core.specs.Code.RunState.{FleetReady, Ready, flown, kept, link_after};
-ghost use Rattle.drv_core.specs.Code.RunState.{link_asks, linked, moved, next_of, removal_made};
-ghost use Rattle.drv_core.specs.Code.RunState.{removal_of, removing_first, removing_next};
-ghost use Rattle.drv_core.specs.Code.RunState.{report_of, shown, sources_left};
-ghost use Rattle.drv_core.specs.Code.Starting.{first_run, fresh_run};
-ghost use Rattle.drv_core.specs.Code.Counting.{place_at};
-ghost use Rattle.drv_core.specs.Code.RunStateView.{phase_of, run_state_of};
-ghost use Rattle.drv_core.specs.Code.Reached.{between_blocks, choices_at, choosing};
-ghost use Rattle.drv_core.specs.Code.SourceView.{HasRoom};
-ghost use Rattle.std.specs.Prelude.{◌≡◌, ◌<◌, ◌≤◌, [], IfOk, OnOk, get_or, if◌then◌else◌, length};
-ghost use Rattle.std.specs.Prelude.{ℕ};
+ghost use Rattle.drv_core.specs.Story.{begin};
+ghost use Rattle.drv_words.specs.declared.plan.Plan.{Plan};
+ghost use Rattle.std.specs.Prelude.{◌≡◌, ◌<◌, ◌≤◌, [], IfOk, None, OnOk, drop, if◌then◌else◌, length};
 ghost use Rattle.std.specs.Vec.{vec_capacity};
 
-use crate::answered::remove_of;
 use crate::fleet::Fleet;
 use crate::leftovers::Leftovers;
 use crate::needed::events_needed;
@@ -60,8 +51,6 @@ pub(crate) struct RunState {
     pub(crate) fleet: Fleet,
     pub(crate) link: SourceState,
     pub(crate) leftovers: Leftovers,
-    /// The greatest code so far.
-    pub(crate) code: u8,
     pub(crate) events: Vec<RunEvent>,
 }
 
@@ -111,14 +100,27 @@ fn wait_code(ended: WaitAnswer) -> u8
     }
 }
 
+/// The greatest code of these events.
+pub(crate) fn greatest_code(events: &[RunEvent]) -> u8
+    ensures { result ≡ greatest_code events.now }
+{
+    let mut code = 0;
+    for event in events {
+        code = answer_code(event.answer).max(code);
+    }
+    code
+}
+
 /// The link before its first step, or nothing to do if there is no link.
 fn link_source(alloc: Global, plan: &Plan) -> Result<SourceState, AllocError>
-    ensures fresh { IfOk result (λ made. source_of made ≡ fresh (link_of plan.now.link)) }
-    ensures filled { OnOk result (Filled (link_of plan.now.link)) }
+    ensures fresh { IfOk result (λ made. turn_of (link_job plan.now) made
+        ≡ Out (begin (link_job plan.now))) }
+    ensures room { IfOk result (λ made. InRoom (link_job plan.now) made) }
+    ensures filled { OnOk result (Filled (link_job plan.now)) }
 {
     match &plan.link {
         Some(job) => SourceState::new(alloc, job),
-        None => Ok(SourceState::idle(alloc)),
+        None => SourceState::idle(alloc),
     }
 }
 
@@ -134,54 +136,32 @@ fn room_for(alloc: Global, plan: &Plan) -> Result<Vec<RunEvent>, AllocError>
 }
 
 impl RunState {
-    /// A run before its first step, even if there is no source. It has room for all events, and no
-    /// group is empty.
-    fn prepare(alloc: Global, plan: &Plan, window: Window) -> Result<RunState, AllocError>
-        ensures fresh { IfOk result (λ made. run_state_of made
-            ≡ first_run plan.now window (vec_capacity made.events)) }
-        ensures room { IfOk result (λ made. needed plan.now ≤ vec_capacity made.events) }
-        ensures filled { OnOk result (AllFilled plan.now.jobs × Filled (link_of plan.now.link)) }
-    {
-        Ok(RunState {
-            phase: Phase::Sources,
-            fleet: Fleet::new(alloc, plan.jobs.as_slice(), window)?,
-            link: link_source(alloc, plan)?,
-            leftovers: Leftovers::new(alloc, plan)?,
-            code: 0,
-            events: room_for(alloc, plan)?,
-        })
-    }
-
-    /// A run before its first step. It has room for all events, and no group is empty.
-    pub(crate) fn new(alloc: Global, plan: &Plan, window: Window) -> Result<RunState, AllocError>
-        ensures fresh { IfOk result (λ made. run_state_of made
-            ≡ fresh_run plan.now window (vec_capacity made.events)) }
-        ensures room { IfOk result (λ made. needed plan.now ≤ vec_capacity made.events) }
-        ensures filled { OnOk result (AllFilled plan.now.jobs × Filled (link_of plan.now.link)) }
-    {
-        let mut work = RunState::prepare(alloc, plan, window)?;
-        work.leave_sources();
-        Ok(work)
-    }
-
     /// The next step; `None` once the run is whole.
+    #[tactic(auto, using(crate::proofs::Shown::removes_some, crate::proofs::Shown::removes_none, crate::proofs::Shown::reports_some, crate::proofs::Shown::reports_none))]
     pub(crate) fn asks(&self, plan: &Plan) -> Option<Step>
-        requires { Ready plan.now (run_state_of self.now) }
-        ensures { result ≡ next_of plan.now (run_state_of self.now) }
+        requires { Ready plan.now self.now }
+        ensures { result ≡ asked_by plan.now (course_of plan.now self.now) }
     {
         match self.phase {
             Phase::Sources => self.fleet.asks(plan.jobs.as_slice()),
             Phase::Link => self.asks_link(plan),
-            Phase::Removals => self.asks_removal(),
-            Phase::Report => self.asks_report(),
+            Phase::Removals => match self.leftovers.place() {
+                Some(place) => Some(Step::Remove(place)),
+                None => None,
+            },
+            Phase::Report => match self.leftovers.place() {
+                Some(place) => Some(Step::Report(Note::NotRemoved(place))),
+                None => None,
+            },
             Phase::Done => None,
         }
     }
 
     /// The next step of the link.
     fn asks_link(&self, plan: &Plan) -> Option<Step>
-        ensures { result
-            ≡ link_asks (length plan.now.jobs) plan.now.link (source_of self.now.link) }
+        requires link { plan.now.link ≡ None → ⊥ }
+        ensures { result ≡ asked (length plan.now.jobs) (link_job plan.now)
+            (turn_of (link_job plan.now) self.now.link) }
     {
         match &plan.link {
             Some(job) => self.link.asks(plan.jobs.len(), job),
@@ -189,35 +169,180 @@ impl RunState {
         }
     }
 
-    /// The next removal at the end.
-    fn asks_removal(&self) -> Option<Step>
-        ensures { result ≡ removal_of (place_at (leftovers_of self.now.leftovers)) }
+    /// Goes on with the next file, if there is one.
+    #[tactic(auto, using(crate::proofs::Shown::none_left))]
+    fn show(&mut self)
+        ensures shown { (plan : Plan) → course_of plan self.new ≡ removing (course_of plan self.old)
+            (drop self.old.leftovers.at self.old.leftovers.due.items) }
+        ensures fleet { self.new.fleet ≡ self.old.fleet }
+        ensures link { self.new.link ≡ self.old.link }
+        ensures events { self.new.events ≡ self.old.events }
+        ensures unswept { (plan : Plan) → Unswept plan self.new }
     {
-        match self.leftovers.place() {
-            Some(place) => Some(Step::Remove(place)),
-            None => None,
+        if self.leftovers.at < self.leftovers.due.len() {
+            self.phase = Phase::Removals;
+        } else {
+            self.phase = Phase::Done;
         }
     }
 
-    /// The report of a failed removal.
-    fn asks_report(&self) -> Option<Step>
-        ensures { result ≡ report_of (place_at (leftovers_of self.now.leftovers)) }
+    /// Removes the leftover files, from the first on.
+    fn remove_first(&mut self, plan: &Plan)
+        requires fresh { IsFresh plan.now self.old.leftovers }
+        ensures removes { course_of plan.now self.new ≡ after_link plan.now (course_of plan.now self.old) }
+        ensures fleet { self.new.fleet ≡ self.old.fleet }
+        ensures link { self.new.link ≡ self.old.link }
+        ensures events { self.new.events ≡ self.old.events }
+        ensures unswept { Unswept plan.now self.new }
     {
-        match self.leftovers.place() {
-            Some(place) => Some(Step::Report(Note::NotRemoved(place))),
-            None => None,
+        self.leftovers.sweep(plan, self.events.as_slice());
+        self.show();
+    }
+
+    /// Goes on with the link, or ends it.
+    fn enter_link(&mut self, plan: &Plan)
+        requires fresh { IsFresh plan.now self.old.leftovers }
+        ensures enters { course_of plan.now self.new ≡ linking plan.now (course_of plan.now self.old) }
+        ensures fleet { self.new.fleet ≡ self.old.fleet }
+        ensures link { self.new.link ≡ self.old.link }
+        ensures events { self.new.events ≡ self.old.events }
+        ensures unswept { Unswept plan.now self.new }
+    {
+        // A plan without a link has a job without commands in its place.
+        if self.link.is_left() {
+            self.phase = Phase::Link;
+        } else {
+            self.remove_first(plan);
+        }
+    }
+
+    /// Runs the link if every source succeeded.
+    fn end_sources(&mut self, plan: &Plan)
+        requires fresh { IsFresh plan.now self.old.leftovers }
+        ensures ends { course_of plan.now self.new
+            ≡ after_sources plan.now (course_of plan.now self.old) }
+        ensures fleet { self.new.fleet ≡ self.old.fleet }
+        ensures link { self.new.link ≡ self.old.link }
+        ensures events { self.new.events ≡ self.old.events }
+        ensures unswept { Unswept plan.now self.new }
+    {
+        if greatest_code(self.events.as_slice()) == 0 {
+            self.enter_link(plan);
+        } else {
+            self.remove_first(plan);
+        }
+    }
+
+    /// Goes on with the link after the last source.
+    fn leave_sources(&mut self, plan: &Plan)
+        requires fresh { IsFresh plan.now self.old.leftovers }
+        ensures leaves { course_of plan.now self.new ≡ sourced plan.now (course_of plan.now self.old) }
+        ensures fleet { self.new.fleet ≡ self.old.fleet }
+        ensures link { self.new.link ≡ self.old.link }
+        ensures events { self.new.events ≡ self.old.events }
+        ensures unswept { Unswept plan.now self.old → Unswept plan.now self.new }
+    {
+        if self.fleet.unended == 0 {
+            self.end_sources(plan);
+        }
+    }
+
+    /// The source in progress takes an answer.
+    fn take_source(&mut self, plan: &Plan, answer: Answer)
+        requires jobs { self.old.fleet.current < length plan.now.jobs }
+        requires sources { self.old.fleet.current < length self.old.fleet.sources.items }
+        requires begun { length self.old.fleet.begun.items < vec_capacity self.old.fleet.begun }
+        requires rooms { Rooms plan.now self.old }
+        requires fresh { IsFresh plan.now self.old.leftovers }
+        requires unswept { Unswept plan.now self.old }
+        ensures takes { course_of plan.now self.new ≡ sourced plan.now
+            (record (course_of plan.now self.old) {
+              fleet = taken plan.now.jobs (course_of plan.now self.old).fleet answer;
+            }) }
+        ensures rooms { Rooms plan.now self.new }
+        ensures unswept { Unswept plan.now self.new }
+    {
+        self.fleet.take(plan.jobs.as_slice(), answer);
+        self.leave_sources(plan);
+    }
+
+    /// The link's source takes an answer.
+    fn work_link(&mut self, plan: &Plan, answer: Answer)
+        requires link { plan.now.link ≡ None → ⊥ }
+        requires rooms { Rooms plan.now self.old }
+        ensures works { course_of plan.now self.new ≡ record (course_of plan.now self.old) {
+          link = took (link_job plan.now) (course_of plan.now self.old).link answer;
+        } }
+        ensures rooms { Rooms plan.now self.new }
+        ensures leftovers { self.new.leftovers ≡ self.old.leftovers }
+    {
+        match &plan.link {
+            Some(job) => self.link.take(job, answer),
+            None => {}
+        }
+    }
+
+    /// The link takes an answer, and goes on or ends.
+    fn take_link(&mut self, plan: &Plan, answer: Answer)
+        requires link { plan.now.link ≡ None → ⊥ }
+        requires rooms { Rooms plan.now self.old }
+        requires fresh { IsFresh plan.now self.old.leftovers }
+        ensures takes { course_of plan.now self.new ≡ linking plan.now
+            (record (course_of plan.now self.old) {
+              link = took (link_job plan.now) (course_of plan.now self.old).link answer;
+            }) }
+        ensures rooms { Rooms plan.now self.new }
+        ensures unswept { Unswept plan.now self.new }
+    {
+        self.work_link(plan, answer);
+        self.enter_link(plan);
+    }
+
+    /// Goes on after a file.
+    #[tactic(auto, using(crate::proofs::Shown::drop_one))]
+    fn pass(&mut self)
+        requires { self.old.leftovers.at < length self.old.leftovers.due.items }
+        ensures passes { (plan : Plan) → course_of plan self.new ≡ removing (course_of plan self.old)
+            (drop 1 (course_of plan self.old).due) }
+        ensures fleet { self.new.fleet ≡ self.old.fleet }
+        ensures link { self.new.link ≡ self.old.link }
+        ensures events { self.new.events ≡ self.old.events }
+        ensures unswept { (plan : Plan) → Unswept plan self.new }
+    {
+        self.leftovers.at += 1;
+        self.show();
+    }
+
+    /// Takes the answer to a removal.
+    fn take_removal(&mut self, answer: Answer)
+        requires { self.old.leftovers.at < length self.old.leftovers.due.items }
+        ensures takes { (plan : Plan)
+            → course_of plan self.new ≡ removed (course_of plan self.old) answer }
+        ensures fleet { self.new.fleet ≡ self.old.fleet }
+        ensures link { self.new.link ≡ self.old.link }
+        ensures events { self.new.events ≡ self.old.events }
+        ensures unswept { (plan : Plan) → Unswept plan self.new }
+    {
+        match answer {
+            Answer::Remove(RemoveAnswer::Removed) => self.pass(),
+            Answer::Remove(RemoveAnswer::Missing) => self.pass(),
+            Answer::Remove(RemoveAnswer::NotPlain) => self.pass(),
+            _ => self.phase = Phase::Report,
         }
     }
 
     /// Takes the answer to the next step.
     pub(crate) fn take(&mut self, plan: &Plan, step: Step, answer: Answer)
-        requires ready { Ready plan.now (run_state_of self.old) }
+        requires ready { Ready plan.now self.old }
         requires room { length self.old.events.items < vec_capacity self.old.events }
-        requires few { (k : ℕ)
-            → get_or self.old.leftovers.claimed.items k 0 ≤ length self.old.events.items }
-        ensures { run_state_of self.new ≡ moved plan.now (run_state_of self.old) step answer }
+        requires rooms { Rooms plan.now self.old }
+        requires unswept { Unswept plan.now self.old }
+        ensures takes { course_of plan.now self.new
+            ≡ stepped plan.now (course_of plan.now self.old) step answer }
+        ensures rooms { Rooms plan.now self.new }
+        ensures unswept { Unswept plan.now self.new }
     {
-        self.keep(step, answer);
+        self.events.push_reserved(RunEvent { step, answer });
         match self.phase {
             Phase::Sources => self.take_source(plan, answer),
             Phase::Link => self.take_link(plan, answer),
@@ -227,145 +352,37 @@ impl RunState {
         }
     }
 
-    /// Keeps an answer.
-    fn keep(&mut self, step: Step, answer: Answer)
-        requires room { length self.old.events.items < vec_capacity self.old.events }
-        requires few { (k : ℕ)
-            → get_or self.old.leftovers.claimed.items k 0 ≤ length self.old.events.items }
-        ensures { run_state_of self.new ≡ kept (run_state_of self.old) step answer }
+    /// A run before its first step. It has room for all events, and no group is empty.
+    pub(crate) fn new(alloc: Global, plan: &Plan, window: Window) -> Result<RunState, AllocError>
+        ensures fresh { IfOk result (λ made. course_of plan.now made ≡ fresh_course plan.now window) }
+        ensures rooms { IfOk result (λ made. Rooms plan.now made) }
+        ensures unswept { IfOk result (λ made. Unswept plan.now made) }
+        ensures filled { OnOk result (AllFilled plan.now) }
     {
-        self.events.push_reserved(RunEvent { step, answer });
-        let _events = self.events.len();
-        self.code = self.code.max(answer_code(answer));
-        self.leftovers.note(step, answer);
-    }
-
-    /// The source in progress takes an answer.
-    fn take_source(&mut self, plan: &Plan, answer: Answer)
-        requires { FleetReady plan.now (run_state_of self.old).fleet }
-        ensures { run_state_of self.new ≡ flown (record (run_state_of self.old) {
-          fleet = taken plan.now.jobs (run_state_of self.old).fleet answer;
-        }) }
-    {
-        self.fleet.take(plan.jobs.as_slice(), answer);
-        self.leave_sources();
-    }
-
-    /// Goes on with the link after the last source.
-    fn leave_sources(&mut self)
-        ensures { run_state_of self.new ≡ flown (run_state_of self.old) }
-    {
-        if self.fleet.unended == 0 {
-            self.end_sources();
-        }
-    }
-
-    /// Runs the link if every source succeeded.
-    fn end_sources(&mut self)
-        ensures { run_state_of self.new ≡ sources_left (run_state_of self.old) }
-    {
-        // The greatest code so far is 0 if, and only if, every source succeeded.
-        if self.code == 0 {
-            self.leftovers.is_linked = true;
-            self.enter_link();
-        } else {
-            self.remove_first();
-        }
-    }
-
-    /// Goes on with the link, or ends it.
-    fn enter_link(&mut self)
-        ensures { run_state_of self.new ≡ linked (run_state_of self.old) }
-    {
-        // A plan without a link has a job without commands in its place.
-        if self.link.is_left() {
-            self.phase = Phase::Link;
-        } else {
-            self.remove_first();
-        }
-    }
-
-    /// The link takes an answer, and goes on or ends.
-    fn take_link(&mut self, plan: &Plan, answer: Answer)
-        requires { HasRoom (run_state_of self.old).link.stage (run_state_of self.old).link.room }
-        ensures { run_state_of self.new ≡ linked (record (run_state_of self.old) {
-          link = link_after plan.now.link (run_state_of self.old).link answer;
-        }) }
-    {
-        self.work_link(plan, answer);
-        self.enter_link();
-    }
-
-    /// The link's source takes an answer.
-    fn work_link(&mut self, plan: &Plan, answer: Answer)
-        requires { HasRoom (run_state_of self.old).link.stage (run_state_of self.old).link.room }
-        ensures { run_state_of self.new ≡ record (run_state_of self.old) {
-          link = link_after plan.now.link (run_state_of self.old).link answer;
-        } }
-    {
-        match &plan.link {
-            Some(job) => self.link.take(job, answer),
-            None => {}
-        }
-    }
-
-    /// Removes the leftover files, from the first on.
-    fn remove_first(&mut self)
-        ensures { run_state_of self.new ≡ removing_first (run_state_of self.old) }
-    {
-        self.leftovers.seek(0);
-        self.show();
-    }
-
-    /// Goes on with the next file, if there is one.
-    fn show(&mut self)
-        ensures { run_state_of self.new ≡ shown (run_state_of self.old) }
-    {
-        if self.leftovers.at < self.leftovers.files.len() {
-            self.phase = Phase::Removals;
-        } else {
-            self.phase = Phase::Done;
-        }
-    }
-
-    /// Takes the answer to a removal.
-    fn take_removal(&mut self, answer: Answer)
-        requires { self.old.leftovers.at < length self.old.leftovers.files.items }
-        ensures { run_state_of self.new ≡ removal_made (run_state_of self.old) answer }
-    {
-        match remove_of(answer) {
-            RemoveAnswer::Removed => self.pass(),
-            RemoveAnswer::Missing => self.pass(),
-            RemoveAnswer::NotPlain => self.pass(),
-            RemoveAnswer::Failed => self.phase = Phase::Report,
-        }
-    }
-
-    /// Goes on after a file.
-    fn pass(&mut self)
-        requires { self.old.leftovers.at < length self.old.leftovers.files.items }
-        ensures { run_state_of self.new ≡ removing_next (run_state_of self.old) }
-    {
-        self.leftovers.pass();
-        self.show();
+        let mut work = RunState {
+            phase: Phase::Sources,
+            fleet: Fleet::new(alloc, plan.jobs.as_slice(), window)?,
+            link: link_source(alloc, plan)?,
+            leftovers: Leftovers::new(alloc, plan)?,
+            events: room_for(alloc, plan)?,
+        };
+        work.leave_sources(plan);
+        Ok(work)
     }
 
     /// Whether the next block belongs to a source and is not yet open.
     fn is_between(&self) -> bool
-        ensures { result ≡ between_blocks (phase_of self.now.phase) (fleet_of self.now.fleet) }
+        ensures { (plan : Plan) → result ≡ between (course_of plan self.now) }
     {
         match self.phase {
             Phase::Sources => !self.fleet.is_inside(),
-            Phase::Link => false,
-            Phase::Removals => false,
-            Phase::Report => false,
-            Phase::Done => false,
+            _ => false,
         }
     }
 
     /// How many sources may go on, if the next block belongs to a source; otherwise 1.
     pub(crate) fn choices(&self, plan: &Plan) -> usize
-        ensures { result ≡ choices_at plan.now (run_state_of self.now) }
+        ensures { result ≡ choices_of plan.now (course_of plan.now self.now) }
     {
         if self.is_between() {
             self.fleet.count_able(plan.jobs.as_slice())
@@ -375,11 +392,15 @@ impl RunState {
     }
 
     /// Goes on with the source of this number among those that may.
-    pub(crate) fn choose(&mut self, plan: &Plan, choice: usize)
-        ensures { run_state_of self.new ≡ choosing plan.now (run_state_of self.old) choice }
+    pub(crate) fn choose(&mut self, choice: usize)
+        ensures chosen { (plan : Plan)
+            → course_of plan self.new ≡ choosing (course_of plan self.old) choice }
+        ensures rooms { (plan : Plan) → Rooms plan self.old → Rooms plan self.new }
+        ensures unswept { (plan : Plan) → Unswept plan self.old → Unswept plan self.new }
+        ensures events { self.new.events ≡ self.old.events }
     {
         if self.is_between() {
-            self.fleet.select(plan.jobs.as_slice(), choice);
+            self.fleet.select(choice);
         }
     }
 }

@@ -1,6 +1,6 @@
 use Rattle.drv_core.specs.Needed.{needed}
-use Rattle.drv_core.specs.Outcomes.{Answers, status_of}
-use Rattle.drv_core.specs.Windowed.{IsWhole, Windowed}
+use Rattle.drv_core.specs.Codes.{status_of}
+use Rattle.drv_core.specs.Windowed.{Windowed}
 use Rattle.drv_run.specs.Executed.{Executed}
 use Rattle.drv_run.specs.Code.Making.{CanMake}
 use Rattle.drv_system.proofs.Running.{open_after, pending_of_rest, run_of-append}
@@ -110,14 +110,12 @@ closed_after journal journal' events grows none closed = ap (λ j. pipe_pending 
 -- a whole run after a journal is a plan carried out, as a caller sees it
 pub executed : (plan same_plan : Plan) (pass_codes same_codes : Bool) (N window : ℕ) (journal journal' : List Event) (status : ℕ)
     (events : List RunEvent) → journal' ≡ journal ++ map Run events → same_plan ≡ plan → same_codes ≡ pass_codes → window ≡ N
-    → length events ≤ needed same_plan → (w : IsWhole same_plan window events)
-    → ((o : Answers) → Windowed same_plan window o events → status ≡ status_of same_codes o)
+    → length events ≤ needed same_plan → Windowed same_plan window events → status ≡ status_of same_codes events
     → Executed plan pass_codes N journal journal' status
 executed plan same_plan pass_codes same_codes N window journal journal' status events grows plans codes windows few w says = record {
   events = events;
-  answers = w.o;
   journal_grows = grows;
-  windowed = subst (λ m. Windowed plan m w.o events) windows (subst (λ r. Windowed r window w.o events) plans w.windowed);
+  windowed = subst (λ m. Windowed plan m events) windows (subst (λ r. Windowed r window events) plans w);
   few = subst (λ r. length events ≤ needed r) plans few;
-  status_is = says w.o w.windowed ∙ ap (λ b. status_of b w.o) codes;
+  status_is = says ∙ ap (λ b. status_of b events) codes;
 }

@@ -64,7 +64,6 @@ plan_carried_out name journal journal' journal'' plan manner status announces ex
     announces = announces.2;
     executes = record {
       events = executes.events;
-      answers = executes.answers;
       journal_grows = refl;
       windowed = executes.windowed;
       few =

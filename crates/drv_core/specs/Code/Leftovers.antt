@@ -1,54 +1,85 @@
+use Rattle.drv_core.specs.Code.Numbering.{Leftover}
+use Rattle.drv_core.specs.Events.{job_of}
+use Rattle.drv_core.specs.Windowed.{all_files, each_once, is_call_of}
+use Rattle.drv_words.specs.declared.answers.Answer.{Answer}
+use Rattle.drv_words.specs.declared.answers.Answer.TheVariants as answer
+use Rattle.drv_words.specs.declared.answers.ClaimAnswer.TheVariants as claim
+use Rattle.drv_words.specs.declared.plan.Plan.{Plan}
 use Rattle.drv_words.specs.declared.steps.Place.{Place}
 use Rattle.drv_words.specs.declared.steps.Place.TheVariants as place
-use Rattle.std.specs.Prelude.{◌&&◌, ◌||◌, ◌+◌, Bool, List, [], ◌∷◌, drop, false, get_or, if◌then◌else◌, nat_lt, not, slice_set, true, ℕ}
+use Rattle.drv_words.specs.declared.steps.RunEvent.{RunEvent}
+use Rattle.drv_words.specs.declared.steps.Step.{Step}
+use Rattle.drv_words.specs.declared.steps.Step.TheVariants as step
+use Rattle.std.specs.List.{filter, flat_map, list_any}
+use Rattle.std.specs.Prelude.{◌&&◌, ◌+◌, Bool, List, [], ◌∷◌, false, get_or, if◌then◌else◌, length, map, nat_eq, nat_lt, not, slice_set, true, ℕ}
 
--- The leftover files, as the code goes through them. Only private clauses cite it.
+-- The files that are removed at the end, as the code counts them. Only private clauses cite it.
 
--- first: the number of the first file with the same path
-pub record Leftover : Type 0 where
-  pub place : Place
-  pub first : ℕ
+-- the temporary of job k that a step and its answer claim, by its number
+abbrev pub claim_in : ℕ → Place → List ℕ
+claim_in k (place.Temp j i) = if nat_eq j k then i ∷ [] else []
+claim_in k p = []
 
--- a file where a list has none
-abbrev pub no_leftover : Leftover
-no_leftover = record { place = place.Marked 0 0; first = 0 }
+abbrev pub claim_by : ℕ → Step → Answer → List ℕ
+claim_by k (step.Claim p) (answer.Claim claim.Claimed) = claim_in k p
+claim_by k s x = []
 
--- gone: for each number of a first file, whether the path was removed; claimed: how many temporaries of each job were claimed; at: the
--- number of the file that is removed next. `files` are all files that may be left at the end. `sources` is the number of sources. `linked`
--- says whether the link was run.
-pub record Leftovers : Type 0 where
-  pub files : List Leftover
-  pub gone : List Bool
-  pub claimed : List ℕ
-  pub sources : ℕ
-  pub linked : Bool
-  pub at : ℕ
+-- the claimed temporaries of job k, in the order of the events
+abbrev pub claims_in : ℕ → List RunEvent → List ℕ
+claims_in k events = flat_map (λ e. claim_by k e.step e.answer) events
 
--- a claimed temporary, or a marked file of a job that made a call
-abbrev pub is_left : List ℕ → ℕ → Bool → Place → Bool
-is_left claimed sources linked (place.Command k g i) = false
-is_left claimed sources linked (place.Temp k i) = nat_lt i (get_or claimed k 0)
-is_left claimed sources linked (place.Marked k i) = nat_lt k sources || linked
-is_left claimed sources linked (place.OnFailure k i) = false
+-- whether a file is left: a temporary whose number is below that of the claims, or a marked file of a job that made a call
+abbrev pub is_left : List RunEvent → Place → Bool
+is_left events (place.Temp k i) = nat_lt i (length (claims_in k events))
+is_left events (place.Marked k i) = list_any (λ e. is_call_of k e.step) events
+is_left events p = false
 
--- a file is removed if it is left and its path is not gone
-abbrev pub is_due : Leftovers → List Bool → Leftover → Bool
-is_due x gone l = is_left x.claimed x.sources x.linked l.place && not (get_or gone l.first false)
+-- these files, each path once
+abbrev pub swept : Plan → List RunEvent → List Place
+swept plan events = map (λ f. f.place) (each_once [] (filter (λ f. is_left events f.place) (all_files plan)))
 
--- the index of the first file that is due; the first file of the list has index i
-abbrev pub due_index : Leftovers → ℕ → List Leftover → ℕ
-due_index x i [] = i
-due_index x i (l ∷ ls) = if is_due x x.gone l then i else due_index x (i + 1) ls
+-- The same by lists of counts, as the code goes through the events and the files.
 
--- the next file to be removed is sought from this index on
-abbrev pub seeking : Leftovers → ℕ → Leftovers
-seeking x from = record x { at = due_index x from (drop from x.files) }
+-- one more claimed temporary of job k
+abbrev pub counted : List ℕ → ℕ → List ℕ
+counted claimed k = slice_set claimed k (get_or claimed k 0 + 1)
 
--- after a removal: the path is gone, and the next file is sought
-abbrev pub passing : Leftovers → Leftovers
-passing x = seeking (record x { gone = slice_set x.gone (get_or x.files x.at no_leftover).first true }) (x.at + 1)
+-- the answer to the claim of a temporary is counted, if it succeeded
+abbrev pub noting_claim : List ℕ → Place → Answer → List ℕ
+noting_claim claimed (place.Temp k i) (answer.Claim claim.Claimed) = counted claimed k
+noting_claim claimed p x = claimed
 
--- the files that are still to be removed, if these paths are gone
-abbrev pub to_remove : Leftovers → List Bool → List Leftover → List Place
-to_remove x gone [] = []
-to_remove x gone (l ∷ ls) = if is_due x gone l then l.place ∷ to_remove x (slice_set gone l.first true) ls else to_remove x gone ls
+abbrev pub noting : List ℕ → Step → Answer → List ℕ
+noting claimed (step.Claim p) x = noting_claim claimed p x
+noting claimed s x = claimed
+
+-- a job that claims or starts something is marked
+abbrev pub calling : List Bool → Step → List Bool
+calling called (step.Claim p) = slice_set called (job_of p) true
+calling called (step.Start p from_pipe to_pipe) = slice_set called (job_of p) true
+calling called s = called
+
+-- the same of all events
+abbrev pub noted : List ℕ → List RunEvent → List ℕ
+noted claimed [] = claimed
+noted claimed (e ∷ events) = noted (noting claimed e.step e.answer) events
+
+abbrev pub called_by : List Bool → List RunEvent → List Bool
+called_by called [] = called
+called_by called (e ∷ events) = called_by (calling called e.step) events
+
+-- whether a file is left by these counts
+abbrev pub is_counted : List ℕ → List Bool → Place → Bool
+is_counted claimed called (place.Temp k i) = nat_lt i (get_or claimed k 0)
+is_counted claimed called (place.Marked k i) = get_or called k false
+is_counted claimed called p = false
+
+-- and no earlier one has its path
+abbrev pub is_first : List ℕ → List Bool → List Bool → Leftover → Bool
+is_first claimed called gone l = is_counted claimed called l.place && not (get_or gone l.first false)
+
+-- those of the files that are left, each path once
+abbrev pub gathered : List ℕ → List Bool → List Bool → List Leftover → List Place
+gathered claimed called gone [] = []
+gathered claimed called gone (l ∷ ls) = if is_first claimed called gone l then l.place ∷ gathered claimed called (slice_set gone l.first true) ls
+    else gathered claimed called gone ls

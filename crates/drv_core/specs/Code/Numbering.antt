@@ -1,10 +1,15 @@
-use Rattle.drv_core.specs.Outcomes.{File}
-use Rattle.drv_core.specs.Code.Leftovers.{Leftover}
+use Rattle.drv_core.specs.Windowed.{File}
+use Rattle.drv_words.specs.declared.steps.Place.{Place}
 use Rattle.std.specs.Cmp.Lexicographic.{pointwise}
 use Rattle.std.specs.Map.{lookup}
 use Rattle.std.specs.Prelude.{◌≡◌, ◌+◌, List, [], ◌∷◌, ◌++◌, None, Option, Some, cond, if◌then◌else◌, length, nat_eq, unwrap_or, ℕ}
 
 -- Files with the numbers of their paths. Only private clauses cite it.
+
+-- first: the number of the first file with the same path
+pub record Leftover : Type 0 where
+  pub place : Place
+  pub first : ℕ
 
 -- the number of the first file with a path; the first file of the list has number i
 abbrev pub first_with : ℕ → List ℕ → List File → Option ℕ

@@ -1,6 +1,6 @@
 use Rattle.drv_core.specs.Code.LeftoverView.{leftover_list}
 use Rattle.drv_core.specs.Code.Numbering.{Noted, number_in}
-use Rattle.drv_core.specs.Outcomes.{File}
+use Rattle.drv_core.specs.Windowed.{File}
 use Rattle.drv_core.specs.declared.numbering.Numbering.{Numbering}
 use Rattle.std.specs.Prelude.{List, ◌++◌, OnOk, Result}
 

@@ -1,52 +1,62 @@
-use Rattle.drv_core.specs.Code.Source.{ClaimReport, Claims, Closing, Ended, RemovalReport, Removals, Stage, StartReport, Starts, WaitReport}
-use Rattle.drv_core.specs.Code.Source.{Waits}
-use Rattle.drv_core.specs.declared.answered.ReportAnswer.{ReportAnswer}
-use Rattle.drv_core.specs.declared.answered.ReportAnswer.TheVariants.{Told, Untold}
+use Rattle.drv_core.specs.Code.Machine.{ClaimReport, Closing, Group, In, Out, RemovalReport, StartReport, Turn, WaitReport}
+use Rattle.drv_core.specs.Story.{Claims, Fresh, Kid, Over, Removes, Starts, Waits}
 use Rattle.drv_core.specs.declared.source.GroupState.{GroupState}
 use Rattle.drv_core.specs.declared.source.GroupState.TheVariants.{Failed, Sound}
-use Rattle.drv_core.specs.declared.source.Stage.{Stage as CodeStage}
+use Rattle.drv_core.specs.declared.source.SourceState.{SourceState}
+use Rattle.drv_core.specs.declared.source.Stage.{Stage}
 use Rattle.drv_core.specs.declared.source.Stage.TheVariants as code
-use Rattle.drv_core.specs.declared.source.SourceState.{SourceState as CodeSource}
-use Rattle.std.specs.Prelude.{◌<◌, ⊤, Bool, List, false, length, true, ℕ}
+use Rattle.drv_words.specs.Places.{group_at}
+use Rattle.drv_words.specs.declared.plan.Job.{Job}
+use Rattle.std.specs.Prelude.{◌≡◌, ◌+◌, ◌-◌, ◌<◌, ◌≤◌, ⊤, Bool, List, [], ◌∷◌, drop, false, get_or, length, true, ℕ}
+use Rattle.std.specs.Vec.{vec_capacity}
 
--- How a source in the code is seen. Only private clauses cite it.
+-- What a source of the code stands for. Only private clauses cite it.
 
--- whether a group has failed
+-- the children of a group, from member i on
+abbrev pub kids_from : ℕ → List ℕ → List Kid
+kids_from i [] = []
+kids_from i (id ∷ ids) = record { member = i; id = id } ∷ kids_from (i + 1) ids
+
+-- child i of a group
+abbrev pub kid_at : List ℕ → ℕ → Kid
+kid_at ids i = record { member = i; id = get_or ids i 0 }
+
+-- whether a command of a group has failed
 abbrev pub has_failed : GroupState → Bool
 has_failed Sound = false
 has_failed Failed = true
 
--- whether a report was written
-abbrev pub is_told : ReportAnswer → Bool
-is_told Told = true
-is_told Untold = false
+-- the stage, of this job, with these children
+abbrev pub turn_at : Job → Stage → List ℕ → Turn
+turn_at job code.Fresh ids = Out Fresh
+turn_at job (code.Claims i) ids = Out (Claims i (drop (i + 1) job.temps))
+turn_at job (code.ClaimReport i) ids = In (ClaimReport i)
+turn_at job (code.Starts g) ids = Out (Starts g (length (group_at job g) - 1) (drop (g + 1) job.groups))
+turn_at job (code.Group g) ids =
+    In (Group g (length ids) (length (group_at job g) - 1 - length ids) (kids_from 0 ids) (drop (g + 1) job.groups))
+turn_at job (code.StartReport g) ids = In (StartReport g (length ids) (kids_from 0 ids) (drop (g + 1) job.groups))
+turn_at job (code.Closing g) ids = In (Closing g (kids_from 0 ids) (drop (g + 1) job.groups))
+turn_at job (code.Waits w) ids =
+    Out (Waits w.group (has_failed w.state) (kid_at ids w.index) (drop (w.index + 1) (kids_from 0 ids)) (drop (w.group + 1) job.groups))
+turn_at job (code.SignalReport w) ids =
+    In (WaitReport w.group (kid_at ids w.index) false (drop (w.index + 1) (kids_from 0 ids)) (drop (w.group + 1) job.groups))
+turn_at job (code.LossReport w) ids =
+    In (WaitReport w.group (kid_at ids w.index) true (drop (w.index + 1) (kids_from 0 ids)) (drop (w.group + 1) job.groups))
+turn_at job (code.Removals i) ids = Out (Removes i (drop (i + 1) job.on_failure))
+turn_at job (code.RemovalReport i) ids = In (RemovalReport i (drop (i + 1) job.on_failure))
+turn_at job code.Ended ids = Out Over
 
--- the code's stage, with what the source keeps beside it: `was` and `ids`
-abbrev pub stage_of : CodeStage → Bool → List ℕ → Stage
-stage_of (code.Claims i) was ids = Claims i
-stage_of (code.ClaimReport i x) was ids = ClaimReport i x
-stage_of (code.Starts g) was ids = Starts g was ids
-stage_of (code.StartReport g why) was ids = StartReport g was ids why
-stage_of (code.Closing g why told) was ids = Closing g was ids why (is_told told)
-stage_of (code.Waits w) was ids = Waits w.group was ids w.index (has_failed w.state)
-stage_of (code.WaitReport w x) was ids = WaitReport w.group was ids w.index (has_failed w.state) x
-stage_of (code.Removals i) was ids = Removals i
-stage_of (code.RemovalReport i) was ids = RemovalReport i
-stage_of code.Ended was ids = Ended
+-- the source's turn
+abbrev pub turn_of : Job → SourceState → Turn
+turn_of job s = turn_at job s.stage s.children.items
 
--- the stage of the code's source
-abbrev pub stage_at : CodeSource → Stage
-stage_at s = stage_of s.stage s.started_before s.children.items
+-- Before a start there is room for one more child: there is room for all of a group, and in the middle of a group not all were started.
+abbrev pub InGroup : Job → Stage → List ℕ → Type 0
+InGroup job (code.Starts g) ids = ids ≡ []
+InGroup job (code.Group g) ids = length ids < length (group_at job g)
+InGroup job s ids = ⊤
 
--- before a start there is room for one more child
-abbrev pub HasRoom : Stage → ℕ → Type 0
-HasRoom (Claims i) room = ⊤
-HasRoom (ClaimReport i x) room = ⊤
-HasRoom (Starts g was ids) room = length ids < room
-HasRoom (StartReport g was ids why) room = ⊤
-HasRoom (Closing g was ids why told) room = ⊤
-HasRoom (Waits g was ids i fault) room = ⊤
-HasRoom (WaitReport g was ids i fault x) room = ⊤
-HasRoom (Removals i) room = ⊤
-HasRoom (RemovalReport i) room = ⊤
-HasRoom Ended room = ⊤
+pub record InRoom (job : Job) (s : SourceState) : Type 0 where
+  pub one : 1 ≤ vec_capacity s.children
+  pub each : (g : ℕ) → length (group_at job g) ≤ vec_capacity s.children
+  pub within : InGroup job s.stage s.children.items

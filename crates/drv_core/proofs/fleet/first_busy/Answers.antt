@@ -1,4 +1,4 @@
-use Rattle.drv_core.proofs.Stories.Places.{all_left, busy_first}
+use Rattle.drv_core.proofs.Searches.{all_left, busy_first}
 use Rattle.drv_core.proofs.fleet.first_busy.Goals as goal
 use Rattle.drv_core.specs.Code.Fleet.{first_busy}
 use Rattle.std.proofs.Common.{◌+◌, ◌-◌, ◌∙◌, ap, drop, length, take}

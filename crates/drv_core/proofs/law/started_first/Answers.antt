@@ -1,6 +1,6 @@
-use Rattle.drv_core.proofs.Laws.StartedEvents.{started_first}
+use Rattle.drv_core.proofs.StartedFirst.{all_in_order}
 use Rattle.drv_core.proofs.law.started_first.Goals as goal
 
--- the lemma is the law
+-- each story starts in order
 pub returns : goal.returns
-returns c = started_first
+returns c = all_in_order

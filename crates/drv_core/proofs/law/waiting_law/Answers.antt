@@ -1,6 +1,6 @@
-use Rattle.drv_core.proofs.Laws.WaitedFor.{waits_for_each}
+use Rattle.drv_core.proofs.Waiting.{all_waited}
 use Rattle.drv_core.proofs.law.waiting_law.Goals as goal
 
--- the lemma is the law
+-- each story waits for its children
 pub returns : goal.returns
-returns c = waits_for_each
+returns c = all_waited

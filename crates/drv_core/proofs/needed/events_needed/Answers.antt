@@ -1,4 +1,4 @@
-use Rattle.drv_core.proofs.Bounds.Needs.{all_counted, all_jobs}
+use Rattle.drv_core.proofs.Needs.{all_counted, all_jobs}
 use Rattle.drv_core.proofs.needed.events_needed.Goals as goal
 use Rattle.drv_core.specs.Needed.{job_events, needed}
 use Rattle.drv_words.specs.declared.plan.Plan.{Plan}

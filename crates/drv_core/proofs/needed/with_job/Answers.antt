@@ -1,4 +1,4 @@
-use Rattle.drv_core.proofs.Bounds.Needs.{all_counted}
+use Rattle.drv_core.proofs.Needs.{all_counted}
 use Rattle.drv_core.proofs.needed.with_job.Goals as goal
 use Rattle.drv_core.specs.Needed.{job_events}
 use Rattle.std.proofs.Common.{◌+◌, ◌*◌, length}

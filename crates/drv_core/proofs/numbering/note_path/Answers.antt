@@ -1,4 +1,4 @@
-use Rattle.drv_core.proofs.Paths.Notes.{by_same}
+use Rattle.drv_core.proofs.Notes.{by_same}
 use Rattle.drv_core.proofs.numbering.note_path.Goals as goal
 
 -- a path without a number gets the next one, and the others keep theirs

@@ -1,9 +1,6 @@
-use Rattle.drv_core.proofs.Contracts.Runs.{advanced, few_at, is_ready, room_at, window_kept}
+use Rattle.drv_core.proofs.Runs.{answered, is_ready, room_at, same_window}
 use Rattle.drv_core.proofs.run.advance.Goals as goal
 use Rattle.std.proofs.Common.{◌∙◌, sym}
-
--- Names: `is_ready`: what the code relies on. `advanced`: after an answer that fits, what is known of the run still holds. `few_at`: no
--- count of claims is greater than the number of events.
 
 -- what is known of the run is what the code relies on
 pub asks-requires : goal.asks-requires
@@ -17,16 +14,12 @@ take-requires-clause-ready c = is_ready c.args.plan.now c.args.work.now c.requir
 pub take-requires-clause-room : goal.take-requires-clause-room
 take-requires-clause-room c = room_at c.args.plan.now c.args.work.now c.in-Some.step c.requires.kept (sym c.asks.ensures ∙ c.in-Some.is)
 
--- no source counts more than fits
-pub take-requires-clause-few : goal.take-requires-clause-few
-take-requires-clause-few c = few_at c.args.plan.now c.args.work.now c.requires.kept
-
 -- after the answer what is known of the run still holds
 pub returns-in-Some-clause-kept : goal.returns-in-Some-clause-kept
-returns-in-Some-clause-kept c = advanced c.args.plan.now c.args.work.now c.take.new.self c.in-Some.step c.args.answer c.requires.kept
-    (sym c.asks.ensures ∙ c.in-Some.is) (c.requires.kind c.in-Some.step (sym c.asks.ensures ∙ c.in-Some.is)) c.take.ensures
+returns-in-Some-clause-kept c = answered c.args.plan.now c.args.work.now c.take.new.self c.in-Some.step c.args.answer c.requires.kept
+    (sym c.asks.ensures ∙ c.in-Some.is) (c.requires.kind c.in-Some.step (sym c.asks.ensures ∙ c.in-Some.is)) c.take.ensures.takes
+    c.take.ensures.rooms c.take.ensures.unswept
 
 -- the window stays
 pub returns-in-Some-clause-window : goal.returns-in-Some-clause-window
-returns-in-Some-clause-window c = window_kept c.args.plan.now c.args.work.now c.take.new.self c.in-Some.step c.args.answer c.requires.kept
-    (sym c.asks.ensures ∙ c.in-Some.is) (c.requires.kind c.in-Some.step (sym c.asks.ensures ∙ c.in-Some.is)) c.take.ensures
+returns-in-Some-clause-window c = same_window c.args.plan.now c.args.work.now c.take.new.self c.in-Some.step c.args.answer c.take.ensures.takes

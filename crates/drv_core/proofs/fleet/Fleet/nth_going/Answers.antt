@@ -9,12 +9,10 @@ use Rattle.std.specs.List.{filter}
 use Rattle.std.specs.Prelude.{unwrap_or}
 use Rattle.std.specs.Slice.Iter.{iter_rest}
 
--- Names: `may_go`: a source that has begun may go on. `fleet_of`: the code's sources.
-
 -- the code's filter yields what the definition's does, and the choice is an index of it
 pub returns : goal.returns
-returns c =
-    let fleet = fleet_of c.args.self.now in
+returns c jobs =
+    let fleet = fleet_of jobs c.args.self.now in
     let begun = c.args.self.now.begun.items in
     let goes = may_go (all_fly fleet) fleet in
     c.unwrap_or.ensures

@@ -1,6 +1,6 @@
-use Rattle.drv_core.proofs.Paths.Files.{all_none, all_some}
+use Rattle.drv_core.proofs.Notes.{all_none, all_some}
 use Rattle.drv_core.proofs.numbering.Numbering.add_all.Goals as goal
-use Rattle.drv_core.specs.Code.LeftoverFiles.{all_files, files_from, job_files}
+use Rattle.drv_core.specs.Windowed.{all_files, files_from, job_files}
 use Rattle.drv_core.specs.Code.NumberingView.{IsNoted}
 use Rattle.std.proofs.Common.{◌≡◌, ◌++◌, ◌∙◌, OnOk, ap, append_assoc, subst}
 

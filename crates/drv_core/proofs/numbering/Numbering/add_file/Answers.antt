@@ -1,4 +1,4 @@
-use Rattle.drv_core.proofs.Paths.Notes.{noted_file}
+use Rattle.drv_core.proofs.Notes.{noted_file}
 use Rattle.drv_core.proofs.numbering.Numbering.add_file.Goals as goal
 use Rattle.drv_core.specs.Code.Numbering.{number_in}
 use Rattle.std.proofs.Common.{◌∙◌}

@@ -2,7 +2,7 @@ use Rattle.drv_core.proofs.numbering.Numbering.add_marked.Given as goal
 use Rattle.drv_core.specs.Code.LeftoverView.{leftover_list}
 use Rattle.drv_core.specs.Code.Numbering.{Noting, number_in}
 use Rattle.drv_core.specs.Code.NumberingView.{IsNoted}
-use Rattle.drv_core.specs.Outcomes.{File, marked_files}
+use Rattle.drv_core.specs.Windowed.{File, marked_files}
 use Rattle.std.proofs.Common.{◌++◌, List, drop}
 
 -- the added files and those that are left are all

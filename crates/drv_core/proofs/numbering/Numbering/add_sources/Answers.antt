@@ -1,6 +1,6 @@
-use Rattle.drv_core.proofs.Paths.Notes.{noting_all, noting_next, noting_starts}
+use Rattle.drv_core.proofs.Notes.{noting_all, noting_next, noting_starts}
 use Rattle.drv_core.proofs.numbering.Numbering.add_sources.Goals as goal
-use Rattle.drv_core.specs.Code.LeftoverFiles.{files_from, job_files}
+use Rattle.drv_core.specs.Windowed.{files_from, job_files}
 use Rattle.std.proofs.Common.{refl}
 
 -- Names: `files_from`: the files of the jobs from number k on. `noting_all`: after the last item all its files are noted.

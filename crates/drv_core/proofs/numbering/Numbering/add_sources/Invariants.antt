@@ -1,9 +1,9 @@
 use Rattle.drv_core.proofs.numbering.Numbering.add_sources.Given as goal
 use Rattle.drv_core.specs.Code.LeftoverView.{leftover_list}
-use Rattle.drv_core.specs.Code.LeftoverFiles.{files_from}
+use Rattle.drv_core.specs.Windowed.{files_from}
 use Rattle.drv_core.specs.Code.Numbering.{Noting, number_in}
 use Rattle.drv_core.specs.Code.NumberingView.{IsNoted}
-use Rattle.drv_core.specs.Outcomes.{File}
+use Rattle.drv_core.specs.Windowed.{File}
 use Rattle.std.proofs.Common.{◌++◌, List, drop}
 
 -- the added files and those that are left are all

@@ -1,6 +1,6 @@
-use Rattle.drv_core.proofs.Paths.Notes.{noting_all, noting_next, noting_starts}
+use Rattle.drv_core.proofs.Notes.{noting_all, noting_next, noting_starts}
 use Rattle.drv_core.proofs.numbering.Numbering.add_temps.Goals as goal
-use Rattle.drv_core.specs.Code.LeftoverFiles.{temp_files}
+use Rattle.drv_core.specs.Windowed.{temp_files}
 use Rattle.drv_words.specs.declared.steps.Place.TheVariants as place
 use Rattle.std.proofs.Common.{[], ◌∷◌, refl}
 

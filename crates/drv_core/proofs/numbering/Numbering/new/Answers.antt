@@ -1,4 +1,4 @@
-use Rattle.drv_core.proofs.Paths.Notes.{noted_none}
+use Rattle.drv_core.proofs.Notes.{noted_none}
 use Rattle.drv_core.proofs.numbering.Numbering.new.Goals as goal
 use Rattle.drv_core.specs.Code.Numbering.{number_in}
 use Rattle.std.proofs.Common.{ap, nat_eq}

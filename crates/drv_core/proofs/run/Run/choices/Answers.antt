@@ -1,4 +1,4 @@
-use Rattle.drv_core.proofs.Contracts.Runs.{choices_told}
+use Rattle.drv_core.proofs.Contracts.{choices_told}
 use Rattle.drv_core.proofs.run.Run.choices.Goals as goal
 
 -- the code counts the sources that may go on, or one

@@ -1,4 +1,4 @@
-use Rattle.drv_core.proofs.Contracts.Runs.{choice_of, turned_elsewhere, turned_events, turned_next}
+use Rattle.drv_core.proofs.Contracts.{choice_of, turned_elsewhere, turned_events, turned_next}
 use Rattle.drv_core.proofs.run.Run.choose.Goals as goal
 
 -- Names: `choice_of`: a choice of the run that a caller sees is one of the code's. `turned_elsewhere`: the clause of `choose`.

@@ -1,4 +1,4 @@
-use Rattle.drv_core.proofs.Contracts.Runs.{knows}
+use Rattle.drv_core.proofs.Contracts.{knows}
 use Rattle.drv_core.proofs.run.Run.next.Goals as goal
 
 -- Names: `knows`: the clauses of `next`, of a run of the code that a caller sees as r.

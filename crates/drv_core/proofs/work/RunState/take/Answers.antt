@@ -1,13 +1,17 @@
-use Rattle.drv_core.proofs.Answering.Moves.{in_part}
+use Rattle.drv_core.proofs.Rooms.{rooms_from}
 use Rattle.drv_core.proofs.work.RunState.take.Goals as goal
-use Rattle.drv_core.specs.Code.Course.{Sources}
-use Rattle.drv_core.specs.Code.RunStateView.{phase_of, run_state_of}
-use Rattle.std.proofs.Common.{ap}
+use Rattle.std.proofs.Common.{◌∙◌, ap}
+use Rattle.std.specs.Vec.{vec_capacity}
 
--- Names: `run_state_of`: the code's run. `in_part`: the code's function for a phase moves on as the definition does in that phase.
+-- there is room as before
+pub returns-in-Removals-clause-rooms : goal.returns-in-Removals-clause-rooms
+returns-in-Removals-clause-rooms c = rooms_from c.args.plan.now c.take_removal.new.self c.args.self.now.fleet c.args.self.now.link
+    (vec_capacity c.args.self.now.events) c.take_removal.ensures.fleet c.take_removal.ensures.link
+    (ap (λ e. vec_capacity e) c.take_removal.ensures.events ∙ c.push_reserved.ensures.capacity) c.requires.rooms.sources c.requires.rooms.children
+    c.requires.rooms.begun c.requires.rooms.link c.requires.rooms.events
 
--- in the phase of the sources the code moves on as the definition does
-pub returns-in-Sources : goal.returns-in-Sources
-returns-in-Sources c = in_part c.args.plan.now (run_state_of c.args.self.now) (run_state_of c.keep.new.self)
-    (run_state_of c.take_source.new.self) c.args.step c.args.answer Sources c.keep.ensures
-    (ap phase_of c.in-Sources.is) c.take_source.ensures
+pub returns-in-Report-clause-rooms : goal.returns-in-Report-clause-rooms
+returns-in-Report-clause-rooms c = rooms_from c.args.plan.now c.pass.new.self c.args.self.now.fleet c.args.self.now.link
+    (vec_capacity c.args.self.now.events) c.pass.ensures.fleet c.pass.ensures.link
+    (ap (λ e. vec_capacity e) c.pass.ensures.events ∙ c.push_reserved.ensures.capacity) c.requires.rooms.sources c.requires.rooms.children
+    c.requires.rooms.begun c.requires.rooms.link c.requires.rooms.events
