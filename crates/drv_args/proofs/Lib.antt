@@ -1,6 +1,7 @@
 pub mod Beginnings
 pub mod Expanding
 pub mod FrontLaws
+pub mod LastBytes
 pub mod Limiting
 pub mod LineSteps
 pub mod Lookups

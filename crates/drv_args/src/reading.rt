@@ -22,10 +22,24 @@ use std::alloc::Global;
 /// The most words of a line.
 const MOST_ARGUMENTS: usize = 65536;
 
+/// Whether the last byte of an option is in its place in a word, as in each word that the option
+/// fits. This test alone excludes most options.
+fn may_end(option: &[u8], word: &[u8]) -> bool
+    ensures { (form : Form) → form_fits form option.now word.now ≡ true → result ≡ true }
+{
+    match option {
+        [.., last] => option.len() <= word.len() && word[option.len() - 1] == *last,
+        [] => true,
+    }
+}
+
 /// Whether an option of this form fits a word.
 fn does_fit(form: Form, option: &[u8], word: &[u8]) -> bool
     ensures { result ≡ form_fits form option.now word.now }
 {
+    if !may_end(option, word) {
+        return false;
+    }
     match form {
         Form::Exact | Form::Separate => option == word,
         Form::Joined | Form::Either => word.starts_with(option),
