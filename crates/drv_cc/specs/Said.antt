@@ -55,8 +55,8 @@ pub data Reads (known : List ℕ) (named : List (List ℕ)) : List (List ℕ) �
   switch_of_spec_file : {word : List ℕ}
       → HasNoRow word → is_named named word ≡ true → Reads known named (word ∷ []) (plain Unknown word)
 
--- The words of a line in their order, the items that they are, and what the driver gets: each item in its turn, but for one that a later
--- item of its class takes back, and one that is spelled nowhere.
+-- The words of a line in their order, the items that they are, and what the driver gets: each item in its turn. Left out are one that a
+-- later item of its class takes back, and one that is spelled nowhere.
 pub data Says (known : List ℕ) (named : List (List ℕ)) : List (List ℕ) → List Item → List LineItem → Type 0 where
   no_words : Says known named [] [] []
   kept_item : {words rest : List (List ℕ)} {i : Item} {items : List Item} {one : LineItem} {others : List LineItem}

@@ -34,8 +34,8 @@ pub fn last_level_counts()
 {}
 
 /// A law: the items of the driver's line are the words of a line that is carried out, in their order,
-/// each by its row of the table, without those that a later one of its class takes back and those
-/// that are spelled nowhere. Then come added ones, of which each is a word that only the spec file
+/// each by its row of the table. Left out are those that a later one of its class takes back, and
+/// those that are spelled nowhere. Then come added ones: each is a word that only the spec file
 /// reads, `-pthread`, or a folder. So nothing of the line is lost, and nothing is invented (GCC
 /// manual, "Invoking GCC").
 pub fn line_is_said()
