@@ -1,7 +1,7 @@
 use Rattle.drv_search.specs.declared.prefixes.Prefixes.{Prefixes}
-use Rattle.drv_specs.specs.Directives.{Bad, Directive, Include, Pair, Rename, Text, directives_of, read_settled}
+use Rattle.drv_specs.specs.Directives.{Bad, Directive, Include, Pair, Rename, Text, directives_of, read_settled, shown}
 use Rattle.drv_specs.specs.Lines.{settle}
-use Rattle.drv_specs.specs.Code.Slices.{found, read_left, settled_file, shown}
+use Rattle.drv_specs.specs.Code.Slices.{found, read_left, settled_file}
 use Rattle.drv_specs.specs.declared.directive.IfMissing.TheVariants.{Refuse}
 use Rattle.drv_specs.specs.declared.directive.IfMissing.{IfMissing}
 use Rattle.drv_specs.specs.declared.directive.Directive.TheVariants as lent
@@ -18,8 +18,10 @@ use Rattle.drv_system.specs.Gives.{GivesKnown}
 use Rattle.drv_system.specs.Known.{◌>>=◌, Is, Known, Unasked, asked}
 use Rattle.drv_system.specs.declared.event.ReadAnswer.{ReadAnswer}
 use Rattle.drv_words.specs.Gives.{Gives}
-use Rattle.std.proofs.Common.{◌≡◌, ◌⊎◌, ◌∙◌, Bor, IsErrAnd, Option, List, ◌∷◌, ◌++◌, Err, Ok, Result, Some, ap, inl, inr, refl, subst, suc}
+use Rattle.std.proofs.Common.{◌≡◌, ◌⊎◌, ◌∙◌, Bor, IsErrAnd, None, Option, List, [], ◌∷◌, ◌++◌, Err, Ok, Result, Some, ap, inl, inr, refl, subst, suc}
 use Rattle.std.proofs.Common.{sym, zero, ℕ}
+use Rattle.std.specs.Option.{option_map}
+use Rattle.std.specs.Prelude.{IfNone, slice_get}
 
 -- For `load` and `load_file` (loading.rt): directives are carried out one after another, those of included files in the place of the
 -- %include. `files` is how many files may still be read, `levels` how deep they may still be within one another; `whole` is what the
@@ -160,6 +162,12 @@ reads_no_file (lent.Bad n) not = tt
 pub taken : (old new : List Directive) (result : Option code.Directive) (directive : code.Directive) (is : Directive)
     → old ≡ found result ++ new → result ≡ Some directive → shown directive ≡ is → old ≡ is ∷ new
 taken old new result directive is whole some same = whole ∙ ap (λ r. found r ++ new) some ∙ ap (λ d. d ∷ new) same
+
+-- the first directive that a reader of a text gives is the text's
+pub first_taken : (text : List ℕ) (old new : List Directive) (result : Option code.Directive) → old ≡ read_settled text
+    → old ≡ found result ++ new → IfNone result (old ≡ []) → option_map shown result ≡ slice_get (read_settled text) 0
+first_taken text old new None is whole none = sym (ap (λ ds. slice_get ds 0) (sym is ∙ none))
+first_taken text old new (Some directive) is whole none = sym (ap (λ ds. slice_get ds 0) (sym is ∙ whole))
 
 -- the next directive, where what is left gives the whole
 module _ (F : Facts) (prefixes : Prefixes) (set : Set) (files levels : ℕ) (left rest : List Directive) (directive : Directive)

@@ -1,6 +1,8 @@
 use Rattle.drv_specs.specs.Blanks.{has_byte, is_blank}
 use Rattle.drv_words.specs.Bytes.{colon, greater_than, number_sign, less_than, newline, percent, asterisk}
 use Rattle.drv_specs.specs.Lines.{is_empty_line, lines_of, settle, trim, without_front, words_of}
+use Rattle.drv_specs.specs.declared.directive.Directive as code
+use Rattle.drv_specs.specs.declared.directive.Directive.TheVariants as lent
 use Rattle.drv_specs.specs.declared.directive.IfMissing.{IfMissing}
 use Rattle.drv_specs.specs.declared.directive.IfMissing.TheVariants.{PassOver, Refuse}
 use Rattle.std.specs.Cmp.Lexicographic.{pointwise}
@@ -18,6 +20,14 @@ pub data Directive : Type 0 where
   Rename : List ℕ → List ℕ → Directive  -- a text's name, and its new name
   Include : IfMissing → List ℕ → Directive  -- what becomes of it where its file is missing, and the file
   Bad : ℕ → Directive  -- the line of this number is none
+
+-- a directive of the code, which lends its bytes
+abbrev pub shown : code.Directive → Directive
+shown (lent.Text name body) = Text name.now body.now
+shown (lent.Pair key body) = Pair key.now body.now
+shown (lent.Rename old new) = Rename old.now new.now
+shown (lent.Include missing file) = Include missing file.now
+shown (lent.Bad n) = Bad n
 
 -- what a line begins: nothing, a directive of one line, or one with a body
 pub data Start : Type 0 where

@@ -69,7 +69,7 @@ pub fn without_blanks(text: &[u8]) -> &[u8]
 }
 
 /// A text without the white space at its front.
-pub(crate) fn without_white(text: &[u8]) -> &[u8]
+pub fn without_white(text: &[u8]) -> &[u8]
     ensures { result.now ≡ without_front is_white text.now }
 {
     let stays = first_black(text).unwrap_or(text.len());
@@ -87,7 +87,7 @@ pub(crate) fn without_first(text: &[u8]) -> &[u8]
 }
 
 /// A text after its first bytes.
-pub(crate) fn following(text: &[u8], count: usize) -> &[u8]
+pub fn following(text: &[u8], count: usize) -> &[u8]
     ensures { result.now ≡ drop count text.now }
 {
     if count <= text.len() {

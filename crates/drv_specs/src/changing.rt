@@ -2,8 +2,8 @@
 
 // In clauses: `Gives` says that a result is the defined one, or lack of memory. `parsed` is the
 // tree of a text, or its fault.
+ghost use Rattle.drv_specs.specs.Directives.{shown};
 ghost use Rattle.drv_specs.specs.Loading.{change};
-ghost use Rattle.drv_specs.specs.Code.Slices.{shown};
 ghost use Rattle.drv_specs.specs.Sets.{append, appended_text, appends, begins_with_at, by_tree, is_alias};
 ghost use Rattle.drv_specs.specs.Sets.{is_key, is_key_byte, is_key_text, is_name, is_name_byte};
 ghost use Rattle.drv_specs.specs.Sets.{is_no_text, is_not_installed, is_sized, pair_text, put, Set};
@@ -48,7 +48,7 @@ fn has_name_bytes(name: &[u8]) -> bool
 }
 
 /// Whether a text is a name.
-fn is_name(name: &[u8]) -> bool
+pub fn is_name(name: &[u8]) -> bool
     ensures { result ≡ is_name name.now }
 {
     is_sized(name) && has_name_bytes(name)
@@ -149,7 +149,7 @@ fn parsed_text(alloc: Global, name: &[u8], text: &[u8]) -> Result<Text, SpecsFau
 }
 
 /// Whether a body appends: it begins with `+` and a blank.
-fn appends(body: &[u8]) -> bool
+pub fn appends(body: &[u8]) -> bool
     ensures { result ≡ appends body.now }
 {
     match body {

@@ -1,8 +1,8 @@
 //! What the lines of a spec file say.
 
 /// What becomes of an include whose file is missing.
-#[derive(Clone, Copy)]
-pub(crate) enum IfMissing {
+#[derive(Clone, Copy, Debug)]
+pub enum IfMissing {
     /// It is refused.
     Refuse,
     /// It is passed over.
@@ -10,8 +10,8 @@ pub(crate) enum IfMissing {
 }
 
 /// A directive of a spec file: slices of its settled text.
-#[derive(Clone, Copy)]
-pub(crate) enum Directive<'a> {
+#[derive(Clone, Copy, Debug)]
+pub enum Directive<'a> {
     /// A name and its body.
     Text {
         name: &'a [u8],

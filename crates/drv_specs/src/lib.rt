@@ -19,7 +19,10 @@ mod settling;
 mod text;
 
 pub use builtin_specs::{builtin, suffixes};
-pub use changing::begins_with_at;
+pub use changing::{appends, begins_with_at, is_name};
+pub use directive::{Directive, IfMissing};
 pub use fault::SpecsFault;
 pub use laws::{directives_are_read, dump_reloads, loading_keeps};
+pub use reading::first_directive;
 pub use set::SpecSet;
+pub use settling::settle;

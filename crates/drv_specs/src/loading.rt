@@ -6,10 +6,10 @@
 // journal, and their answers to the table. `Gives` says that a result is the defined one, or lack
 // of memory.
 ghost use Rattle.drv_search.specs.declared.prefixes.Prefixes as places;
-ghost use Rattle.drv_specs.specs.Directives.{read_settled};
+ghost use Rattle.drv_specs.specs.Directives.{read_settled, shown};
 ghost use Rattle.drv_specs.specs.Loading.{all_carried, file_loaded, including, loaded, text_read};
 ghost use Rattle.drv_specs.specs.Loading.{worked};
-ghost use Rattle.drv_specs.specs.Code.Slices.{IsSettled, read_left, settled_file, shown};
+ghost use Rattle.drv_specs.specs.Code.Slices.{IsSettled, read_left, settled_file};
 ghost use Rattle.drv_specs.specs.declared.fault.SpecsFault.TheVariants as fault;
 ghost use Rattle.drv_system.specs.Asking.{Asks, Extends};
 ghost use Rattle.drv_system.specs.Code.Asked.{Asked};

@@ -6,13 +6,14 @@
 // with its newline. `words_of` is the words of a text from here on.
 ghost use Rattle.drv_specs.specs.Directives.{body_lines, by_colon, by_key, by_keyword, first_line};
 ghost use Rattle.drv_specs.specs.Directives.{include_directive, is_colon, read_lines, read_settled};
-ghost use Rattle.drv_specs.specs.Directives.{rename_directive};
+ghost use Rattle.drv_specs.specs.Directives.{rename_directive, shown};
 ghost use Rattle.drv_specs.specs.Lines.{ends_line, lines_of, words_of};
 ghost use Rattle.drv_specs.specs.Code.Slices.{Ends, bytes_from, directives_left, found, is_keyword};
-ghost use Rattle.drv_specs.specs.Code.Slices.{is_passed, lines_left, shown, size_left, text_left};
+ghost use Rattle.drv_specs.specs.Code.Slices.{is_passed, lines_left, size_left, text_left};
 ghost use Rattle.std.specs.List.{list_all, position};
+ghost use Rattle.std.specs.Option.{option_map};
 ghost use Rattle.std.specs.Prelude.{◌≡◌, ◌<◌, ◌≤◌, ◌^◌, ◌+◌, ◌-◌, ◌∷◌, ◌++◌, [], IfNone, false};
-ghost use Rattle.std.specs.Prelude.{length, not, true};
+ghost use Rattle.std.specs.Prelude.{length, not, slice_get, true};
 
 use crate::bytes::{following, has_byte, trim, without_blanks, without_last};
 use crate::directive::{Directive, IfMissing};
@@ -250,4 +251,13 @@ impl<'a> Reader<'a> {
         self.left = begun.left;
         begun.directive
     }
+}
+
+/// The first directive of a settled text, if there is one.
+#[tactic(auto, using(crate::proofs::Carrying::first_taken))]
+pub fn first_directive(text: &[u8]) -> Option<Directive<'_>>
+    ensures { option_map shown result ≡ slice_get (read_settled text.now) 0 }
+{
+    let mut reader = Reader::new(text);
+    reader.next()
 }

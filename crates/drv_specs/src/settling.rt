@@ -35,7 +35,7 @@ fn settle_onto(text: &mut Vec<u8>, byte: u8) -> Result<(), AllocError>
 }
 
 /// What is left of a spec file's text.
-pub(crate) fn settle(alloc: Global, text: &[u8]) -> Result<Vec<u8>, AllocError>
+pub fn settle(alloc: Global, text: &[u8]) -> Result<Vec<u8>, AllocError>
     ensures { IfOk result (λ left. left.items ≡ settle text.now) }
 {
     let mut left = Vec::new(alloc);

@@ -1,10 +1,9 @@
 use Rattle.drv_search.specs.declared.prefixes.Prefixes.{Prefixes}
 use Rattle.drv_specs.specs.Directives as specs
-use Rattle.drv_specs.specs.Directives.{read_lines}
+use Rattle.drv_specs.specs.Directives.{read_lines, shown}
 use Rattle.drv_specs.specs.Lines.{is_kept, joined_onto, lines_of, settle}
 use Rattle.drv_specs.specs.Loading.{file_text}
 use Rattle.drv_specs.specs.declared.directive.IfMissing.{IfMissing}
-use Rattle.drv_specs.specs.declared.directive.Directive.TheVariants.{Bad, Include, Pair, Rename, Text}
 use Rattle.drv_specs.specs.declared.directive.Directive.{Directive}
 use Rattle.drv_specs.specs.declared.lines.Lines.{Lines}
 use Rattle.drv_specs.specs.declared.fault.SpecsFault.{SpecsFault}
@@ -53,14 +52,6 @@ size_left lines = length (bytes_from (text_left lines))
 -- the directives of the lines that are left
 abbrev pub directives_left : Lines → List specs.Directive
 directives_left lines = read_lines false lines.number (lines_left lines)
-
--- a directive of the code as one of the definitions
-abbrev pub shown : Directive → specs.Directive
-shown (Text name body) = specs.Text name.now body.now
-shown (Pair key body) = specs.Pair key.now body.now
-shown (Rename old new) = specs.Rename old.now new.now
-shown (Include missing file) = specs.Include missing file.now
-shown (Bad n) = specs.Bad n
 
 -- a line without the blanks at its front that begins nothing, or a directive of one line
 abbrev pub is_passed : List ℕ → Bool

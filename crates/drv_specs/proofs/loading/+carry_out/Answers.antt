@@ -1,9 +1,8 @@
 use Rattle.drv_specs.proofs.Carrying.{changed_more, changed_refused, deep_refused, many_refused, reads_no_file, refusal_given, taken}
 use Rattle.drv_specs.proofs.Carrying.{unread_refused, worked_more, worked_refused}
 use Rattle.drv_specs.proofs.loading.+carry_out.Goals as goal
-use Rattle.drv_specs.specs.Directives.{Include, read_settled}
+use Rattle.drv_specs.specs.Directives.{Include, read_settled, shown}
 use Rattle.drv_specs.specs.Loading.{all_carried, including}
-use Rattle.drv_specs.specs.Code.Slices.{shown}
 use Rattle.drv_system.proofs.AskedCalls.{asked_further, extends_before}
 use Rattle.std.proofs.Common.{◌-◌, ap, arith, inr, refl}
 

@@ -1,7 +1,7 @@
 use Rattle.drv_specs.proofs.Sliced.{begins_body, begins_keyword, begins_none, blanks_before}
 use Rattle.drv_specs.proofs.reading.begin.Goals as goal
-use Rattle.drv_specs.specs.Code.Slices.{directives_left, found, lines_from, shown}
-use Rattle.drv_specs.specs.Directives.{by_colon, is_colon}
+use Rattle.drv_specs.specs.Code.Slices.{directives_left, found, lines_from}
+use Rattle.drv_specs.specs.Directives.{by_colon, is_colon, shown}
 use Rattle.std.proofs.Common.{◌≡◌, ◌+◌, ◌-◌, [], ◌∷◌, ◌∙◌, ap, arith, sym, ℕ}
 use Rattle.std.specs.List.{position}
 use Rattle.std.specs.Option.{option_map}
