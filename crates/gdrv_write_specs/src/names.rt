@@ -63,6 +63,12 @@ impl Judged {
     }
 }
 
+/// Whether a refusal of this word says that its option doesn't take all values. An option for a
+/// machine of which gcc lists no values takes those of which it makes a row.
+fn is_judged(word: &[u8], found: &[Judged]) -> bool {
+    !word.starts_with(b"-m") || found.iter().any(|it| it.name.as_bytes() == name_of(word))
+}
+
 /// A number of one digit or two.
 fn small(text: &[u8]) -> Option<u8> {
     match text {
@@ -180,19 +186,18 @@ impl OptionNames {
 
     /// Adds the names of the options whose value is judged: `NAME=#` takes a number, and what is
     /// listed follows `NAME=`. Some of these numbers are a list, as a large one shows.
-    fn add_judged(&mut self, gcc: Gcc<'_>, tried: &[Word]) -> Result<(), Fault> {
+    fn add_judged(&mut self, gcc: Gcc<'_>, found: &[Judged]) -> Result<(), Fault> {
         let alloc = gcc.alloc();
-        let found = judgements(gcc, tried)?;
         let mut large = Listing::new(alloc);
-        for it in found.as_slice() {
+        for it in found {
             if it.takes_numbers() {
                 large.push(joined(alloc, &[it.name.as_bytes(), b"99999999999999999999"])?)?;
             }
         }
         let few = judgements(gcc, large.as_slice())?;
-        self.add_values(alloc, found.as_slice())?;
+        self.add_values(alloc, found)?;
         self.add_values(alloc, few.as_slice())?;
-        for it in found.as_slice() {
+        for it in found {
             let name = it.name.as_bytes();
             if it.takes_numbers() && !few.as_slice().iter().any(|it| it.name.as_bytes() == name) {
                 self.names.push(joined(alloc, &[name, b"#"])?)?;
@@ -209,10 +214,12 @@ impl OptionNames {
             names: Listing::new(alloc),
             lacking: Listing::new(alloc),
         };
-        let tried = with_no_value(alloc, known)?;
+        let mut tried = with_no_value(alloc, known)?.into_vec();
+        let found = judgements(gcc, tried.as_slice())?;
+        tried.retain(|word| is_judged(word.as_bytes(), found.as_slice()));
         options.add_refused(gcc, whole_of(alloc, known)?.as_slice())?;
         options.add_refused(gcc, tried.as_slice())?;
-        options.add_judged(gcc, tried.as_slice())?;
+        options.add_judged(gcc, found.as_slice())?;
         Ok(options)
     }
 
