@@ -8,10 +8,10 @@ use Rattle.drv_cc.specs.Table.{OptionRow, renames, table}
 use Rattle.drv_cc.specs.Table.{capitals, features, later_letters, later_long_names, letters, long_names, machines, warnings}
 use Rattle.drv_cc.specs.UnknownWords.{is_unknown}
 use Rattle.drv_cc.specs.declared.item.Item.{Item}
-use Rattle.drv_cc.specs.declared.table.Role.TheVariants.{Question, Switch, Unknown}
-use Rattle.drv_cc.specs.declared.table.Spelling.TheVariants.{Alone}
-use Rattle.drv_cc.specs.declared.table.Takes.TheVariants.{Attached, Either, Newer, Next, Nothing, Rest}
-use Rattle.drv_cc.specs.declared.table.Takes.{Takes}
+use Rattle.drv_options.specs.declared.option.Role.TheVariants.{Question, Switch, Unknown}
+use Rattle.drv_options.specs.declared.option.Spelling.TheVariants.{Alone}
+use Rattle.drv_options.specs.declared.option.Takes.TheVariants.{Attached, Either, Newer, Next, Nothing, Rest}
+use Rattle.drv_options.specs.declared.option.Takes.{Takes}
 use Rattle.drv_words.specs.Bytes.{equals}
 use Rattle.std.proofs.Common.{Err, IfOk, Ok, Result, ◌≡◌, ◌==◌, ◌&&◌, ◌||◌, ◌∙◌, ◌<◌, ◌++◌, Bool, List, [], ◌∷◌, None, Option, Some, ap}
 use Rattle.std.proofs.Common.{arith, codes, cond, drop, false, find, if◌then◌else◌, length, map, nat_eq, nat_lt, not, refl, sym, true, ℕ}

@@ -1,8 +1,8 @@
 use Rattle.drv_cc.specs.Code.Parts.{are_of, last_byte, part_of, second}
 use Rattle.drv_cc.specs.Items.{begins, first_row, fits, option_fits, same}
 use Rattle.drv_cc.specs.Table.{OptionRow, capitals, features, later_letters, later_long_names, letters, long_names, machines, warnings}
-use Rattle.drv_cc.specs.declared.table.Takes.TheVariants.{Attached, Either, Newer, Next, Nothing, Rest}
-use Rattle.drv_cc.specs.declared.table.Takes.{Takes}
+use Rattle.drv_options.specs.declared.option.Takes.TheVariants.{Attached, Either, Newer, Next, Nothing, Rest}
+use Rattle.drv_options.specs.declared.option.Takes.{Takes}
 use Rattle.std.proofs.Common.{arith, ◌≡◌, ◌==◌, ◌&&◌, ◌∙◌, ◌++◌, ◌<◌, ◌-◌, ◌⊎◌, Bool, List, [], ◌∷◌, None, Option, Some, ap}
 use Rattle.std.proofs.Common.{false, find, get_or, inl, inr, length, not, refl, sym, take, true, ℕ}
 use Rattle.std.proofs.lemmas.Bool.{eq-eqb, eqb-true}

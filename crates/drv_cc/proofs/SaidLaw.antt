@@ -23,12 +23,12 @@ use Rattle.drv_cc.specs.declared.answer.Surroundings.{Surroundings}
 use Rattle.drv_cc.specs.declared.item.Item.{Item}
 use Rattle.drv_cc.specs.declared.refusal.Refusal.TheVariants as refusal
 use Rattle.drv_cc.specs.declared.refusal.Refusal.{Refusal}
-use Rattle.drv_cc.specs.declared.table.Role.TheVariants as role
-use Rattle.drv_cc.specs.declared.table.Role.{Role}
-use Rattle.drv_cc.specs.declared.table.Spelling.TheVariants.{Alone, Joined, Nowhere, Separate}
-use Rattle.drv_cc.specs.declared.table.Spelling.{Spelling}
-use Rattle.drv_cc.specs.declared.table.Takes.TheVariants.{Attached, Either, Newer, Next, Nothing, Rest}
-use Rattle.drv_cc.specs.declared.table.Takes.{Takes}
+use Rattle.drv_options.specs.declared.option.Role.TheVariants as role
+use Rattle.drv_options.specs.declared.option.Role.{Role}
+use Rattle.drv_options.specs.declared.option.Spelling.TheVariants.{Alone, Joined, Nowhere, Separate}
+use Rattle.drv_options.specs.declared.option.Spelling.{Spelling}
+use Rattle.drv_options.specs.declared.option.Takes.TheVariants.{Attached, Either, Newer, Next, Nothing, Rest}
+use Rattle.drv_options.specs.declared.option.Takes.{Takes}
 use Rattle.std.proofs.Common.{arith, ◌≡◌, ◌<◌, ◌∙◌, ◌||◌, Bool, List, [], ◌∷◌, ◌++◌, None, Option, Some, ap, codes, cond, drop, false, find}
 use Rattle.std.proofs.Common.{if◌then◌else◌}
 use Rattle.std.proofs.Common.{length, nat_lt, refl, subst, sym, take, true, ℕ}

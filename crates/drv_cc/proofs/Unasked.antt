@@ -5,8 +5,8 @@ use Rattle.drv_cc.specs.Items.{is_among, same}
 use Rattle.drv_cc.specs.Kept.{has}
 use Rattle.drv_cc.specs.Table.{texts}
 use Rattle.drv_cc.specs.declared.item.Item.{Item}
-use Rattle.drv_cc.specs.declared.table.Role.TheVariants.{Input, Lacking, Library, Piece, Question, Refused, Switch, Tells, Unknown}
-use Rattle.drv_cc.specs.declared.table.Role.{Role}
+use Rattle.drv_options.specs.declared.option.Role.TheVariants.{Input, Lacking, Library, Piece, Question, Refused, Switch, Tells, Unknown}
+use Rattle.drv_options.specs.declared.option.Role.{Role}
 use Rattle.std.proofs.Common.{◌≡◌, ◌∙◌, ◌&&◌, ◌||◌, Bool, List, [], ◌∷◌, ap, codes, false, refl, sym, true, ℕ}
 use Rattle.std.specs.List.{list_all, list_any}
 

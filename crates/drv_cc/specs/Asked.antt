@@ -4,8 +4,8 @@ use Rattle.drv_cc.specs.Kept.{has, has_input}
 use Rattle.drv_cc.specs.SideFiles.{compiled, is_some, sources}
 use Rattle.drv_cc.specs.Table.{texts}
 use Rattle.drv_cc.specs.declared.item.Item.{Item}
-use Rattle.drv_cc.specs.declared.table.Role.TheVariants as role
-use Rattle.drv_cc.specs.declared.table.Role.{Role}
+use Rattle.drv_options.specs.declared.option.Role.TheVariants as role
+use Rattle.drv_options.specs.declared.option.Role.{Role}
 use Rattle.std.specs.List.{list_any}
 use Rattle.std.specs.Prelude.{◌&&◌, ◌||◌, Bool, List, codes, false, not, true, ℕ}
 

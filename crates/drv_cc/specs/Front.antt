@@ -16,8 +16,8 @@ use Rattle.drv_cc.specs.declared.answer.Surroundings.{Surroundings}
 use Rattle.drv_cc.specs.declared.answer.Variable.{Variable}
 use Rattle.drv_cc.specs.declared.item.Item.{Item}
 use Rattle.drv_cc.specs.declared.refusal.Refusal.{Refusal}
-use Rattle.drv_cc.specs.declared.table.Role.TheVariants as role
-use Rattle.drv_cc.specs.declared.table.Role.{Role}
+use Rattle.drv_options.specs.declared.option.Role.TheVariants as role
+use Rattle.drv_options.specs.declared.option.Role.{Role}
 use Rattle.drv_words.specs.Bytes.{colon, comma, single_quote, space}
 use Rattle.drv_words.specs.FileNames.{stem}
 use Rattle.std.specs.List.{ends_with, filter, filter_map, flat_map, list_any, slice_split}

@@ -1,11 +1,11 @@
 use Rattle.drv_cc.specs.Table.{OptionRow, classes, ignored, renames, table, texts}
 use Rattle.drv_cc.specs.declared.item.Item.{Item}
-use Rattle.drv_cc.specs.declared.table.Spelling.TheVariants.{Alone, Joined, Nowhere, Separate}
-use Rattle.drv_cc.specs.declared.table.Spelling.{Spelling}
-use Rattle.drv_cc.specs.declared.table.Role.TheVariants.{Input, Lacking, Question, Switch, Unknown}
-use Rattle.drv_cc.specs.declared.table.Role.{Role}
-use Rattle.drv_cc.specs.declared.table.Takes.TheVariants.{Attached, Either, Newer, Next, Nothing, Rest}
-use Rattle.drv_cc.specs.declared.table.Takes.{Takes}
+use Rattle.drv_options.specs.declared.option.Spelling.TheVariants.{Alone, Joined, Nowhere, Separate}
+use Rattle.drv_options.specs.declared.option.Spelling.{Spelling}
+use Rattle.drv_options.specs.declared.option.Role.TheVariants.{Input, Lacking, Question, Switch, Unknown}
+use Rattle.drv_options.specs.declared.option.Role.{Role}
+use Rattle.drv_options.specs.declared.option.Takes.TheVariants.{Attached, Either, Newer, Next, Nothing, Rest}
+use Rattle.drv_options.specs.declared.option.Takes.{Takes}
 use Rattle.drv_words.specs.Bytes.{equals, hyphen, newline, space}
 use Rattle.std.specs.Cmp.Lexicographic.{pointwise}
 use Rattle.std.specs.List.{ends_with, list_all, list_any, position_or_len, slice_split, starts_with}

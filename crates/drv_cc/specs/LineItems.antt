@@ -5,10 +5,10 @@ use Rattle.drv_args.specs.declared.option_table.Setting.TheVariants as setting
 use Rattle.drv_args.specs.declared.option_table.Tool.TheVariants as tool
 use Rattle.drv_cc.specs.Items.{same}
 use Rattle.drv_cc.specs.declared.item.Item.{Item}
-use Rattle.drv_cc.specs.declared.table.Role.TheVariants as role
-use Rattle.drv_cc.specs.declared.table.Role.{Role}
-use Rattle.drv_cc.specs.declared.table.Spelling.TheVariants.{Alone, Joined, Nowhere, Separate}
-use Rattle.drv_cc.specs.declared.table.Spelling.{Spelling}
+use Rattle.drv_options.specs.declared.option.Role.TheVariants as role
+use Rattle.drv_options.specs.declared.option.Role.{Role}
+use Rattle.drv_options.specs.declared.option.Spelling.TheVariants.{Alone, Joined, Nowhere, Separate}
+use Rattle.drv_options.specs.declared.option.Spelling.{Spelling}
 use Rattle.std.specs.Prelude.{List, [], None, Option, Some, codes, if◌then◌else◌, ℕ}
 
 -- An item of a line of gcc as one of the driver's line (GCC manual, "Overall Options", "Directory Options", "Link Options", "Preprocessor

@@ -8,10 +8,10 @@ use Rattle.drv_cc.specs.LineItems.{alone, item_of, line_item}
 use Rattle.drv_cc.specs.Table.{OptionRow, texts}
 use Rattle.drv_cc.specs.declared.answer.Surroundings.{Surroundings}
 use Rattle.drv_cc.specs.declared.item.Item.{Item}
-use Rattle.drv_cc.specs.declared.table.Role.TheVariants.{Input, Switch, Unknown}
-use Rattle.drv_cc.specs.declared.table.Spelling.TheVariants.{Alone, Nowhere}
-use Rattle.drv_cc.specs.declared.table.Takes.TheVariants.{Either, Newer, Next}
-use Rattle.drv_cc.specs.declared.table.Takes.{Takes}
+use Rattle.drv_options.specs.declared.option.Role.TheVariants.{Input, Switch, Unknown}
+use Rattle.drv_options.specs.declared.option.Spelling.TheVariants.{Alone, Nowhere}
+use Rattle.drv_options.specs.declared.option.Takes.TheVariants.{Either, Newer, Next}
+use Rattle.drv_options.specs.declared.option.Takes.{Takes}
 use Rattle.std.specs.List.{All, Contains}
 use Rattle.std.specs.Option.{is_some}
 use Rattle.std.specs.Prelude.{◌≡◌, Bool, List, [], ◌∷◌, ◌++◌, None, Some, codes, false, if◌then◌else◌, true, ℕ}

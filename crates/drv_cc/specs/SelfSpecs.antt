@@ -20,9 +20,9 @@ use Rattle.drv_cc.specs.declared.item.Item.{Item}
 use Rattle.drv_cc.specs.declared.levels.Debugging.{Debugging}
 use Rattle.drv_cc.specs.declared.refusal.Refusal.TheVariants.{GivenFile, NotTaken}
 use Rattle.drv_cc.specs.declared.refusal.Refusal.{Refusal}
-use Rattle.drv_cc.specs.declared.table.Role.TheVariants as role
-use Rattle.drv_cc.specs.declared.table.Role.{Role}
-use Rattle.drv_cc.specs.declared.table.Spelling.TheVariants.{Alone}
+use Rattle.drv_options.specs.declared.option.Role.TheVariants as role
+use Rattle.drv_options.specs.declared.option.Role.{Role}
+use Rattle.drv_options.specs.declared.option.Spelling.TheVariants.{Alone}
 use Rattle.std.specs.List.{filter, filter_map, flat_map, starts_with}
 use Rattle.std.specs.Prelude.{nat_lt, not, true, ℕ}
 use Rattle.std.specs.Prelude.{◌||◌, Bool, List, [], ◌∷◌, ◌++◌, None, Option, Some, codes, drop, false, if◌then◌else◌, length, map, nat_eq}

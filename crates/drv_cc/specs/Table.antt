@@ -1,16 +1,17 @@
-use Rattle.drv_cc.specs.declared.lists.TheConstants.{CLASSES, IGNORED}
-use Rattle.drv_cc.specs.declared.rows.TheConstants as rows
-use Rattle.drv_cc.specs.declared.table.Spelling.{Spelling}
-use Rattle.drv_cc.specs.declared.table.Role.{Role}
-use Rattle.drv_cc.specs.declared.table.Takes.{Takes}
+use Rattle.drv_options.specs.declared.lists.TheConstants.{CLASSES, IGNORED}
+use Rattle.drv_options.specs.declared.rows.TheConstants as rows
+use Rattle.drv_options.specs.declared.option.Spelling.{Spelling}
+use Rattle.drv_options.specs.declared.option.Role.{Role}
+use Rattle.drv_options.specs.declared.option.Takes.{Takes}
 use Rattle.drv_words.specs.Bytes.{space}
 use Rattle.std.specs.List.{flat_map, slice_split}
 use Rattle.std.specs.Prelude.{◌==◌, List, [], ◌∷◌, codes, map, ℕ}
 
 -- The option table (GCC manual, "Option Summary"; "GCC Internals", "Option Files": which forms an option has and which other it is an alias
--- of). Its rows are those of src/rows.rt, part by part. The first row that fits a word decides.
--- The values of Takes, Spelling and Role are explained in src/table.rt: Attached takes the word's rest, which isn't empty, and Rest one
--- that may be; Either takes the next word where the rest is empty. Newer takes none, and newer compilers alone call the option by its name.
+-- of). Its rows are those of drv_options (src/rows.rt), part by part. The first row that fits a word decides.
+-- The values of Takes, Spelling and Role are explained there, in src/option.rt: Attached takes the word's rest, which isn't empty, and Rest
+-- one that may be; Either takes the next word where the rest is empty. Newer takes none, and newer compilers alone call the option by its
+-- name.
 -- Each value of -std= ("C Dialect Options") and of -fdiagnostics-color= is an option of its own.
 -- For clauses of src/classes.rt, src/reading.rt, src/renaming.rt and src/checks.rt. drv_compile cites it too.
 
@@ -79,10 +80,10 @@ renames =
     (codes "--debug=", codes "-g") ∷ (codes "--machine-", codes "-m") ∷ (codes "--machine=", codes "-m") ∷ (codes "--optimize=", codes "-O")
     ∷ (codes "--std=", codes "-std=") ∷ (codes "--warn-", codes "-W") ∷ (codes "--", codes "-f") ∷ []
 
--- options that gcc 12 takes and does nothing for, in both signs (src/lists.rt)
+-- options that gcc 12 takes and does nothing for, in both signs (drv_options, src/lists.rt)
 unfoldable pub ignored : List (List ℕ)
 ignored = map (λ name. name.now) IGNORED
 
--- options with their classes, where it is not that of an option and its opposite (src/lists.rt)
+-- options with their classes, where it is not that of an option and its opposite (drv_options, src/lists.rt)
 unfoldable pub classes : List (List ℕ × List ℕ)
 classes = map (λ row. (row.0.now, row.1.now)) CLASSES

@@ -14,8 +14,9 @@ use crate::classes::{is, is_one_of};
 use crate::item::Item;
 use crate::keeping::{has, has_input};
 use crate::sources::has_compiled;
-use crate::table::{Role, last_byte};
+use crate::table::last_byte;
 use crate::values::is_number;
+use drv_options::Role;
 
 /// Options that ask for records in a format that is still in use (GCC manual, "Debugging Options").
 const NEWER: [&[u8]; 7] = [

@@ -6,8 +6,8 @@ ghost use Rattle.drv_cc.specs.Table.{classes, ignored, texts};
 ghost use Rattle.std.specs.Option.{option_map};
 ghost use Rattle.std.specs.Prelude.{◌≡◌, ◌∷◌, IfOk, map};
 
-use crate::lists::{CLASSES, IGNORED};
-use crate::table::{Spelling, last_byte};
+use crate::table::last_byte;
+use drv_options::{CLASSES, IGNORED, Spelling};
 use drv_words::Word;
 use std::alloc::{AllocError, Global};
 

@@ -23,8 +23,8 @@ use crate::outputs::outputs;
 use crate::reading::items_of;
 use crate::sides::add_side_words;
 use crate::sources::inputs;
-use crate::table::{Role, Spelling};
 use crate::{Answer, Call, Refusal, Stages, Surroundings};
+use drv_options::{Role, Spelling};
 use drv_words::{Listing, Word};
 use std::alloc::{AllocError, Global};
 

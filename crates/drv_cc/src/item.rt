@@ -2,12 +2,13 @@
 
 ghost use Rattle.drv_cc.specs.Code.Building.{shown};
 ghost use Rattle.drv_cc.specs.Items.{by_row, item, plain, unsettled, words_of};
-ghost use Rattle.drv_cc.specs.declared.table.Role.TheVariants.{Switch};
-ghost use Rattle.drv_cc.specs.declared.table.Spelling.TheVariants.{Alone};
+ghost use Rattle.drv_options.specs.declared.option.Role.TheVariants.{Switch};
+ghost use Rattle.drv_options.specs.declared.option.Spelling.TheVariants.{Alone};
 ghost use Rattle.std.specs.Prelude.{◌≡◌, ◌++◌, [], IfOk, OnOk};
 
 use crate::classes::class_of;
-use crate::table::{Role, Row, Spelling};
+use crate::table::Row;
+use drv_options::{Role, Spelling};
 use drv_words::{Listing, Word};
 use std::alloc::{AllocError, Global};
 

@@ -12,7 +12,7 @@ use crate::classes::is;
 use crate::item::Item;
 use crate::keeping::{has, has_input};
 use crate::reading::rest_after;
-use crate::table::Role;
+use drv_options::Role;
 use drv_words::{Listing, Word};
 use std::alloc::{AllocError, Global};
 

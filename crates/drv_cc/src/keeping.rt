@@ -9,7 +9,7 @@ ghost use Rattle.std.specs.Prelude.{◌≡◌, IfOk, OnOk, reverse};
 use crate::class_key::ClassKey;
 use crate::classes::is;
 use crate::item::Item;
-use crate::table::Role;
+use drv_options::Role;
 use drv_words::{Listing, Word};
 use std::alloc::{AllocError, Global};
 use std::collections::HashSet;

@@ -7,8 +7,8 @@ ghost use Rattle.std.specs.Prelude.{◌≡◌, ◌++◌, IfOk, OnOk};
 
 use crate::classes::is;
 use crate::item::Item;
-use crate::table::{Role, Spelling};
 use drv_args::{Effect, Setting, Tool};
+use drv_options::{Role, Spelling};
 use drv_words::Listing;
 use std::alloc::AllocError;
 

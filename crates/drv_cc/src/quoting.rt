@@ -16,10 +16,10 @@ use crate::item::Item;
 use crate::keeping::has;
 use crate::leading::{beginning, link_beginning, stops};
 use crate::reading::rest_after;
-use crate::table::Role;
 use crate::targets::add_child_words;
 use crate::words::add_word;
 use crate::{Surroundings, Variable};
+use drv_options::Role;
 use drv_words::{Listing, Word};
 use std::alloc::{AllocError, Global};
 

@@ -5,9 +5,9 @@ ghost use Rattle.drv_cc.specs.Items.{begins, beyond, first_row, is_file, is_pass
 ghost use Rattle.drv_cc.specs.Items.{items_of, known_item, machine_item, machine_name, meant_option};
 ghost use Rattle.drv_cc.specs.Items.{lacks, newer_item, passed_item, plain};
 ghost use Rattle.drv_cc.specs.Items.{start_of, start_renamed, with_rest};
-ghost use Rattle.drv_cc.specs.declared.table.Role.TheVariants as lacking;
-ghost use Rattle.drv_cc.specs.declared.table.Role.TheVariants.{Switch};
-ghost use Rattle.drv_cc.specs.declared.table.Spelling.TheVariants.{Alone};
+ghost use Rattle.drv_options.specs.declared.option.Role.TheVariants as lacking;
+ghost use Rattle.drv_options.specs.declared.option.Role.TheVariants.{Switch};
+ghost use Rattle.drv_options.specs.declared.option.Spelling.TheVariants.{Alone};
 ghost use Rattle.std.specs.Prelude.{◌≡◌, ◌∷◌, ◌++◌, [], IfOk, None, OnOk, codes, drop, false, length};
 ghost use Rattle.std.specs.Prelude.{true};
 
@@ -16,8 +16,9 @@ use crate::fences::Fence;
 use crate::item::Item;
 use crate::known::{is_known_line, is_own};
 use crate::renaming::{is_renamed, meant_option};
-use crate::table::{Role, Row, Spelling, Takes, first_row};
+use crate::table::{Row, first_row};
 use crate::values::{accepts, accepts_near, is_off, judges, turns_off};
+use drv_options::{Role, Spelling, Takes};
 use drv_words::{Listing, Word};
 use std::alloc::{AllocError, Global};
 

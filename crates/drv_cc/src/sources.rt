@@ -13,7 +13,7 @@ ghost use Rattle.std.specs.Prelude.{◌≡◌, IfOk};
 use crate::classes::{is, stands_in};
 use crate::item::Item;
 use crate::names::suffix;
-use crate::table::Role;
+use drv_options::Role;
 use drv_words::{Listing, Word};
 use std::alloc::{AllocError, Global};
 

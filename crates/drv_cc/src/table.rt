@@ -9,63 +9,10 @@ ghost use Rattle.std.specs.Option.{option_map};
 ghost use Rattle.std.specs.Prelude.{◌≡◌, ◌++◌, false, find, get_or, map, true};
 
 use crate::classes::is;
-use crate::rows::{
-    CAPITALS, FEATURES, LATER_LETTERS, LATER_LONG_NAMES, LETTERS, LONG_NAMES, MACHINES, WARNINGS,
+use drv_options::{
+    CAPITALS, FEATURES, LATER_LETTERS, LATER_LONG_NAMES, LETTERS, LONG_NAMES, MACHINES, OptionRow,
+    Role, Spelling, Takes, WARNINGS,
 };
-
-/// How an option takes its argument.
-#[derive(Clone, Copy)]
-pub enum Takes {
-    /// It takes none: the word is the option.
-    Nothing,
-    /// It takes none, and newer compilers alone call it by the name: names of options say whether
-    /// this one does.
-    Newer,
-    /// The word's rest, which is not empty.
-    Attached,
-    /// The word's rest, which may be empty.
-    Rest,
-    /// The next word.
-    Next,
-    /// The word's rest, or the next word where nothing is left.
-    Either,
-}
-
-/// How an item is spelled.
-#[derive(Clone, Copy)]
-pub enum Spelling {
-    /// Its name.
-    Alone,
-    /// Its name and its argument in one word.
-    Joined,
-    /// Its name, and its argument as the next word.
-    Separate,
-    /// Not at all.
-    Nowhere,
-}
-
-/// What an item is on the line.
-#[derive(Clone, Copy)]
-pub enum Role {
-    /// A file.
-    Input,
-    /// A library, or a word for the linker.
-    Library,
-    /// A word for another tool, a language, or what is said of the whole call.
-    Piece,
-    /// A switch.
-    Switch,
-    /// A question for the compiler.
-    Question,
-    /// A question where there is no input.
-    Tells,
-    /// An option that is refused.
-    Refused,
-    /// No option.
-    Unknown,
-    /// An option without its argument.
-    Lacking,
-}
 
 /// A row of the option table.
 #[derive(Clone, Copy)]
@@ -82,12 +29,9 @@ pub(crate) struct Row {
     pub(crate) role: Role,
 }
 
-/// A row as src/rows.rt has it.
-type WrittenRow = (&'static [u8], Takes, &'static [u8], Spelling, Role);
-
 impl Row {
     /// A row of that file.
-    fn of(row: &WrittenRow) -> Row
+    fn of(row: &OptionRow) -> Row
         ensures { shown result ≡ row_by row.now.0.now row.now.1 row.now.2.now row.now.3 row.now.4 }
     {
         let (option, takes, other_name, spelling, role) = *row;
@@ -106,26 +50,24 @@ impl Row {
     }
 }
 
-impl Takes {
-    /// Whether an argument may follow the option in its word.
-    fn takes_rest(self) -> bool
-        ensures { result ≡ takes_rest self }
-    {
-        matches!(self, Takes::Attached | Takes::Rest | Takes::Either)
-    }
+/// Whether an argument may follow an option in its word.
+fn takes_rest(takes: Takes) -> bool
+    ensures { result ≡ takes_rest takes }
+{
+    matches!(takes, Takes::Attached | Takes::Rest | Takes::Either)
+}
 
-    /// Whether an option fits a word. Most are longer than it.
-    #[tactic(auto, using(crate::proofs::Parts::longer_fits))]
-    fn fits(self, option: &[u8], word: &[u8]) -> bool
-        ensures { result ≡ option_fits self word.now option.now }
-    {
-        if word.len() < option.len() {
-            false
-        } else if self.takes_rest() {
-            begins(option, word)
-        } else {
-            is(option, word)
-        }
+/// Whether an option fits a word. Most are longer than it.
+#[tactic(auto, using(crate::proofs::Parts::longer_fits))]
+fn fits(takes: Takes, option: &[u8], word: &[u8]) -> bool
+    ensures { result ≡ option_fits takes word.now option.now }
+{
+    if word.len() < option.len() {
+        false
+    } else if takes_rest(takes) {
+        begins(option, word)
+    } else {
+        is(option, word)
     }
 }
 
@@ -181,12 +123,12 @@ fn second(word: &[u8]) -> u8
 }
 
 /// The first of these rows that fits a word.
-fn row_among(rows: &[WrittenRow], word: &[u8]) -> Option<Row>
+fn row_among(rows: &[OptionRow], word: &[u8]) -> Option<Row>
     ensures { option_map shown result
         ≡ find (fits word.now) (map (λ row. row_by row.0.now row.1 row.2.now row.3 row.4) rows.now) }
 {
     for row in rows {
-        if row.1.fits(row.0, word) {
+        if fits(row.1, row.0, word) {
             return Some(Row::of(row));
         }
     }

@@ -1,8 +1,8 @@
 use Rattle.drv_cc.specs.Code.Parts.{last_byte}
 use Rattle.drv_cc.specs.Items.{begins}
 use Rattle.drv_cc.specs.declared.item.Item.{Item}
-use Rattle.drv_cc.specs.declared.table.Role.TheVariants as role
-use Rattle.drv_cc.specs.declared.table.Role.{Role}
+use Rattle.drv_options.specs.declared.option.Role.TheVariants as role
+use Rattle.drv_options.specs.declared.option.Role.{Role}
 use Rattle.drv_words.specs.Bytes.{equals}
 use Rattle.std.specs.Prelude.{◌==◌, ◌||◌, Bool, List, codes, false, true, ℕ}
 

@@ -4,10 +4,10 @@
 //! A row is an option, how it takes its argument, the name that it is called by, where that is
 //! another one, how it is spelled, and what it is on the line.
 
-use crate::table::Role::{Library, Piece, Question, Refused, Switch, Tells};
-use crate::table::Spelling::{Alone, Joined, Nowhere, Separate};
-use crate::table::Takes::{Attached, Either, Newer, Next, Nothing, Rest};
-use crate::table::{Role, Spelling, Takes};
+use crate::option::Role::{Library, Piece, Question, Refused, Switch, Tells};
+use crate::option::Spelling::{Alone, Joined, Nowhere, Separate};
+use crate::option::Takes::{Attached, Either, Newer, Next, Nothing, Rest};
+use crate::option::{Role, Spelling, Takes};
 
 /// Long names, to those of `--i`.
 #[rattlefmt::skip]
