@@ -1,13 +1,17 @@
-use Rattle.drv_core.proofs.Counting.{same, summed, summed_same}
+use Rattle.drv_core.proofs.Counting.{summed, summed_down}
 use Rattle.drv_core.proofs.Serial.{put_here, put_other}
 use Rattle.drv_core.specs.Events.{Block, events_of, positive}
 use Rattle.drv_core.specs.Filled.{AllFilled, Filled}
 use Rattle.drv_core.specs.Needed.{job_events, needed}
-use Rattle.drv_core.specs.Story.{Claims, Fresh, Goes, Kid, Left, Over, Removes, Starting, Starts, Story, Waits, after_starts, begin, begin_with, begins}
-use Rattle.drv_core.specs.Story.{claimed, exited, last, lost, more, next, over, refused_first, refused_later, removed, signalled, started, stays}
+use Rattle.drv_core.specs.Story.{Claims, Fresh, Goes, Kid, Left, Over, Removes, Starting, Starts, Story, Waits, after_starts, begin}
+use Rattle.drv_core.specs.Story.{begin_with, begins}
+use Rattle.drv_core.specs.Story.{claimed, exited, last, lost, more, next, over, refused_first, refused_later, removed, signalled, started}
+use Rattle.drv_core.specs.Story.{stays}
 use Rattle.drv_core.specs.Story.{to_claims, to_groups, to_removals, to_waits, unclaimed}
-use Rattle.drv_core.specs.Windowed.{File, Leads, Removals, SourceBlock, Windowed, all_files, all_removed, blocks_of, due, each_once, files_from, goes_on}
-use Rattle.drv_core.specs.Windowed.{is_due, job_files, link_after, marked_files, no_more, put, removed as file_removed, stays as file_stays, temp_files}
+use Rattle.drv_core.specs.Windowed.{File, Leads, Removals, SourceBlock, Windowed, all_files, all_removed, blocks_of, due, each_once}
+use Rattle.drv_core.specs.Windowed.{files_from, goes_on}
+use Rattle.drv_core.specs.Windowed.{is_due, job_files, link_after, marked_files, no_more, put, removed as file_removed, stays as file_stays}
+use Rattle.drv_core.specs.Windowed.{temp_files}
 use Rattle.drv_words.specs.Places.{no_job}
 use Rattle.drv_words.specs.declared.plan.Command.{Command}
 use Rattle.drv_words.specs.declared.plan.Job.{Job}
@@ -15,9 +19,9 @@ use Rattle.drv_words.specs.declared.plan.Plan.{Plan}
 use Rattle.drv_words.specs.declared.plan.Temp.{Temp}
 use Rattle.drv_words.specs.declared.steps.Place.{Place}
 use Rattle.drv_words.specs.declared.steps.RunEvent.{RunEvent}
-use Rattle.std.proofs.Common.{◌≡◌, ◌<◌, ◌≤◌, ◌+◌, ◌*◌, ◌-◌, ◌∙◌, ◌||◌, Bool, false, true, List, [], ◌∷◌, ◌++◌, None, Option, Some, ap, arith, get_or, if◌then◌else◌}
+use Rattle.std.proofs.Common.{◌≡◌, ◌<◌, ◌≤◌, ◌+◌, ◌*◌, ◌-◌, ◌∙◌, ◌||◌, Bool, false, true, List, [], ◌∷◌, ◌++◌, None, Option, Some, ap}
+use Rattle.std.proofs.Common.{arith, get_or, if◌then◌else◌}
 use Rattle.std.proofs.Common.{length, nat_eq, refl, subst, suc, sym, unwrap_or, zero, ℕ}
-use Rattle.std.proofs.lemmas.Bool.Decides.{nat_tests}
 use Rattle.std.proofs.lemmas.List.Sums.{sum_by-append, sum_by-cons}
 use Rattle.std.proofs.lemmas.List.{length-append, length-map}
 use Rattle.std.specs.Cmp.Lexicographic.{pointwise}
@@ -43,7 +47,8 @@ cost_groups : (job : Job) (g : ℕ) (gs : List (List Command)) → cost job (to_
 cost_groups job g [] = omega arith
 cost_groups job g (c ∷ gs) = omega arith
 
-cost_claims : (job : Job) (i : ℕ) (ts : List Temp) → cost job (to_claims job i ts) ≤ 2 * length ts + of_groups job.groups + 2 * length job.on_failure
+cost_claims : (job : Job) (i : ℕ) (ts : List Temp)
+    → cost job (to_claims job i ts) ≤ 2 * length ts + of_groups job.groups + 2 * length job.on_failure
 cost_claims job i [] = let le = cost_groups job 0 job.groups in omega (arith, le)
 cost_claims job i (t ∷ ts) = omega arith
 
@@ -63,7 +68,8 @@ cost_starts job zero fault [] gs = omega arith
 cost_starts job (suc g) fault [] gs = cost_waits job (suc g) fault [] gs
 cost_starts job g fault (kid ∷ kids) gs = omega arith
 
-starting_cost : {k g i m : ℕ} {b : Block} {kids : List Kid} {fault : Bool} → Starting k g i m b kids fault → length b + 2 * length kids ≤ 4 * (m + 1)
+starting_cost : {k g i m : ℕ} {b : Block} {kids : List Kid} {fault : Bool} → Starting k g i m b kids fault
+    → length b + 2 * length kids ≤ 4 * (m + 1)
 starting_cost last = omega arith
 starting_cost (more {m = m} s) = let ih = starting_cost s in let e : suc m + 1 ≡ m + 1 + 1 = omega arith in rw e (omega (arith, ih))
 starting_cost (refused_first {m = m}) = omega arith
@@ -75,7 +81,8 @@ block_cost {job = job} (claimed {i = i} {ts = ts}) = let le = cost_claims job (i
 block_cost (unclaimed e) = omega arith
 block_cost {job = job} (started {g = g} {gs = gs} {kids = kids} {fault = fault} s) =
     let le = cost_starts job g fault kids gs in let used = starting_cost s in omega (arith, le, used)
-block_cost {job = job} (exited {g = g} {code = code} {fault = fault} {kids = kids} {gs = gs}) = let le = cost_waits job g (fault || positive code) kids gs in omega (arith, le)
+block_cost {job = job} (exited {g = g} {code = code} {fault = fault} {kids = kids} {gs = gs}) = let le =
+    cost_waits job g (fault || positive code) kids gs in omega (arith, le)
 block_cost {job = job} (signalled {g = g} {kids = kids} {gs = gs}) = let le = cost_waits job g true kids gs in omega (arith, le)
 block_cost {job = job} (lost {g = g} {kids = kids} {gs = gs}) = let le = cost_waits job g true kids gs in omega (arith, le)
 block_cost {job = job} (removed {i = i} {fs = fs} e) = let le = cost_removals job (i + 1) fs in omega (arith, le)
@@ -88,22 +95,6 @@ story_cost (next {b = b} {bs = bs} d t) =
     let all : length (b ++ events_of bs) ≡ length b + length (events_of bs) = length-append b (events_of bs) in
     omega (arith, le, rest, all)
 
--- a sum of which one part has fallen
-summed_down : (n k d : ℕ) (old new : ℕ → ℕ) → k < n → d + new k ≤ old k → ((j : ℕ) → nat_eq k j ≡ false → new j ≡ old j)
-    → d + summed n new ≤ summed n old
-summed_down zero k d old new lt less others = absurd (omega (arith, lt))
-summed_down (suc n) k d old new lt less others = by (nat_eq k n) refl (λ below. summed_down n k d old new below less others)
-  where
-    by : (t : Bool) → nat_eq k n ≡ t → (k < n → d + summed n new ≤ summed n old) → d + (new n + summed n new) ≤ old n + summed n old
-    by true e ih =
-        let here : d + new n ≤ old n = subst (λ i. d + new i ≤ old i) (same k n e) less in
-        let rest : summed n new ≡ summed n old = summed_same n new old (λ j below. others j (grind (arith, nat_tests))) in
-        omega (arith, here, rest)
-    by false e ih =
-        let rest : d + summed n new ≤ summed n old = ih (grind (arith, nat_tests)) in
-        let here : new n ≡ old n = others n e in
-        omega (arith, rest, here)
-
 leads_cost : {n N : ℕ} {job : ℕ → Job} {st x : ℕ → Left} {bs : List SourceBlock} → Leads n N job st bs x
     → length (events_of (blocks_of bs)) ≤ summed n (λ j. cost (job j) (st j))
 leads_cost no_more = omega arith
@@ -114,7 +105,8 @@ leads_cost {n = n} {job = job} {st = st} (goes_on {k = k} {b = b} {m = m} {bs = 
     let down : length b + summed n (λ j. cost (job j) (put st k m j)) ≤ summed n (λ j. cost (job j) (st j)) =
     summed_down n k (length b) (λ j. cost (job j) (st j)) (λ j. cost (job j) (put st k m j)) may.is_source here
     (λ j e. ap (cost (job j)) (put_other st k m j e)) in
-    let all : length (b ++ events_of (blocks_of bs)) ≡ length b + length (events_of (blocks_of bs)) = length-append b (events_of (blocks_of bs)) in
+    let all : length (b ++ events_of (blocks_of bs)) ≡ length b + length (events_of (blocks_of bs)) =
+    length-append b (events_of (blocks_of bs)) in
     omega (arith, rest, down, all)
 
 -- The removals at the end: two events for each file at most.
@@ -158,7 +150,8 @@ many_marked : (k i : ℕ) (ms : List (List ℕ)) → length (marked_files k i ms
 many_marked k i [] = refl
 many_marked k i (m ∷ ms) = let e = many_marked k (i + 1) ms in omega (arith, e)
 
-groups_fit : (gs : List (List Command)) → ((g : ℕ) → g < length gs → 0 < length (get_or gs g [])) → of_groups gs ≤ sum_by (λ group. 4 * length group) gs
+groups_fit : (gs : List (List Command)) → ((g : ℕ) → g < length gs → 0 < length (get_or gs g []))
+    → of_groups gs ≤ sum_by (λ group. 4 * length group) gs
 groups_fit [] filled = omega arith
 groups_fit (c ∷ gs) filled =
     let rest = groups_fit gs (λ g lt. filled (suc g) (omega (arith, lt))) in

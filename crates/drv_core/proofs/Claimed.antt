@@ -1,8 +1,10 @@
 use Rattle.drv_core.proofs.OneJob.{OnlyOf, Own, own, quiet_last}
 use Rattle.drv_core.specs.Code.Leftovers.{claim_by, claims_in, is_left, swept}
 use Rattle.drv_core.specs.Events.{Block, events_of, source_of}
-use Rattle.drv_core.specs.Story.{Claims, Fresh, Goes, Kid, Left, Starting, Story, after_starts, begin_with, begins, claimed, exited, last, lost}
-use Rattle.drv_core.specs.Story.{more, next, over, refused_first, refused_later, removed, signalled, started, stays, to_claims, to_groups, to_removals, to_waits, unclaimed}
+use Rattle.drv_core.specs.Story.{Claims, Fresh, Goes, Kid, Left, Starting, Story, after_starts, begin_with, begins, claimed, exited, last}
+use Rattle.drv_core.specs.Story.{lost}
+use Rattle.drv_core.specs.Story.{more, next, over, refused_first, refused_later, removed, signalled, started, stays, to_claims, to_groups}
+use Rattle.drv_core.specs.Story.{to_removals, to_waits, unclaimed}
 use Rattle.drv_core.specs.Windowed.{File, Removals, Windowed, all_files, due, each_once, has_claimed, is_due}
 use Rattle.drv_words.specs.declared.answers.Answer.{Answer}
 use Rattle.drv_words.specs.declared.answers.Answer.TheVariants as answer
@@ -16,7 +18,8 @@ use Rattle.drv_words.specs.declared.steps.Place.TheVariants as place
 use Rattle.drv_words.specs.declared.steps.RunEvent.{RunEvent}
 use Rattle.drv_words.specs.declared.steps.Step.{Step}
 use Rattle.drv_words.specs.declared.steps.Step.TheVariants as step
-use Rattle.std.proofs.Common.{◌≡◌, ◌≤◌, ◌+◌, ◌∙◌, ◌&&◌, ◌||◌, Bool, false, true, List, [], ◌∷◌, ◌++◌, ap, append-nil, arith, if◌then◌else◌, length, nat_eq}
+use Rattle.std.proofs.Common.{◌≡◌, ◌≤◌, ◌+◌, ◌∙◌, ◌&&◌, ◌||◌, Bool, false, true, List, [], ◌∷◌, ◌++◌, ap, append-nil, arith, if◌then◌else◌}
+use Rattle.std.proofs.Common.{length, nat_eq}
 use Rattle.std.proofs.Common.{nat_lt, refl, subst, suc, sym, zero, ℕ}
 use Rattle.std.proofs.lemmas.Bool.Decides.{nat_tests}
 use Rattle.std.proofs.lemmas.Cmp.{nat_eq_equiv}
@@ -88,7 +91,8 @@ block_claims (stays {i = i} {fs = fs} e) is h = none_removals (i + 1) fs is h
 story_claims : {k : ℕ} {job : Job} {s : Left} {bs : List Block} → Story k job s bs → From s (claims_in k (events_of bs))
 story_claims over = refl
 story_claims {k = k} {s = s} (next {b = b} {bs = bs} d t) =
-    subst (λ l. From s l) (sym (flat_map-append (λ e. claim_by k e.step e.answer) b (events_of bs))) (block_claims d (claims_in k (events_of bs)) (story_claims t))
+    subst (λ l. From s l) (sym (flat_map-append (λ e. claim_by k e.step e.answer) b (events_of bs)))
+    (block_claims d (claims_in k (events_of bs)) (story_claims t))
 
 from_begin : (gs : List (List Command)) (is : List ℕ) → From (begin_with gs) is → Runs 0 is
 from_begin [] is h = subst (Runs 0) (sym h) no_more
@@ -110,7 +114,8 @@ all_run {E = E} w k = by (own (claims_only k) w (quiet_last (claims_only k) (λ 
     by o = subst (Runs 0) (sym o.is) (from_begin o.job.groups (claims_in k (events_of o.blocks)) (story_claims o.story))
 
 -- also before the removals at the end
-pub runs_before : {plan : Plan} {N : ℕ} {ps : List Place} (E gone : List RunEvent) → Windowed plan N (E ++ gone) → Removals ps gone → (k : ℕ)
+pub runs_before : {plan : Plan} {N : ℕ} {ps : List Place} (E gone : List RunEvent) → Windowed plan N (E ++ gone)
+    → Removals ps gone → (k : ℕ)
     → Runs 0 (claims_in k E)
 runs_before E gone w r k = subst (Runs 0) (flat_map-append (λ e. claim_by k e.step e.answer) E gone
     ∙ ap (λ l. claims_in k E ++ l) (quiet_last (claims_only k) (λ p x. refl) r) ∙ append-nil (claims_in k E)) (all_run w k)
@@ -123,7 +128,8 @@ run_has i j is (one_more {is = rest} r) le = by (nat_eq i j) refl (λ up. run_ha
     by : (t : Bool) → nat_eq i j ≡ t → (i + 1 ≤ j → list_any (λ h. nat_eq h j) rest ≡ nat_lt j (i + 1 + length rest))
         → (t || list_any (λ h. nat_eq h j) rest) ≡ nat_lt j (i + length (i ∷ rest))
     by true e ih = let f : nat_lt j (i + suc (length rest)) ≡ true = grind (arith, nat_tests) in sym f
-    by false e ih = ih (grind (arith, nat_tests)) ∙ ap (λ n. nat_lt j n) (let e : i + 1 + length rest ≡ i + suc (length rest) = omega arith in e)
+    by false e ih = ih (grind (arith, nat_tests))
+        ∙ ap (λ n. nat_lt j n) (let e : i + 1 + length rest ≡ i + suc (length rest) = omega arith in e)
 
 -- the claims that events have are those of their list
 has_claims : (k i : ℕ) (E : List RunEvent) → list_any (λ e. has_claimed k i e.step e.answer) E ≡ list_any (λ h. nat_eq h i) (claims_in k E)
@@ -131,7 +137,8 @@ has_claims k i [] = refl
 has_claims k i (e ∷ E) = by e.step e.answer (has_claims k i E)
   where
     by : (s : Step) (x : Answer) → list_any (λ e. has_claimed k i e.step e.answer) E ≡ list_any (λ h. nat_eq h i) (claims_in k E)
-        → (has_claimed k i s x || list_any (λ e. has_claimed k i e.step e.answer) E) ≡ list_any (λ h. nat_eq h i) (claim_by k s x ++ claims_in k E)
+        → (has_claimed k i s x || list_any (λ e. has_claimed k i e.step e.answer) E)
+        ≡ list_any (λ h. nat_eq h i) (claim_by k s x ++ claims_in k E)
     by (step.Claim (place.Temp j h)) (answer.Claim claim.Claimed) ih = here (nat_eq j k)
       where
         here : (t : Bool) → ((t && nat_eq h i) || list_any (λ e. has_claimed k i e.step e.answer) E)

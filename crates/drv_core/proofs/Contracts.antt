@@ -1,5 +1,5 @@
 use Rattle.drv_core.proofs.Courses.{On, fresh_on, grows, sourced_same, stepped_on}
-use Rattle.drv_core.proofs.Runs.{Knows, between_on, chosen_on, choices_are, is_nth, knows_at, not_between, reached_on, sourced_fleet}
+use Rattle.drv_core.proofs.Runs.{Knows, between_on, chosen_on, choices_are, is_nth, knows_at, not_between, reached_on}
 use Rattle.drv_core.specs.Choices.{BetweenBlocks, ChoicesAre, IsChoice, IsNextOf, IsOfFirst}
 use Rattle.drv_core.specs.Code.Course.{Course, asked_by, between, choices_of, choosing, first_course, fresh_course, stepped}
 use Rattle.drv_core.specs.Code.CourseView.{Rooms, Unswept, course_of}
@@ -20,7 +20,8 @@ use Rattle.drv_words.specs.declared.plan.Plan.{Plan}
 use Rattle.drv_words.specs.declared.steps.RunEvent.{RunEvent}
 use Rattle.drv_words.specs.declared.steps.Step.{Step}
 use Rattle.drv_words.specs.declared.steps.Step.TheVariants as step
-use Rattle.std.proofs.Common.{◌≡◌, ◌<◌, ◌≤◌, ◌∙◌, Bool, false, true, List, [], ◌∷◌, ◌++◌, None, Option, Some, ap, if◌then◌else◌, refl, subst, sym, ℕ}
+use Rattle.std.proofs.Common.{◌≡◌, ◌<◌, ◌≤◌, ◌∙◌, Bool, false, true, List, [], ◌∷◌, ◌++◌, None, Option, Some, ap, if◌then◌else◌, refl}
+use Rattle.std.proofs.Common.{subst, sym, ℕ}
 
 -- The clauses of `Run`, of a run of the code that a caller sees as `r`.
 
@@ -46,10 +47,10 @@ begun plan w N some filled rooms unswept is window = record {
 
 -- the course at the beginning
 pub fresh_window : (plan : Plan) (w : RunState) (N : ℕ) → course_of plan w ≡ fresh_course plan N → w.fleet.window ≡ N
-fresh_window plan w N is = ap (λ c. c.fleet.window) is ∙ ap (λ f. f.window) (sourced_fleet plan (first_course plan N))
+fresh_window plan w N is = ap (λ c. c.fleet.window) is ∙ ap (λ f. f.window) (sourced_same plan (first_course plan N)).1
 
 pub fresh_events : (plan : Plan) (w : RunState) (N : ℕ) → course_of plan w ≡ fresh_course plan N → w.events.items ≡ []
-fresh_events plan w N is = ap (λ c. c.events) is ∙ sourced_same plan (first_course plan N)
+fresh_events plan w N is = ap (λ c. c.events) is ∙ (sourced_same plan (first_course plan N)).0
 
 -- the next step is of source number i of those that may go on
 nth_of : (plan : Plan) (pass_codes : Bool) (w : RunState) (i : ℕ) → On plan w.fleet.window (course_of plan w) i
@@ -58,7 +59,8 @@ nth_of : (plan : Plan) (pass_codes : Bool) (w : RunState) (i : ℕ) → On plan 
 nth_of plan pass_codes w i h b = subst (λ o. IsNextOf plan w.fleet.window w.events.items b i o)
     (sym (step_of (asked_by plan (course_of plan w)) (status_of pass_codes w.events.items))) (is_nth (course_of plan w) h b)
 
-pub begun_first : (plan : Plan) (pass_codes : Bool) (w : RunState) (N : ℕ) → 1 ≤ N → w.fleet.window ≡ N → course_of plan w ≡ fresh_course plan N
+pub begun_first : (plan : Plan) (pass_codes : Bool) (w : RunState) (N : ℕ) → 1 ≤ N → w.fleet.window ≡ N
+    → course_of plan w ≡ fresh_course plan N
     → IsOfFirst plan w.fleet.window w.events.items (step_in (run_of plan pass_codes w).action)
 begun_first plan pass_codes w N some window is b = nth_of plan pass_codes w 0
     (subst (λ n. On plan n (course_of plan w) 0) (sym window) (subst (λ c. On plan N c 0) (sym is) (fresh_on plan N some))) b
@@ -83,7 +85,7 @@ answered_events plan pass_codes w v r x e moves = subst (λ y. IfMake y.action (
     by : (o : Option Step) → asked_by plan (course_of plan w) ≡ o
         → IfMake (action_of o (status_of pass_codes w.events.items)) (λ step. v.events.items ≡ w.events.items ++ event step x ∷ [])
     by None is = tt
-    by (Some q) is = ap (λ c. c.events) (moves q is) ∙ grows plan (course_of plan w) q x
+    by (Some q) is = ap (λ c. c.events) (moves q is) ∙ (grows plan (course_of plan w) q x).0
 
 pub answered_first : (plan : Plan) (pass_codes : Bool) (w v : RunState) (r : Run) (x : Answer) → Kept plan w → run_of plan pass_codes w ≡ r
     → IfDone r.action (λ status. ⊥) → IfMake r.action (λ step. fits r.events step x ≡ true)
@@ -91,13 +93,15 @@ pub answered_first : (plan : Plan) (pass_codes : Bool) (w v : RunState) (r : Run
     → v.fleet.window ≡ w.fleet.window
     → IsOfFirst plan v.fleet.window v.events.items (step_in (run_of plan pass_codes v).action)
 answered_first plan pass_codes w v r x k e more fit moves window b = nth_of plan pass_codes v 0 (by (asked_by plan (course_of plan w)) refl
-    (subst (λ y. IfDone y.action (λ status. ⊥)) (sym e) more) (subst (λ y. IfMake y.action (λ step. fits y.events step x ≡ true)) (sym e) fit)) b
+    (subst (λ y. IfDone y.action (λ status. ⊥)) (sym e) more)
+    (subst (λ y. IfMake y.action (λ step. fits y.events step x ≡ true)) (sym e) fit)) b
   where
     by : (o : Option Step) → asked_by plan (course_of plan w) ≡ o → IfDone (action_of o (status_of pass_codes w.events.items)) (λ status. ⊥)
         → IfMake (action_of o (status_of pass_codes w.events.items)) (λ step. fits w.events.items step x ≡ true)
         → On plan v.fleet.window (course_of plan v) 0
     by None is more fit = absurd more
-    by (Some q) is more fit = subst (λ n. On plan n (course_of plan v) 0) (sym window) (subst (λ c. On plan w.fleet.window c 0) (sym (moves q is))
+    by (Some q) is more fit = subst (λ n. On plan n (course_of plan v) 0) (sym window)
+        (subst (λ c. On plan w.fleet.window c 0) (sym (moves q is))
         (stepped_on (course_of plan w) x k.one (reached_on k.one k.reached).on is (fits_kind w.events.items q x fit)))
 
 -- the choices
@@ -111,7 +115,8 @@ pub choice_of : (plan : Plan) (pass_codes : Bool) (w : RunState) (r : Run) (i : 
 choice_of plan pass_codes w r i e h = subst (λ x. IsChoice x.plan x.window x.events i) (sym e) h
 
 -- such a choice is one of the code's
-less : (plan : Plan) (w : RunState) (i : ℕ) → Kept plan w → IsChoice plan w.fleet.window w.events.items i → i < choices_of plan (course_of plan w)
+less : (plan : Plan) (w : RunState) (i : ℕ) → Kept plan w → IsChoice plan w.fleet.window w.events.items i
+    → i < choices_of plan (course_of plan w)
 less plan w i k h = by (between (course_of plan w)) refl (choices_are (course_of plan w) (reached_on k.one k.reached).on)
   where
     by : (t : Bool) → between (course_of plan w) ≡ t → ChoicesAre plan w.fleet.window w.events.items (choices_of plan (course_of plan w))
@@ -149,7 +154,8 @@ run_at plan pass_codes c = record {
   action = action_of (asked_by plan c) (status_of pass_codes c.events);
 }
 
-pub turned_window : (plan : Plan) (w v : RunState) (i : ℕ) → course_of plan v ≡ choosing (course_of plan w) i → v.fleet.window ≡ w.fleet.window
+pub turned_window : (plan : Plan) (w v : RunState) (i : ℕ) → course_of plan v ≡ choosing (course_of plan w) i
+    → v.fleet.window ≡ w.fleet.window
 turned_window plan w v i is = ap (λ c. c.fleet.window) is ∙ choosing_window (course_of plan w) i
 
 pub turned_kept : (plan : Plan) (w v : RunState) (i : ℕ) → Kept plan w → IsChoice plan w.fleet.window w.events.items i
@@ -182,9 +188,12 @@ turned_next plan pass_codes w v r i k e h is = subst (λ x. (b : BetweenBlocks x
 
     at : (b : BetweenBlocks plan w.fleet.window w.events.items)
         → IsNextOf plan w.fleet.window w.events.items b i (step_in (run_of plan pass_codes v).action)
-    at = subst (λ l. (b : BetweenBlocks plan w.fleet.window l) → IsNextOf plan w.fleet.window l b i (step_in (run_of plan pass_codes v).action)) same_events
-        (λ b. subst (λ o. IsNextOf plan w.fleet.window v.events.items b i o) (sym (step_of (asked_by plan (course_of plan v)) (status_of pass_codes v.events.items)))
-        (is_nth (course_of plan v) (chosen (subst (λ l. BetweenBlocks plan w.fleet.window l) same_events b) (between (course_of plan w)) refl) b))
+    at = subst (λ l. (b : BetweenBlocks plan w.fleet.window l)
+        → IsNextOf plan w.fleet.window l b i (step_in (run_of plan pass_codes v).action)) same_events
+        (λ b. subst (λ o. IsNextOf plan w.fleet.window v.events.items b i o)
+        (sym (step_of (asked_by plan (course_of plan v)) (status_of pass_codes v.events.items)))
+        (is_nth (course_of plan v) (chosen (subst (λ l. BetweenBlocks plan w.fleet.window l) same_events b)
+        (between (course_of plan w)) refl) b))
 
 pub turned_elsewhere : (plan : Plan) (pass_codes : Bool) (w v : RunState) (r : Run) (i : ℕ) → Kept plan w → run_of plan pass_codes w ≡ r
     → course_of plan v ≡ choosing (course_of plan w) i → (BetweenBlocks r.plan r.window r.events → ⊥) → run_of plan pass_codes v ≡ r

@@ -131,7 +131,8 @@ count_up (suc n) k p q others = by (nat_eq k n) refl (count_up n k p q others)
     most true false = omega arith
     most false t = omega arith
 
-    by : (t : Bool) → nat_eq k n ≡ t → count n q ≤ count n p + 1 → (if q n then 1 else 0) + count n q ≤ (if p n then 1 else 0) + count n p + 1
+    by : (t : Bool) → nat_eq k n ≡ t → count n q ≤ count n p + 1
+        → (if q n then 1 else 0) + count n q ≤ (if p n then 1 else 0) + count n p + 1
     by true e ih =
         let is : k ≡ n = same k n e in
         let rest : count n q ≡ count n p = count_same n q p (λ j lt. others j (grind (arith, nat_tests))) in
@@ -149,20 +150,18 @@ pub summed_same : (n : ℕ) (f g : ℕ → ℕ) → ((j : ℕ) → j < n → f j
 summed_same zero f g e = refl
 summed_same (suc n) f g e = rw (e n (omega arith), summed_same n f g (λ j lt. e j (omega arith))) refl
 
--- a function that is less at one number, and the same elsewhere, has a smaller sum
-pub summed_less : (n k : ℕ) (old new : ℕ → ℕ) → k < n → new k < old k → ((j : ℕ) → nat_eq k j ≡ false → new j ≡ old j)
-    → summed n new < summed n old
-summed_less zero k old new lt less_k others = absurd (omega arith)
-summed_less (suc n) k old new lt less_k others = by (nat_eq k n) refl (λ below. summed_less n k old new below less_k others)
+-- a sum of which one part has fallen
+pub summed_down : (n k d : ℕ) (old new : ℕ → ℕ) → k < n → d + new k ≤ old k → ((j : ℕ) → nat_eq k j ≡ false → new j ≡ old j)
+    → d + summed n new ≤ summed n old
+summed_down zero k d old new lt less others = absurd (omega (arith, lt))
+summed_down (suc n) k d old new lt less others = by (nat_eq k n) refl (λ below. summed_down n k d old new below less others)
   where
-    -- Plan: by whether the number is the last one.
-    by : (t : Bool) → nat_eq k n ≡ t → (k < n → summed n new < summed n old) → new n + summed n new < old n + summed n old
+    by : (t : Bool) → nat_eq k n ≡ t → (k < n → d + summed n new ≤ summed n old) → d + (new n + summed n new) ≤ old n + summed n old
     by true e ih =
-        let is : k ≡ n = same k n e in
-        let here : new n < old n = subst (λ i. new i < old i) is less_k in
+        let here : d + new n ≤ old n = subst (λ i. d + new i ≤ old i) (same k n e) less in
         let rest : summed n new ≡ summed n old = summed_same n new old (λ j below. others j (grind (arith, nat_tests))) in
         omega (arith, here, rest)
     by false e ih =
-        let rest : summed n new < summed n old = ih (grind (arith, nat_tests)) in
+        let rest : d + summed n new ≤ summed n old = ih (grind (arith, nat_tests)) in
         let here : new n ≡ old n = others n e in
         omega (arith, rest, here)

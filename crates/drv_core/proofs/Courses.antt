@@ -1,14 +1,19 @@
 use Rattle.drv_core.proofs.Claimed.{Runs, runs_before, swept_due}
 use Rattle.drv_core.proofs.Counting.{count_some, same}
-use Rattle.drv_core.proofs.Ending.{EndAt, LinkAt, LinkOn, Tells, done_is_whole, end_more, end_starts, link_at, link_begins, link_closed, link_starts}
+use Rattle.drv_core.proofs.Ending.{EndAt, LinkAt, LinkOn, Tells, done_is_whole, end_more, end_starts, link_at, link_begins, link_closed}
+use Rattle.drv_core.proofs.Ending.{link_starts}
 use Rattle.drv_core.proofs.Ending.{link_takes, removals_begin, report_begins, tells, whole_from}
-use Rattle.drv_core.proofs.Finish.{Cleared, begun_claims, clash, clears}
+use Rattle.drv_core.proofs.Finish.{Cleared, begun_claims, clash, clears, ended}
+use Rattle.drv_core.proofs.Rooms.{taken_same}
 use Rattle.drv_core.proofs.Running.{sources_begin}
 use Rattle.drv_core.proofs.Sources.{SourcesOn, SourcesOver, sources_start, sources_take}
+use Rattle.drv_core.proofs.Tests.{some_is}
 use Rattle.drv_core.proofs.Whole.{none_is_longer}
 use Rattle.drv_core.specs.Choices.{is_step_of}
-use Rattle.drv_core.specs.Code.Course.{Course, Done, Link, Phase, Removals, Report, Sources, after_link, after_sources, asked_by, fresh_course, link_job, linking}
-use Rattle.drv_core.specs.Code.Course.{removed as removal_made, removes_first, removing, reports_first, sourced, stays_there, stepped, stepped_at}
+use Rattle.drv_core.specs.Code.Course.{Course, Done, Link, Phase, Removals, Report, Sources, after_link, after_sources, asked_by}
+use Rattle.drv_core.specs.Code.Course.{fresh_course, link_job, linking}
+use Rattle.drv_core.specs.Code.Course.{removed as removal_made, removes_first, removing, reports_first, sourced, stays_there, stepped}
+use Rattle.drv_core.specs.Code.Course.{stepped_at}
 use Rattle.drv_core.specs.Code.Fleet.{fresh_fleet, taken}
 use Rattle.drv_core.specs.Code.Leftovers.{claims_in, swept}
 use Rattle.drv_core.specs.Code.Machine.{At, In, Out, Turn, asked, closed, first_begun, is_kind, opened, took}
@@ -34,7 +39,8 @@ use Rattle.drv_words.specs.declared.steps.Place.{Place}
 use Rattle.drv_words.specs.declared.steps.RunEvent.{RunEvent}
 use Rattle.drv_words.specs.declared.steps.Step.{Step}
 use Rattle.drv_words.specs.declared.steps.Step.TheVariants as step
-use Rattle.std.proofs.Common.{◌≡◌, ◌≤◌, ◌∙◌, ◌⊎◌, ◌||◌, Bool, false, true, List, [], ◌∷◌, ◌++◌, None, Option, Some, ap, append_assoc, arith, drop, if◌then◌else◌}
+use Rattle.std.proofs.Common.{◌≡◌, ◌≤◌, ◌∙◌, ◌⊎◌, ◌||◌, Bool, false, true, List, [], ◌∷◌, ◌++◌, None, Option, Some, ap, append_assoc, arith}
+use Rattle.std.proofs.Common.{drop, if◌then◌else◌}
 use Rattle.std.proofs.Common.{inl, inr, length, max, nat_eq, refl, subst, suc, sym, unwrap_or, zero, ℕ}
 use Rattle.std.proofs.lemmas.Bool.Decides.{nat_tests}
 use Rattle.std.proofs.lemmas.Cmp.{nat_eq_equiv}
@@ -86,19 +92,16 @@ after_link_on : {plan : Plan} {N : ℕ} {A : List RunEvent} (c : Course) → Lin
 after_link_on {plan = plan} {N = N} c l = removing_on c (swept plan c.events)
     (subst (λ ps. EndAt plan N c.events (Removed ps)) (sym (swept_due plan c.events (claims_run l))) (end_starts l))
 
-over_is : {s : Left} → is_left s ≡ false → s ≡ Over
-over_is {s = Over} e = refl
-over_is {s = s} e = absurd cc
-
 -- the link goes on, or is over
 linking_on : {plan : Plan} {N : ℕ} {A : List RunEvent} (c : Course) → LinkOn plan N c.events A c.link → link_after plan A ≡ link_job plan
     → On plan N (linking plan c) 0
 linking_on {plan = plan} {N = N} {A = A} c l runs = by (more_left c.link) refl c.link refl
   where
-    by : (t : Bool) → more_left c.link ≡ t → (u : Turn) → c.link ≡ u → On plan N (if t then record c { phase = Link } else after_link plan c) 0
+    by : (t : Bool) → more_left c.link ≡ t → (u : Turn) → c.link ≡ u
+        → On plan N (if t then record c { phase = Link } else after_link plan c) 0
     by true e u is = record { at = record { A = A; on = l; runs = runs; left = e } }
     by false e (In p) is = clash refl (sym (ap more_left is) ∙ e)
-    by false e (Out m) is = after_link_on c (subst (λ s. LinkAt plan N c.events A s) (over_is (sym (ap more_left is) ∙ e))
+    by false e (Out m) is = after_link_on c (subst (λ s. LinkAt plan N c.events A s) (ended m (sym (ap more_left is) ∙ e))
         (link_at (subst (λ u. LinkOn plan N c.events A u) is l)))
 
 -- whether something failed, by the greatest code
@@ -129,9 +132,11 @@ after_sources_on {plan = plan} {N = N} c s link = by (nat_eq (greatest_code c.ev
     starts = link_starts s.whole s.ended
 
     link_is : (t : Bool) → nat_eq (greatest_code c.events) 0 ≡ t → link_after plan c.events ≡ (if t then link_job plan else no_job)
-    link_is t e = ap (λ (u : Bool). if u then no_job else unwrap_or plan.link no_job) (any_failed c.events ∙ zero_code (greatest_code c.events) t e) ∙ turn t
+    link_is t e = ap (λ (u : Bool). if u then no_job else unwrap_or plan.link no_job) (any_failed c.events
+        ∙ zero_code (greatest_code c.events) t e) ∙ turn t
       where
-        turn : (t : Bool) → (if (if t then false else true) then no_job else unwrap_or plan.link no_job) ≡ (if t then link_job plan else no_job)
+        turn : (t : Bool) → (if (if t then false else true) then no_job else unwrap_or plan.link no_job)
+            ≡ (if t then link_job plan else no_job)
         turn true = refl
         turn false = refl
 
@@ -155,13 +160,17 @@ sourced_on {plan = plan} {N = N} c phase link h = by (nat_eq c.fleet.unended 0) 
 
 -- the run begins
 pub fresh_on : (plan : Plan) (N : ℕ) → 1 ≤ N → On plan N (fresh_course plan N) 0
-fresh_on plan N one = sourced_on (record { phase = Sources; fleet = fresh_fleet plan.jobs N; link = Out (begin (link_job plan)); due = []; events = [] })
+fresh_on plan N one = sourced_on (record {
+  phase = Sources;
+  fleet = fresh_fleet plan.jobs N;
+  link = Out (begin (link_job plan));
+  due =
+      [];
+  events = [];
+})
     refl refl (sources_start plan N one)
 
 -- Each answer keeps it.
-
-some_is : {A : Type 0} {x y : A} → Some x ≡ Some y → x ≡ y
-some_is e = cc
 
 -- the answer to a removal
 removal_on : {plan : Plan} {N : ℕ} (c : Course) (x : Answer) (q : Step) (p : Place) (ps : List Place) → c.due ≡ p ∷ ps
@@ -169,16 +178,21 @@ removal_on : {plan : Plan} {N : ℕ} (c : Course) (x : Answer) (q : Step) (p : P
     → On plan N (removal_made (record c { phase = Removals; events = c.events ++ event q x ∷ [] }) x) 0
 removal_on {plan = plan} {N = N} c (answer.Remove x) q p ps files d is e = here (removal_failed x) refl
   where
-    grown : (t : List RunEvent → Type 0) → EndAt plan N (c.events ++ removes p x ∷ []) t → EndAt plan N (c.events ++ event q (answer.Remove x) ∷ []) t
+    grown : (t : List RunEvent → Type 0) → EndAt plan N (c.events ++ removes p x ∷ []) t
+        → EndAt plan N (c.events ++ event q (answer.Remove x) ∷ []) t
     grown t = subst (λ s. EndAt plan N (c.events ++ event s (answer.Remove x) ∷ []) t) is
 
-    here : (t : Bool) → removal_failed x ≡ t → On plan N (if t then record c { phase = Report; events = c.events ++ event q (answer.Remove x) ∷ [] }
+    here : (t : Bool) → removal_failed x ≡ t
+        → On plan N (if t then record c { phase = Report; events = c.events ++ event q (answer.Remove x) ∷ [] }
         else removing (record c { phase = Removals; events = c.events ++ event q (answer.Remove x) ∷ [] }) (drop 1 c.due)) 0
-    here true h = record { at = record { p = p; ps = ps; due = files; at = grown (Tells p ps) (end_more (removes p x) d (λ xs r. told r)) } }
+    here true h = record {
+      at = record { p = p; ps = ps; due = files; at = grown (Tells p ps) (end_more (removes p x) d (λ xs r. told r)) };
+    }
       where
         told : {xs : List RunEvent} → Tells p ps xs → Removed (p ∷ ps) (removes p x ∷ xs)
         told (tells r) = stays h r
-    here false h = removing_on (record c { phase = Removals; events = c.events ++ event q (answer.Remove x) ∷ [] }) (drop 1 c.due) (subst (λ l. EndAt plan N (c.events ++ event q (answer.Remove x) ∷ []) (Removed (drop 1 l))) (sym files)
+    here false h = removing_on (record c { phase = Removals; events = c.events ++ event q (answer.Remove x) ∷ [] })
+        (drop 1 c.due) (subst (λ l. EndAt plan N (c.events ++ event q (answer.Remove x) ∷ []) (Removed (drop 1 l))) (sym files)
         (grown (Removed ps) (end_more (removes p x) d (λ xs r. removed h r))))
 removal_on c x q p ps files d is e = absurd cc
 
@@ -186,7 +200,8 @@ removal_on c x q p ps files d is e = absurd cc
 told_on : {plan : Plan} {N : ℕ} {E : List RunEvent} (x : Answer) (q : Step) (p : Place) (ps : List Place) → EndAt plan N E (Tells p ps)
     → step.Report (note.NotRemoved p) ≡ q → is_kind q x ≡ true → EndAt plan N (E ++ event q x ∷ []) (Removed ps)
 told_on {plan = plan} {N = N} {E = E} (answer.Reported u) q p ps d is e =
-    subst (λ s. EndAt plan N (E ++ event s (answer.Reported u) ∷ []) (Removed ps)) is (end_more (reports (note.NotRemoved p) u) d (λ xs r. tells r))
+    subst (λ s. EndAt plan N (E ++ event s (answer.Reported u) ∷ []) (Removed ps)) is
+    (end_more (reports (note.NotRemoved p) u) d (λ xs r. tells r))
 told_on x q p ps d is e = absurd cc
 
 pub stepped_on : {plan : Plan} {N i : ℕ} {q : Step} (c : Course) (x : Answer) → 1 ≤ N → On plan N c i → asked_by plan c ≡ Some q
@@ -195,8 +210,10 @@ stepped_on {plan = plan} {N = N} {i = i} {q = q} c x one h is e = by c.phase ref
   where
     by : (p : Phase) → c.phase ≡ p → OnAt plan N p c i → asked_by plan (record c { phase = p }) ≡ Some q
         → On plan N (stepped plan (record c { phase = p }) q x) 0
-    by Sources ph s is = sourced_on (record c { phase = Sources; events = c.events ++ event q x ∷ []; fleet = taken plan.jobs c.fleet x }) refl s.1 (sources_take x one s.0 is e)
-    by Link ph l is = linking_on (record c { phase = Link; events = c.events ++ event q x ∷ []; link = took (link_job plan) c.link x }) (subst (λ job. LinkOn plan N (c.events ++ event q x ∷ []) l.A (took job c.link x)) l.runs
+    by Sources ph s is = sourced_on (record c { phase = Sources; events = c.events ++ event q x ∷ []; fleet = taken plan.jobs c.fleet x })
+        refl s.1 (sources_take x one s.0 is e)
+    by Link ph l is = linking_on (record c { phase = Link; events = c.events ++ event q x ∷ []; link = took (link_job plan) c.link x })
+        (subst (λ job. LinkOn plan N (c.events ++ event q x ∷ []) l.A (took job c.link x)) l.runs
         (link_takes x l.on (subst (λ job. asked (length plan.jobs) job c.link ≡ Some q) (sym l.runs) is) e)) l.runs
     by Removals ph d is = on_removal c.due refl d.1
       where
@@ -204,7 +221,8 @@ stepped_on {plan = plan} {N = N} {i = i} {q = q} c x one h is e = by c.phase ref
         on_removal [] files some = clash (ap none files) some
         on_removal (p ∷ ps) files some = removal_on c x q p ps files (subst (λ l. EndAt plan N c.events (Removed l)) files d.0)
             (some_is (sym (ap removes_first files) ∙ is)) e
-    by Report ph t is = removing_on (record c { phase = Report; events = c.events ++ event q x ∷ [] }) (drop 1 c.due) (subst (λ l. EndAt plan N (c.events ++ event q x ∷ []) (Removed (drop 1 l))) (sym t.due)
+    by Report ph t is = removing_on (record c { phase = Report; events = c.events ++ event q x ∷ [] })
+        (drop 1 c.due) (subst (λ l. EndAt plan N (c.events ++ event q x ∷ []) (Removed (drop 1 l))) (sym t.due)
         (told_on x q t.p t.ps t.at (some_is (sym (ap reports_first t.due) ∙ is)) e))
     by Done ph d is = absurd cc
 
@@ -238,41 +256,52 @@ answers (step.Wait p id) = refl
 answers (step.Remove p) = refl
 answers (step.Report n) = refl
 
--- an answer is one event more
-linking_same : (plan : Plan) (d : Course) → (linking plan d).events ≡ d.events
+-- with the events and the sources of another
+abbrev pub Alike : Course → Course → Type 0
+Alike c d = (c.events ≡ d.events) × (c.fleet ≡ d.fleet)
+
+linking_same : (plan : Plan) (d : Course) → Alike (linking plan d) d
 linking_same plan d = by (more_left d.link)
   where
-    by : (t : Bool) → (if t then record d { phase = Link } else after_link plan d).events ≡ d.events
-    by true = refl
-    by false = refl
+    by : (t : Bool) → Alike (if t then record d { phase = Link } else after_link plan d) d
+    by true = (refl, refl)
+    by false = (refl, refl)
 
-pub sourced_same : (plan : Plan) (d : Course) → (sourced plan d).events ≡ d.events
+pub sourced_same : (plan : Plan) (d : Course) → Alike (sourced plan d) d
 sourced_same plan d = by (nat_eq d.fleet.unended 0)
   where
-    after : (t : Bool) → (if t then linking plan d else after_link plan d).events ≡ d.events
+    after : (t : Bool) → Alike (if t then linking plan d else after_link plan d) d
     after true = linking_same plan d
-    after false = refl
+    after false = (refl, refl)
 
-    by : (t : Bool) → (if t then after_sources plan d else d).events ≡ d.events
+    by : (t : Bool) → Alike (if t then after_sources plan d else d) d
     by true = after (nat_eq (greatest_code d.events) 0)
-    by false = refl
+    by false = (refl, refl)
 
-pub grows : (plan : Plan) (c : Course) (q : Step) (x : Answer) → (stepped plan c q x).events ≡ c.events ++ event q x ∷ []
+-- an answer is one event more, in the same window
+pub grows : (plan : Plan) (c : Course) (q : Step) (x : Answer)
+    → ((stepped plan c q x).events ≡ c.events ++ event q x ∷ []) × ((stepped plan c q x).fleet.window ≡ c.fleet.window)
 grows plan c q x = by c.phase
   where
     new : Course
     new = record c { events = c.events ++ event q x ∷ [] }
 
-    by : (p : Phase) → (stepped_at plan p new x).events ≡ c.events ++ event q x ∷ []
-    by Sources = sourced_same plan (record new { fleet = taken plan.jobs c.fleet x })
-    by Link = linking_same plan (record new { link = took (link_job plan) c.link x })
+    Grown : Course → Type 0
+    Grown d = (d.events ≡ c.events ++ event q x ∷ []) × (d.fleet.window ≡ c.fleet.window)
+
+    by : (p : Phase) → Grown (stepped_at plan p new x)
+    by Sources =
+        let same = sourced_same plan (record new { fleet = taken plan.jobs c.fleet x }) in
+        (same.0, ap (λ f. f.window) same.1 ∙ (taken_same plan.jobs c.fleet x).0)
+    by Link =
+        let same = linking_same plan (record new { link = took (link_job plan) c.link x }) in (same.0, ap (λ f. f.window) same.1)
     by Removals = gone (stays_there x)
       where
-        gone : (t : Bool) → (if t then record new { phase = Report } else removing new (drop 1 c.due)).events ≡ c.events ++ event q x ∷ []
-        gone true = refl
-        gone false = refl
-    by Report = refl
-    by Done = refl
+        gone : (t : Bool) → Grown (if t then record new { phase = Report } else removing new (drop 1 c.due))
+        gone true = (refl, refl)
+        gone false = (refl, refl)
+    by Report = (refl, refl)
+    by Done = (refl, refl)
 
 -- with one event more, of the next step, they are such a beginning too
 pub record Further (plan : Plan) (N : ℕ) (E : List RunEvent) (q : Step) : Type 0 where
@@ -280,7 +309,8 @@ pub record Further (plan : Plan) (N : ℕ) (E : List RunEvent) (q : Step) : Type
   pub rest : List RunEvent
   pub whole : Windowed plan N (E ++ event q x ∷ rest)
 
-pub goes_further : {plan : Plan} {N i : ℕ} {q : Step} (c : Course) → 1 ≤ N → On plan N c i → asked_by plan c ≡ Some q → Further plan N c.events q
+pub goes_further : {plan : Plan} {N i : ℕ} {q : Step} (c : Course) → 1 ≤ N → On plan N c i → asked_by plan c ≡ Some q
+    → Further plan N c.events q
 goes_further {plan = plan} {N = N} {q = q} c one h is =
     by (on_begins (stepped plan c q (answer_for q)) one (stepped_on c (answer_for q) one h is (answers q)))
   where
@@ -288,12 +318,13 @@ goes_further {plan = plan} {N = N} {q = q} c one h is =
     by b = record {
       x = answer_for q;
       rest = b.rest;
-      whole = subst (λ l. Windowed plan N l) (ap (λ l. l ++ b.rest) (grows plan c q (answer_for q))
+      whole = subst (λ l. Windowed plan N l) (ap (λ l. l ++ b.rest) (grows plan c q (answer_for q)).0
           ∙ append_assoc c.events (event q (answer_for q) ∷ []) b.rest) b.whole;
     }
 
 -- so the run is not whole while there is a next step
-pub unfinished : {plan : Plan} {N i : ℕ} {q : Step} (c : Course) → 1 ≤ N → On plan N c i → asked_by plan c ≡ Some q → Windowed plan N c.events → ⊥
+pub unfinished : {plan : Plan} {N i : ℕ} {q : Step} (c : Course) → 1 ≤ N → On plan N c i → asked_by plan c ≡ Some q
+    → Windowed plan N c.events → ⊥
 unfinished {plan = plan} {N = N} {q = q} c one h is w = by (goes_further c one h is)
   where
     by : Further plan N c.events q → ⊥
@@ -346,7 +377,8 @@ done_whole {plan = plan} {N = N} {i = i} c h e = by c.phase h.at e
   where
     by : (p : Phase) → OnAt plan N p c i → asked_by plan (record c { phase = p }) ≡ None → Windowed plan N c.events
     by Sources s e = absurd (none_at s.0.at (s.0.keep.sound c.fleet.current) s.0.left e)
-    by Link l e = absurd (turn_none l.on.at l.on.link.sound l.left (subst (λ job. asked (length plan.jobs) job c.link ≡ None) (sym l.runs) e))
+    by Link l e = absurd (turn_none l.on.at l.on.link.sound l.left
+        (subst (λ job. asked (length plan.jobs) job c.link ≡ None) (sym l.runs) e))
     by Removals d e = none_left c.due d.1 e
       where
         none_left : (ps : List Place) → none ps ≡ false → removes_first ps ≡ None → Windowed plan N c.events

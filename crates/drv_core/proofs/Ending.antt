@@ -10,7 +10,8 @@ use Rattle.drv_words.specs.declared.steps.Note.TheVariants as note
 use Rattle.drv_words.specs.declared.steps.Place.{Place}
 use Rattle.drv_words.specs.declared.steps.RunEvent.{RunEvent}
 use Rattle.drv_words.specs.declared.steps.Step.{Step}
-use Rattle.std.proofs.Common.{◌≡◌, ◌∙◌, List, [], ◌∷◌, ◌++◌, Some, ap, append-nil, append_assoc, arith, length, refl, subst, suc, sym, true, ℕ}
+use Rattle.std.proofs.Common.{◌≡◌, ◌∙◌, List, [], ◌∷◌, ◌++◌, Some, ap, append-nil, append_assoc, arith, length, refl, subst, suc, sym, true}
+use Rattle.std.proofs.Common.{ℕ}
 use Rattle.std.proofs.lemmas.Grind.{flat_map-append}
 
 -- After the sources the link goes on alone, and then files are removed, until the run is whole.
@@ -85,9 +86,11 @@ link_more {plan = plan} {A = A} {b = b} l g = record {
   ended = l.ended;
   sound = λ e. clash e (begun_after g);
   blocks = l.blocks ++ b ∷ [];
-  path = λ cs rest. subst (λ x. Story (length plan.jobs) (link_after plan A) (begin (link_after plan A)) x) (sym (append_assoc l.blocks (b ∷ []) cs))
+  path = λ cs rest. subst (λ x. Story (length plan.jobs) (link_after plan A) (begin (link_after plan A)) x)
+      (sym (append_assoc l.blocks (b ∷ []) cs))
       (l.path (b ∷ cs) (next g rest));
-  events = ap (λ x. x ++ b) l.events ∙ append_assoc A (events_of l.blocks) b ∙ ap (λ x. A ++ x) (sym (flat_map-append (λ x. x) l.blocks (b ∷ [])
+  events = ap (λ x. x ++ b) l.events ∙ append_assoc A (events_of l.blocks) b
+      ∙ ap (λ x. A ++ x) (sym (flat_map-append (λ x. x) l.blocks (b ∷ [])
       ∙ ap (λ x. events_of l.blocks ++ x) (append-nil b)));
 }
 
@@ -102,7 +105,15 @@ link_takes {plan = plan} {N = N} {E = E} {A = A} {t = t} {q = q} x l is e =
   where
     by : (u : Turn) → Took (length plan.jobs) (link_after plan A) l.s (l.o ++ event q x ∷ []) u
         → LinkOn plan N (l.before ++ (l.o ++ event q x ∷ [])) A u
-    by (In p) h = record { before = l.before; s = l.s; o = l.o ++ event q x ∷ []; link = l.link; at = at_open l.o (event q x) h; events = refl }
+    by (In p) h = record {
+      before = l.before;
+      s = l.s;
+      o = l.o ++ event q x ∷ [];
+      link = l.link;
+      at =
+          at_open l.o (event q x) h;
+      events = refl;
+    }
     by (Out m) g = link_closed (link_more l.link g)
 
 -- the removals begin
@@ -155,7 +166,8 @@ at_begins {plan = plan} {N = N} {E = E} {A = A} {s = s} l =
     let c : Cleared (due plan (E ++ events_of t.blocks)) = clears (due plan (E ++ events_of t.blocks)) in
     record {
       rest = events_of t.blocks ++ c.events;
-      whole = subst (λ x. Windowed plan N x) (append_assoc E (events_of t.blocks) c.events) (whole_from c.events (link_all l t.story) c.removals);
+      whole = subst (λ x. Windowed plan N x) (append_assoc E (events_of t.blocks) c.events)
+          (whole_from c.events (link_all l t.story) c.removals);
     }
 
 pub link_begins : {plan : Plan} {N : ℕ} {E A : List RunEvent} {t : Turn} → LinkOn plan N E A t → IsBeginning plan N E
@@ -180,5 +192,7 @@ end_begins {plan = plan} {N = N} xs d h = record {
 pub removals_begin : {plan : Plan} {N : ℕ} {E : List RunEvent} {ps : List Place} → EndAt plan N E (Removals ps) → IsBeginning plan N E
 removals_begin {ps = ps} d = let c : Cleared ps = clears ps in end_begins c.events d c.removals
 
-pub report_begins : {plan : Plan} {N : ℕ} {E : List RunEvent} {p : Place} {ps : List Place} → EndAt plan N E (Tells p ps) → IsBeginning plan N E
-report_begins {p = p} {ps = ps} d = let c : Cleared ps = clears ps in end_begins (reports (note.NotRemoved p) true ∷ c.events) d (tells c.removals)
+pub report_begins : {plan : Plan} {N : ℕ} {E : List RunEvent} {p : Place} {ps : List Place} → EndAt plan N E (Tells p ps)
+    → IsBeginning plan N E
+report_begins {p = p} {ps = ps} d = let c : Cleared ps = clears ps in end_begins (reports (note.NotRemoved p) true ∷ c.events) d
+    (tells c.removals)

@@ -1,13 +1,17 @@
 use Rattle.drv_words.specs.declared.steps.Place.{Place}
-use Rattle.drv_core.proofs.Counting.{First, count_fewer, count_none, count_same, count_up, find, is_less, is_not_less, same, summed, summed_less}
+use Rattle.drv_core.proofs.Counting.{First, count_fewer, count_none, count_same, count_up, find, is_less, is_not_less, same, summed}
+use Rattle.drv_core.proofs.Counting.{summed_down}
 use Rattle.drv_core.proofs.OneWay.{no_more as none_after}
 use Rattle.drv_core.proofs.Serial.{Ran, begin_beyond, begin_idle, put_here, put_other, ran_more}
 use Rattle.drv_core.specs.Events.{Block, events_of}
-use Rattle.drv_core.specs.Story.{Claims, Fresh, Goes, Kid, Left, Over, Removes, Starts, Story, Waits, after_starts, begin, begin_with, begins as begun}
-use Rattle.drv_core.specs.Story.{claimed, exited, lost, next, over, refused_first, removed, signalled, started, stays, to_claims, to_groups, to_removals}
+use Rattle.drv_core.specs.Story.{Claims, Fresh, Goes, Kid, Left, Over, Removes, Starts, Story, Waits, after_starts, begin, begin_with}
+use Rattle.drv_core.specs.Story.{begins as begun}
+use Rattle.drv_core.specs.Story.{claimed, exited, lost, next, over, refused_first, removed, signalled, started, stays, to_claims, to_groups}
+use Rattle.drv_core.specs.Story.{to_removals}
 use Rattle.drv_core.specs.Story.{to_waits, unclaimed}
 use Rattle.drv_core.specs.Windowed.{IsBeginning, Leads, MayCome, Removals, SourceBlock, all_removed, begins, blocks_of, count, due, goes_on}
-use Rattle.drv_core.specs.Windowed.{is_flying, is_fresh, is_left, is_under_way, link_after, no_more, put, removed as removes_file, source_at}
+use Rattle.drv_core.specs.Windowed.{is_flying, is_fresh, is_left, is_under_way, link_after, no_more, put, removed as removes_file}
+use Rattle.drv_core.specs.Windowed.{source_at}
 use Rattle.drv_words.specs.declared.answers.ClaimAnswer.TheVariants as claim
 use Rattle.drv_words.specs.declared.answers.NotStarted.TheVariants.{Other}
 use Rattle.drv_words.specs.declared.answers.RemoveAnswer.TheVariants as remove
@@ -74,9 +78,11 @@ fails k job (Claims i ts) fresh l = fails_by (taken k job i ts).goes (omega arit
 fails k job (Starts zero m gs) fresh l = fails_by (no_start k job m gs).goes (omega arith)
 fails k job (Starts (suc g) m gs) fresh l = fails_by (started (refused_first {why = Other} {told = true}))
     (let is = still_removals job 0 job.on_failure in omega (arith, is))
-fails k job (Waits g fault kid [] gs) fresh l = fails_by (lost {told = true}) (let is = still_removals job 0 job.on_failure in omega (arith, is))
+fails k job (Waits g fault kid [] gs) fresh l = fails_by (lost {told = true})
+    (let is = still_removals job 0 job.on_failure in omega (arith, is))
 fails k job (Waits g fault kid (x ∷ kids) gs) fresh l = fails_by (lost {told = true}) (omega arith)
-fails k job (Removes i fs) fresh l = fails_by (removed {x = remove.Missing} refl) (let is = still_removals job (i + 1) fs in omega (arith, is))
+fails k job (Removes i fs) fresh l = fails_by (removed {x = remove.Missing} refl)
+    (let is = still_removals job (i + 1) fs in omega (arith, is))
 fails k job Over fresh l = absurd cc
 
 -- no block leads back to the beginning
@@ -93,12 +99,14 @@ pub begun_claims : (job : Job) (i : ℕ) (ts : List Temp) → is_fresh (to_claim
 begun_claims job i [] = begun_groups 0 job.groups
 begun_claims job i (t ∷ ts) = refl
 
-begun_waits : (job : Job) (g : ℕ) (fault : Bool) (kids : List Kid) (gs : List (List Command)) → is_fresh (to_waits job g fault kids gs) ≡ false
+begun_waits : (job : Job) (g : ℕ) (fault : Bool) (kids : List Kid) (gs : List (List Command))
+    → is_fresh (to_waits job g fault kids gs) ≡ false
 begun_waits job g fault (kid ∷ kids) gs = refl
 begun_waits job g true [] gs = begun_removals 0 job.on_failure
 begun_waits job g false [] gs = begun_groups (g + 1) gs
 
-begun_starts : (job : Job) (g : ℕ) (fault : Bool) (kids : List Kid) (gs : List (List Command)) → is_fresh (after_starts job g fault kids gs) ≡ false
+begun_starts : (job : Job) (g : ℕ) (fault : Bool) (kids : List Kid) (gs : List (List Command))
+    → is_fresh (after_starts job g fault kids gs) ≡ false
 begun_starts job zero fault [] gs = refl
 begun_starts job (suc g) fault [] gs = begun_waits job (suc g) fault [] gs
 begun_starts job g fault (kid ∷ kids) gs = refl
@@ -131,10 +139,10 @@ begun_left : (s : Left) → is_fresh s ≡ false → is_left s ≡ is_under_way 
 begun_left Fresh e = absurd cc
 begun_left s e = refl
 
-left_begun : (s : Left) → is_left s ≡ true → is_fresh s ≡ false → is_under_way s ≡ true
+pub left_begun : (s : Left) → is_left s ≡ true → is_fresh s ≡ false → is_under_way s ≡ true
 left_begun s l e = sym (begun_left s e) ∙ l
 
-ended : (s : Left) → is_left s ≡ false → s ≡ Over
+pub ended : (s : Left) → is_left s ≡ false → s ≡ Over
 ended Over e = refl
 ended s e = absurd cc
 
@@ -173,7 +181,8 @@ pub record Next (n N : ℕ) (st : ℕ → Left) : Type 0 where
   pub some : is_left (st k) ≡ true
   pub may : MayCome n N st k
 
-pub progress : (n N : ℕ) (st : ℕ → Left) → 1 ≤ N → count n (λ j. is_under_way (st j)) ≤ N → Next n N st ⊎ ((j : ℕ) → j < n → is_left (st j) ≡ false)
+pub progress : (n N : ℕ) (st : ℕ → Left) → 1 ≤ N → count n (λ j. is_under_way (st j)) ≤ N
+    → Next n N st ⊎ ((j : ℕ) → j < n → is_left (st j) ≡ false)
 progress n N st one most = free (find n (λ j. is_under_way (st j) && not (is_flying (st j))))
   where
     -- as many as possible have a child in flight where all under way have, and the window is full or all have begun
@@ -227,15 +236,18 @@ progress n N st one most = free (find n (λ j. is_under_way (st j) && not (is_fl
         all_fly = λ h. clash h (fresh_lands (st f.at) f.passes);
       };
     })
-    room nofree f false e = waiting nofree (inl (let least = is_not_less (count n (λ j. is_under_way (st j))) N e in omega (arith, least, most)))
+    room nofree f false e = waiting nofree
+        (inl (let least = is_not_less (count n (λ j. is_under_way (st j))) N e in omega (arith, least, most)))
         (find n (λ j. is_flying (st j)))
 
     new : ((j : ℕ) → j < n → (is_under_way (st j) && not (is_flying (st j))) ≡ false)
-        → First n (λ j. is_fresh (st j)) ⊎ ((j : ℕ) → j < n → is_fresh (st j) ≡ false) → Next n N st ⊎ ((j : ℕ) → j < n → is_left (st j) ≡ false)
+        → First n (λ j. is_fresh (st j)) ⊎ ((j : ℕ) → j < n → is_fresh (st j) ≡ false)
+        → Next n N st ⊎ ((j : ℕ) → j < n → is_left (st j) ≡ false)
     new nofree (inl f) = room nofree f (nat_lt (count n (λ j. is_under_way (st j))) N) refl
     new nofree (inr begun_all) = waiting nofree (inr begun_all) (find n (λ j. is_flying (st j)))
 
-    free : First n (λ j. is_under_way (st j) && not (is_flying (st j))) ⊎ ((j : ℕ) → j < n → (is_under_way (st j) && not (is_flying (st j))) ≡ false)
+    free : First n (λ j. is_under_way (st j) && not (is_flying (st j)))
+        ⊎ ((j : ℕ) → j < n → (is_under_way (st j) && not (is_flying (st j))) ≡ false)
         → Next n N st ⊎ ((j : ℕ) → j < n → is_left (st j) ≡ false)
     free (inl f) = inl (record {
       k = f.at;
@@ -255,6 +267,24 @@ pub record Keeps (n N : ℕ) (job : ℕ → Job) (st : ℕ → Left) : Type 0 wh
   pub sound : (j : ℕ) → is_fresh (st j) ≡ true → is_fresh (begin (job j)) ≡ true
   pub beyond : (j : ℕ) → n ≤ j → st j ≡ Over
 
+-- where none is left, all have ended
+pub all_over : {n N : ℕ} {job : ℕ → Job} {st : ℕ → Left} → Keeps n N job st → ((j : ℕ) → j < n → is_left (st j) ≡ false)
+    → (j : ℕ) → st j ≡ Over
+all_over {n = n} {st = st} keep none_left j = by (nat_lt j n) refl
+  where
+    by : (t : Bool) → nat_lt j n ≡ t → st j ≡ Over
+    by true e = ended (st j) (none_left j (is_less j n e))
+    by false e = keep.beyond j (is_not_less j n e)
+
+-- before the first block
+pub keeps_first : (plan : Plan) (N : ℕ) → Keeps (length plan.jobs) N (source_at plan) (begins plan)
+keeps_first plan N = record {
+  window = (let idle = count_none (length plan.jobs) (λ j. is_under_way (begins plan j)) (λ j lt. begin_idle (source_at plan j)) in omega
+      (arith, idle));
+  sound = λ j e. e;
+  beyond = λ j le. begin_beyond plan.jobs j le;
+}
+
 pub keeps_more : {n N k : ℕ} {job : ℕ → Job} {st : ℕ → Left} {b : Block} {m : Left} → Keeps n N job st → MayCome n N st k
     → Goes k (job k) (st k) b m → Keeps n N job (put st k m)
 keeps_more {n = n} {N = N} {k = k} {job = job} {st = st} {b = b} {m = m} keep may g = record {
@@ -265,7 +295,8 @@ keeps_more {n = n} {N = N} {k = k} {job = job} {st = st} {b = b} {m = m} keep ma
   where
     by : (t : Bool) → is_fresh (st k) ≡ t → count n (λ j. is_under_way (put st k m j)) ≤ N
     by true e =
-        let up = count_up n k (λ j. is_under_way (st j)) (λ j. is_under_way (put st k m j)) (λ j o. ap is_under_way (put_other st k m j o)) in
+        let up = count_up n k (λ j. is_under_way (st j)) (λ j. is_under_way (put st k m j))
+        (λ j o. ap is_under_way (put_other st k m j o)) in
         let room = may.in_window e in
         omega (arith, up, room)
     by false e =
@@ -280,7 +311,8 @@ keeps_more {n = n} {N = N} {k = k} {job = job} {st = st} {b = b} {m = m} keep ma
             left_of true h = refl
             left_of false h = absurd (none_after (subst (λ s. Goes k (job k) s b m) (ended (st k) h) g))
 
-        had : is_fresh (st k) ≡ false → (j : ℕ) (t : Bool) → nat_eq k j ≡ t → is_under_way (if t then m else st j) ≡ true → is_under_way (st j) ≡ true
+        had : is_fresh (st k) ≡ false → (j : ℕ) (t : Bool) → nat_eq k j ≡ t → is_under_way (if t then m else st j) ≡ true
+            → is_under_way (st j) ≡ true
         had f j true is h = subst (λ i. is_under_way (st i) ≡ true) (same k j is) (left_begun (st k) some f)
         had f j false is h = h
 
@@ -289,7 +321,8 @@ keeps_more {n = n} {N = N} {k = k} {job = job} {st = st} {b = b} {m = m} keep ma
     sounds j false is e = keep.sound j e
 
 -- blocks that are led on keep it
-leads_keep : {n N : ℕ} {job : ℕ → Job} {st x : ℕ → Left} {bs : List SourceBlock} → Leads n N job st bs x → Keeps n N job st → Keeps n N job x
+leads_keep : {n N : ℕ} {job : ℕ → Job} {st x : ℕ → Left} {bs : List SourceBlock} → Leads n N job st bs x
+    → Keeps n N job st → Keeps n N job x
 leads_keep no_more keep = keep
 leads_keep (goes_on may g l) keep = leads_keep l (keeps_more keep may g)
 
@@ -305,28 +338,30 @@ pub record Led (n N : ℕ) (job : ℕ → Job) (st : ℕ → Left) : Type 0 wher
   pub ran : Ran n N job st blocks
 
 -- the sources are led to their ends, by induction on how far they are from these
-finish_by : (fuel : ℕ) {n N : ℕ} {job : ℕ → Job} (st : ℕ → Left) → 1 ≤ N → Keeps n N job st → summed n (λ j. still (job j) (st j)) < fuel → Led n N job st
+finish_by : (fuel : ℕ) {n N : ℕ} {job : ℕ → Job} (st : ℕ → Left) → 1 ≤ N → Keeps n N job st → summed n (λ j. still (job j) (st j)) < fuel
+    → Led n N job st
 finish_by zero st one keep far = absurd (omega (arith, far))
 finish_by (suc fuel) {n = n} {N = N} {job = job} st one keep far = by (progress n N st one keep.window)
     (λ k m less_far keep_more. finish_by fuel (put st k m) one keep_more (omega (arith, far, less_far)))
   where
     nearer : (k : ℕ) (m : Left) → k < n → still (job k) m < still (job k) (st k)
         → summed n (λ j. still (job j) (put st k m j)) < summed n (λ j. still (job j) (st j))
-    nearer k m lt less = summed_less n k (λ j. still (job j) (st j)) (λ j. still (job j) (put st k m j)) lt
-        (subst (λ s. still (job k) s < still (job k) (st k)) (sym (put_here st k m)) less) (λ j e. ap (λ s. still (job j) s) (put_other st k m j e))
-
-    all_ended : ((j : ℕ) → j < n → is_left (st j) ≡ false) → (j : ℕ) (t : Bool) → nat_lt j n ≡ t → st j ≡ Over
-    all_ended none_left j true e = ended (st j) (none_left j (is_less j n e))
-    all_ended none_left j false e = keep.beyond j (is_not_less j n e)
+    nearer k m lt less =
+        let falls : 1 + still (job k) (put st k m k) ≤ still (job k) (st k) = subst (λ s. 1 + still (job k) s ≤ still (job k) (st k))
+        (sym (put_here st k m)) (omega (arith, less)) in
+        let down = summed_down n k 1 (λ j. still (job j) (st j)) (λ j. still (job j) (put st k m j)) lt falls
+        (λ j e. ap (still (job j)) (put_other st k m j e)) in
+        omega (arith, down)
 
     by : Next n N st ⊎ ((j : ℕ) → j < n → is_left (st j) ≡ false)
-        → ((k : ℕ) (m : Left) → summed n (λ j. still (job j) (put st k m j)) < summed n (λ j. still (job j) (st j)) → Keeps n N job (put st k m) → Led n N job (put st k m))
+        → ((k : ℕ) (m : Left) → summed n (λ j. still (job j) (put st k m j)) < summed n (λ j. still (job j) (st j))
+        → Keeps n N job (put st k m) → Led n N job (put st k m))
         → Led n N job st
     by (inl x) go =
         let f : Fails x.k (job x.k) (st x.k) = fails x.k (job x.k) (st x.k) (keep.sound x.k) x.some in
         let led : Led n N job (put st x.k f.m) = go x.k f.m (nearer x.k f.m x.may.is_source f.nearer) (keeps_more keep x.may f.goes) in
         record { blocks = record { source = x.k; block = f.b } ∷ led.blocks; ran = ran_more x.may f.goes led.ran }
-    by (inr none_left) go = record { blocks = []; ran = record { ends = st; leads = no_more; ended = λ j. all_ended none_left j (nat_lt j n) refl } }
+    by (inr none_left) go = record { blocks = []; ran = record { ends = st; leads = no_more; ended = all_over keep none_left } }
 
 -- one story is led to its end
 pub record Told (k : ℕ) (job : Job) (s : Left) : Type 0 where
@@ -335,10 +370,15 @@ pub record Told (k : ℕ) (job : Job) (s : Left) : Type 0 where
 
 pub tells : (fuel k : ℕ) (job : Job) (s : Left) → (is_fresh s ≡ true → is_fresh (begin job) ≡ true) → still job s < fuel → Told k job s
 tells zero k job s fresh lt = absurd (omega (arith, lt))
-tells (suc fuel) k job s fresh lt = by (is_left s) refl (λ f. tells fuel k job f.m (λ e. clash e (begun_after f.goes)) (let less = f.nearer in omega (arith, lt, less)))
+tells (suc fuel) k job s fresh lt = by (is_left s) refl (λ f. tells fuel k job f.m (λ e. clash e (begun_after f.goes))
+    (let less = f.nearer in omega (arith, lt, less)))
   where
     by : (t : Bool) → is_left s ≡ t → ((f : Fails k job s) → Told k job f.m) → Told k job s
-    by true e go = let f : Fails k job s = fails k job s fresh e in record { blocks = f.b ∷ (go f).blocks; story = next f.goes (go f).story }
+    by true e go = let f : Fails k job s = fails k job s fresh e in record {
+      blocks = f.b ∷ (go f).blocks;
+      story =
+          next f.goes (go f).story;
+    }
     by false e go = record { blocks = []; story = subst (λ x. Story k job x []) (sym (ended s e)) over }
 
 -- files are removed
@@ -380,16 +420,9 @@ each_beginning_ends plan N blocks st one leads = record {
   };
 }
   where
-    at_first : Keeps (length plan.jobs) N (source_at plan) (begins plan)
-    at_first = record {
-      window = (let none_under_way = count_none (length plan.jobs) (λ j. is_under_way (begins plan j)) (λ j lt. begin_idle (source_at plan j)) in
-          omega (arith, none_under_way));
-      sound = λ j e. e;
-      beyond = λ j le. begin_beyond plan.jobs j le;
-    }
-
     led : Led (length plan.jobs) N (source_at plan) st
-    led = finish_by (suc (summed (length plan.jobs) (λ j. still (source_at plan j) (st j)))) st one (leads_keep leads at_first) (omega arith)
+    led = finish_by (suc (summed (length plan.jobs) (λ j. still (source_at plan j) (st j)))) st one (leads_keep leads (keeps_first plan N))
+        (omega arith)
 
     all : Ran (length plan.jobs) N (source_at plan) (begins plan) (blocks ++ led.blocks)
     all = leads_append leads led.ran

@@ -1,5 +1,6 @@
 use Rattle.drv_core.proofs.Counting.{is_less, is_not_less, same}
 use Rattle.drv_core.proofs.Serial.{begin_beyond}
+use Rattle.drv_core.proofs.Tests.{some_is}
 use Rattle.drv_core.specs.Code.Fleet.{Fleet, able, going, may_begin, settled, turn_put, turned}
 use Rattle.drv_core.specs.Code.FleetView.{AllInRoom, turn_in}
 use Rattle.drv_core.specs.Code.Machine.{Out, took}
@@ -11,7 +12,8 @@ use Rattle.drv_core.specs.declared.source.SourceState.{SourceState}
 use Rattle.drv_words.specs.Places.{no_job}
 use Rattle.drv_words.specs.declared.answers.Answer.{Answer}
 use Rattle.drv_words.specs.declared.plan.Job.{Job}
-use Rattle.std.proofs.Common.{◌≡◌, ◌<◌, ◌≤◌, ◌+◌, ◌++◌, ◌∙◌, Bool, false, true, List, [], ◌∷◌, None, Some, ap, arith, get_or, if◌then◌else◌, length, nat_eq, nat_lt, refl, subst}
+use Rattle.std.proofs.Common.{◌≡◌, ◌<◌, ◌≤◌, ◌+◌, ◌++◌, ◌∙◌, Bool, false, true, List, [], ◌∷◌, None, Some, ap, arith, get_or, if◌then◌else◌}
+use Rattle.std.proofs.Common.{length, nat_eq, nat_lt, refl, subst}
 use Rattle.std.proofs.Common.{suc, sym, zero, ℕ}
 use Rattle.std.proofs.Math.Path.{fun_ext}
 use Rattle.std.proofs.lemmas.Bool.Decides.{nat_tests}
@@ -98,18 +100,17 @@ get_last : {X : Type 0} (xs : List X) (y : X) → slice_get (xs ++ y ∷ []) (le
 get_last [] y = refl
 get_last (x ∷ xs) y = get_last xs y
 
-some_is : {x y : SourceState} → Some x ≡ Some y → x ≡ y
-some_is e = cc
-
 pub made_more : (jobs : List Job) (made new : List SourceState) (n : ℕ) (last : SourceState) (job : Job) → new ≡ made ++ last ∷ []
     → job ≡ get_or jobs n no_job → n < length jobs → turn_of job last ≡ Out (begin job) → InRoom job last → Filled job → Made jobs made n
     → Made jobs new (n + 1)
 made_more jobs made new n last job grown is lt turn room filled m = subst (λ l. Made jobs l (n + 1)) (sym grown) (record {
-  many = (let len = m.many in let all : length (made ++ last ∷ []) ≡ length made + 1 = length-append made (last ∷ []) in omega (arith, len, all));
+  many = (let len = m.many in let all : length (made ++ last ∷ []) ≡ length made + 1 =
+      length-append made (last ∷ []) in omega (arith, len, all));
   most = omega (arith, lt);
   fresh = λ k less. by (λ k. turn_in (get_or jobs k no_job) (slice_get (made ++ last ∷ []) k) ≡ Out (begin (get_or jobs k no_job)))
       (subst (λ j. turn_in j (slice_get (made ++ last ∷ []) n) ≡ Out (begin j)) is (ap (turn_in job) at ∙ turn))
-      (λ k less. ap (turn_in (get_or jobs k no_job)) (get_before made last k (let len = m.many in omega (arith, less, len))) ∙ m.fresh k less) k less;
+      (λ k less. ap (turn_in (get_or jobs k no_job)) (get_before made last k (let len = m.many in omega (arith, less, len)))
+      ∙ m.fresh k less) k less;
   room = λ k s found. kept k s (nat_lt k n) refl found;
   filled = λ k less. by (λ k. Filled (get_or jobs k no_job)) (subst Filled is filled) m.filled k less;
 })
@@ -124,7 +125,8 @@ made_more jobs made new n last job grown is lt turn room filled m = subst (λ l.
         which true e = subst P (same n k e) here
         which false e = before k (grind (arith, nat_tests))
 
-    kept : (k : ℕ) (s : SourceState) (t : Bool) → nat_lt k n ≡ t → slice_get (made ++ last ∷ []) k ≡ Some s → InRoom (get_or jobs k no_job) s
+    kept : (k : ℕ) (s : SourceState) (t : Bool) → nat_lt k n ≡ t → slice_get (made ++ last ∷ []) k ≡ Some s
+        → InRoom (get_or jobs k no_job) s
     kept k s true e found =
         let less : k < length made = (let a = is_less k n e in let len = m.many in omega (arith, a, len)) in
         m.room k s (sym (get_before made last k less) ∙ found)
@@ -134,7 +136,8 @@ made_more jobs made new n last job grown is lt turn room filled m = subst (λ l.
         here true is_n =
             let found_n : slice_get (made ++ last ∷ []) n ≡ Some s = ap (λ i. slice_get (made ++ last ∷ []) i) (same n k is_n) ∙ found in
             let one : last ≡ s = some_is (sym at ∙ found_n) in
-            subst (λ i. InRoom (get_or jobs i no_job) s) (same n k is_n) (subst (λ x. InRoom (get_or jobs n no_job) x) one (subst (λ j. InRoom j last) is room))
+            subst (λ i. InRoom (get_or jobs i no_job) s) (same n k is_n)
+            (subst (λ x. InRoom (get_or jobs n no_job) x) one (subst (λ j. InRoom j last) is room))
         here false other =
             let past : length (made ++ last ∷ []) ≤ k = (let len = m.many in let ge = is_not_less k n e in
             let all : length (made ++ last ∷ []) ≡ length made + 1 = length-append made (last ∷ []) in grind (arith, nat_tests)) in
@@ -152,7 +155,8 @@ all_fresh jobs made n past m k = by (nat_lt k n) refl
         ap (turn_in (get_or jobs k no_job)) (slice_get_past made k (let len = m.many in omega (arith, ge, len)))
         ∙ ap Out (sym (begin_beyond jobs k (omega (arith, ge, past))))
 
-pub all_filled : (jobs : List Job) (made : List SourceState) (n : ℕ) → length jobs ≤ n → Made jobs made n → (k : ℕ) → Filled (get_or jobs k no_job)
+pub all_filled : (jobs : List Job) (made : List SourceState) (n : ℕ) → length jobs ≤ n → Made jobs made n
+    → (k : ℕ) → Filled (get_or jobs k no_job)
 all_filled jobs made n past m k = by (nat_lt k n) refl
   where
     by : (t : Bool) → nat_lt k n ≡ t → Filled (get_or jobs k no_job)
@@ -160,10 +164,12 @@ all_filled jobs made n past m k = by (nat_lt k n) refl
     by false e = λ g lt.
         let ge : n ≤ k = is_not_less k n e in
         absurd (let none : get_or jobs k no_job ≡ no_job = get_or_past jobs k no_job (omega (arith, ge, past)) in
-        let zero_groups : length (get_or jobs k no_job).groups ≡ 0 = ap (λ (j : Job). length j.groups) none in omega (arith, lt, zero_groups))
+        let zero_groups : length (get_or jobs k no_job).groups ≡ 0 = ap (λ (j : Job). length j.groups) none in omega
+        (arith, lt, zero_groups))
 
 -- how many may go on
-pub able_length : (jobs : List Job) (f : Fleet) → length (able jobs f) ≡ (if may_begin jobs f then length (going f) + 1 else length (going f))
+pub able_length : (jobs : List Job) (f : Fleet) → length (able jobs f)
+    ≡ (if may_begin jobs f then length (going f) + 1 else length (going f))
 able_length jobs f = length-append (going f) (if may_begin jobs f then f.next ∷ [] else []) ∙ by (may_begin jobs f)
   where
     by : (t : Bool) → length (going f) + length (if t then f.next ∷ [] else []) ≡ (if t then length (going f) + 1 else length (going f))

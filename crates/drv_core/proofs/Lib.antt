@@ -5,7 +5,7 @@ mod Contracts
 mod Counting
 mod Courses
 mod Ending
-mod Examples
+mod Files
 mod Finish
 pub mod Fleets
 mod Going
@@ -30,5 +30,6 @@ mod Sources
 pub mod Stages
 mod StartedFirst
 pub mod Sweeping
+mod Tests
 mod Waiting
 mod Whole

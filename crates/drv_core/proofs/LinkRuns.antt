@@ -1,12 +1,16 @@
 use Rattle.drv_core.proofs.OneJob.{OnlyOf, own_link, quiet_last}
 use Rattle.drv_core.proofs.Outcomes.{any_append}
+use Rattle.drv_core.proofs.Tests.{and_false, at_end, or_false}
 use Rattle.drv_core.specs.Events.{Block, events_of, failed, none, source_of}
 use Rattle.drv_core.specs.Links.{LinksWhere, calls_of, is_work, link_run, some_failed}
-use Rattle.drv_core.specs.Story.{Claims, Goes, Kid, Left, Over, Starting, Starts, Story, begin, begin_with, begins, claimed, exited, last, lost}
-use Rattle.drv_core.specs.Story.{more, next, over, refused_first, refused_later, removed, signalled, started, stays, to_claims, to_groups, unclaimed}
-use Rattle.drv_core.specs.Windowed.{Leads, Removals, SourceBlock, Windowed, all_removed, blocks_of, goes_on, is_call_of, link_after, no_more}
+use Rattle.drv_core.specs.Story.{Claims, Goes, Kid, Left, Over, Starting, Starts, Story, begin, begin_with, begins, claimed, exited, last}
+use Rattle.drv_core.specs.Story.{lost}
+use Rattle.drv_core.specs.Story.{more, next, over, refused_first, refused_later, removed, signalled, started, stays, to_claims, to_groups}
+use Rattle.drv_core.specs.Story.{unclaimed}
+use Rattle.drv_core.specs.Windowed.{Leads, Removals, SourceBlock, Windowed, all_removed, blocks_of, goes_on, is_call_of, link_after}
+use Rattle.drv_core.specs.Windowed.{no_more}
 use Rattle.drv_core.specs.Windowed.{removed as file_removed, stays as file_stays}
-use Rattle.drv_words.specs.Places.{no_job}
+use Rattle.drv_words.specs.Places.{job_at, no_job}
 use Rattle.drv_words.specs.declared.plan.Command.{Command}
 use Rattle.drv_words.specs.declared.plan.Job.{Job}
 use Rattle.drv_words.specs.declared.plan.Plan.{Plan}
@@ -14,11 +18,13 @@ use Rattle.drv_words.specs.declared.plan.Temp.{Temp}
 use Rattle.drv_words.specs.declared.steps.RunEvent.{RunEvent}
 use Rattle.drv_words.specs.declared.steps.Step.{Step}
 use Rattle.drv_words.specs.declared.steps.Step.TheVariants as step
-use Rattle.std.proofs.Common.{◌≡◌, ◌⊎◌, ◌∙◌, ◌&&◌, ◌||◌, Bool, false, true, List, [], ◌∷◌, ◌++◌, None, Some, ap, arith, if◌then◌else◌}
+use Rattle.std.proofs.Common.{◌≡◌, ◌⊎◌, ◌∙◌, ◌&&◌, ◌||◌, Bool, false, true, List, [], ◌∷◌, ◌++◌, None, Option, Some, ap, arith, get_or}
+use Rattle.std.proofs.Common.{if◌then◌else◌}
 use Rattle.std.proofs.Common.{inl, inr, length, nat_eq, nat_lt, refl, subst, sym, unwrap_or, ℕ}
 use Rattle.std.proofs.lemmas.Bool.Decides.{nat_tests}
 use Rattle.std.proofs.lemmas.Cmp.{nat_eq_equiv}
 use Rattle.std.specs.List.{list_any}
+use Rattle.std.specs.Option.{option_to_list}
 use Rattle.std.specs.Prelude.{⊤}
 
 -- For linking_law: a failure in the events of the sources is one of a source, so it is known by all events.
@@ -52,17 +58,14 @@ block_own (stays e) = (inl refl, (inl refl, tt))
 abbrev fails_of : (ℕ → Bool) → RunEvent → Bool
 fails_of p e = is_work p e.step && failed e.answer
 
-no_failure : (t : Bool) → (t && false) ≡ false
-no_failure true = refl
-no_failure false = refl
-
-own_passes : (k : ℕ) (p : ℕ → Bool) (b : List RunEvent) → OwnFailures k b → p k ≡ true → list_any (fails_of p) b ≡ list_any (λ e. failed e.answer) b
+own_passes : (k : ℕ) (p : ℕ → Bool) (b : List RunEvent) → OwnFailures k b → p k ≡ true
+    → list_any (fails_of p) b ≡ list_any (λ e. failed e.answer) b
 own_passes k p [] o e = refl
 own_passes k p (x ∷ b) o e = by o.0 (own_passes k p b o.1 e)
   where
     by : OwnFailure k x → list_any (fails_of p) b ≡ list_any (λ e. failed e.answer) b
         → (fails_of p x || list_any (fails_of p) b) ≡ (failed x.answer || list_any (λ e. failed e.answer) b)
-    by (inl none_here) ih = rw (none_here, no_failure (is_work p x.step)) ih
+    by (inl none_here) ih = rw (none_here, and_false (is_work p x.step)) ih
     by (inr is) ih = rw (is p, e) (ap (λ t. failed x.answer || t) ih)
 
 own_misses : (k : ℕ) (p : ℕ → Bool) (b : List RunEvent) → OwnFailures k b → p k ≡ false → list_any (fails_of p) b ≡ false
@@ -70,7 +73,7 @@ own_misses k p [] o e = refl
 own_misses k p (x ∷ b) o e = by o.0 (own_misses k p b o.1 e)
   where
     by : OwnFailure k x → list_any (fails_of p) b ≡ false → (fails_of p x || list_any (fails_of p) b) ≡ false
-    by (inl none_here) ih = rw (none_here, no_failure (is_work p x.step)) ih
+    by (inl none_here) ih = rw (none_here, and_false (is_work p x.step)) ih
     by (inr is) ih = rw (is p, e) ih
 
 sources_pass : {n N : ℕ} {job : ℕ → Job} {st x : ℕ → Left} {bs : List SourceBlock} → Leads n N job st bs x
@@ -79,7 +82,8 @@ sources_pass no_more = refl
 sources_pass {n = n} (goes_on {k = k} {b = b} {bs = bs} may g l) = any_append (fails_of (λ j. nat_lt j n)) b (events_of (blocks_of bs))
     ∙ ap (λ t. t || list_any (fails_of (λ j. nat_lt j n)) (events_of (blocks_of bs)))
     (own_passes k (λ j. nat_lt j n) b (block_own g) (let lt = may.is_source in grind (arith, nat_tests)))
-    ∙ ap (λ t. list_any (λ e. failed e.answer) b || t) (sources_pass l) ∙ sym (any_append (λ e. failed e.answer) b (events_of (blocks_of bs)))
+    ∙ ap (λ t. list_any (λ e. failed e.answer) b || t) (sources_pass l)
+    ∙ sym (any_append (λ e. failed e.answer) b (events_of (blocks_of bs)))
 
 story_misses : {k : ℕ} {job : Job} {s : Left} {bs : List Block} → Story k job s bs → (p : ℕ → Bool) → p k ≡ false
     → list_any (fails_of p) (events_of bs) ≡ false
@@ -105,14 +109,25 @@ failed_same {plan = plan} w = ap (list_any f) w.events ∙ any_append f (events_
     f : RunEvent → Bool
     f = fails_of (λ j. nat_lt j (length plan.jobs))
 
-    or_false : (t : Bool) → (t || false) ≡ t
-    or_false true = refl
-    or_false false = refl
+-- the link's job, by whether a source failed
+abbrev link_if : Plan → Bool → Job
+link_if plan t = if t then no_job else unwrap_or plan.link no_job
 
 -- the link that is run is known by all events
 pub link_same : {plan : Plan} {N : ℕ} {E : List RunEvent} (w : Windowed plan N E)
     → link_after plan (events_of (blocks_of w.blocks)) ≡ link_run plan E
-link_same {plan = plan} w = ap (λ (t : Bool). if t then no_job else unwrap_or plan.link no_job) (sym (failed_same w))
+link_same {plan = plan} w = ap (link_if plan) (sym (failed_same w))
+
+-- the link is not run, or it is the job of its number
+pub link_or : (plan : Plan) (E : List RunEvent) → (link_after plan E ≡ no_job) ⊎ (link_after plan E ≡ job_at plan (length plan.jobs))
+link_or plan E = by (list_any (λ e. failed e.answer) E) plan.link refl
+  where
+    by : (f : Bool) (l : Option Job) → plan.link ≡ l
+        → (link_if plan f ≡ no_job) ⊎ (link_if plan f ≡ job_at plan (length plan.jobs))
+    by true l is = inl refl
+    by false None is = inl (ap (λ o. unwrap_or o no_job) is)
+    by false (Some job) is = inr (ap (λ o. unwrap_or o no_job) is
+        ∙ sym (ap (λ o. get_or (plan.jobs ++ option_to_list o) (length plan.jobs) no_job) is ∙ at_end plan.jobs job no_job))
 
 -- calls of a job are of its own steps
 calls_only : (k : ℕ) → OnlyOf (λ e. if is_call_of k e.step then e.step ∷ [] else []) k
@@ -174,10 +189,6 @@ idle_calls : (k : ℕ) (bs : List Block) → Story k no_job Over bs → calls_of
 idle_calls k bs over = refl
 idle_calls k bs (next d t) = elim d [ ]
 
--- the link's job, by whether a source failed
-abbrev link_if : Plan → Bool → Job
-link_if plan t = if t then no_job else unwrap_or plan.link no_job
-
 pub links_where : (plan : Plan) (N : ℕ) (events : List RunEvent) → Windowed plan N events → LinksWhere plan events
 links_where plan N events w = record {
   where_all = λ job is filled. ap none calls ∙ by (some_failed (length plan.jobs) events) refl job is filled;
@@ -187,7 +198,8 @@ links_where plan N events w = record {
     calls : calls_of (length plan.jobs) events ≡ calls_of (length plan.jobs) (events_of w.link)
     calls = own_link (calls_only (length plan.jobs)) w (quiet_last (calls_only (length plan.jobs)) (λ p x. refl) w.last_removals)
 
-    story : {t : Bool} → some_failed (length plan.jobs) events ≡ t → Story (length plan.jobs) (link_if plan t) (begin (link_if plan t)) w.link
+    story : {t : Bool} → some_failed (length plan.jobs) events ≡ t
+        → Story (length plan.jobs) (link_if plan t) (begin (link_if plan t)) w.link
     story e = subst (λ job. Story (length plan.jobs) job (begin job) w.link) (link_same w ∙ ap (link_if plan) e) w.link_story
 
     by : (t : Bool) → some_failed (length plan.jobs) events ≡ t → (job : Job) → plan.link ≡ Some job → none job.groups ≡ false

@@ -8,7 +8,7 @@ use Rattle.drv_words.specs.declared.plan.Plan.{Plan}
 use Rattle.drv_words.specs.declared.steps.Place.{Place}
 use Rattle.std.proofs.Common.{◌≡◌, ◌<◌, ◌≤◌, ◌+◌, ◌∙◌, Bool, false, true, List, [], ◌∷◌, ◌++◌, None, Option, Some, ap, append-nil}
 use Rattle.std.proofs.Common.{append_assoc, arith, cond, drop, get_or, if◌then◌else◌, length, nat_eq, refl, subst, suc, sym}
-use Rattle.std.proofs.Common.{unwrap_or, zero, ℕ}
+use Rattle.std.proofs.Common.{unwrap_or, ℕ}
 use Rattle.std.proofs.lemmas.Cmp.{nat_eq_equiv}
 use Rattle.std.proofs.lemmas.Cmp.{nat_list_eq_equiv}
 use Rattle.std.proofs.lemmas.List.{drop_all, drop_more, length-map, map-append}
@@ -185,12 +185,6 @@ pub noted_file : (before : List File) (files new : List CodeLeftover) (find now 
 noted_file before files new find now place path first n h many is e found = noted_more before (leftover_list files) (leftover_list new) find
     now place path first n h (many ∙ sym (length-map files leftover_of)) is (ap leftover_list e
     ∙ map-append leftover_of files (record { place = place; first = first } ∷ [])) found
-
--- the rest of the code's list
-pub drop_lefts : (n : ℕ) (files : List CodeLeftover) → leftover_list (drop n files) ≡ drop n (leftover_list files)
-drop_lefts zero files = refl
-drop_lefts (suc n) [] = refl
-drop_lefts (suc n) (f ∷ files) = drop_lefts n files
 
 -- a choice by two equal numbers is its first value
 pub by_same : {X : Type 0} (a b : ℕ) (value same apart : X) → a ≡ b → value ≡ same → value ≡ (if nat_eq a b then same else apart)

@@ -1,6 +1,7 @@
 use Rattle.drv_core.specs.Events.{Block, events_of, is_claimed, positive, removal_failed, source_of}
 use Rattle.drv_core.specs.Story.{Claims, Fresh, Goes, Kid, Left, Over, Removes, Starting, Starts, Story, Waits, after_starts, begins}
-use Rattle.drv_core.specs.Story.{claimed, exited, last, lost, more, next, over, refused_first, refused_later, removed, signalled, started, stays, to_claims, to_groups}
+use Rattle.drv_core.specs.Story.{claimed, exited, last, lost, more, next, over, refused_first, refused_later, removed, signalled, started}
+use Rattle.drv_core.specs.Story.{stays, to_claims, to_groups}
 use Rattle.drv_core.specs.Story.{to_removals, to_waits, unclaimed}
 use Rattle.drv_words.specs.declared.answers.Answer.{Answer}
 use Rattle.drv_words.specs.declared.answers.Answer.TheVariants as answer
@@ -111,7 +112,8 @@ head (removed e) E = refl
 head (stays e) E = refl
 
 -- after claims nothing is fresh
-claims_begun : (job : Job) (i : ℕ) (ts : List Temp) (E : List RunEvent) → read job (to_claims job i ts) E ≡ read_begun job (to_claims job i ts) E
+claims_begun : (job : Job) (i : ℕ) (ts : List Temp) (E : List RunEvent) → read job (to_claims job i ts) E
+    ≡ read_begun job (to_claims job i ts) E
 claims_begun job i (t ∷ ts) E = refl
 claims_begun job i [] E = by job.groups
   where

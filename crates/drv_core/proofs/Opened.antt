@@ -1,4 +1,5 @@
 use Rattle.drv_core.proofs.Counting.{same}
+use Rattle.drv_core.proofs.Tests.{and_false, or_true}
 use Rattle.drv_core.proofs.Waiting.{all_waited}
 use Rattle.drv_core.specs.Waited.{Act, Ascends, Awaits, Begins, Child, Waited, WaitsForEach, acts_in, acts_of, awaits, begins}
 use Rattle.drv_core.specs.Windowed.{Windowed}
@@ -77,7 +78,8 @@ under_before : (c d : Child) (g i : ℕ) → Under c g i → (g < d.group) ⊎ (
 under_before c d g i (inl x) (inl y) = inl (omega (arith, x, y))
 under_before c d g i (inl x) (inr y) = inl (let e = y.0 in omega (arith, x, e))
 under_before c d g i (inr x) (inl y) = inl (let e = x.0 in omega (arith, e, y))
-under_before c d g i (inr x) (inr y) = let e = x.0 in let f = y.0 in let p = x.1 in let q = y.1 in inr (omega (arith, e, f), omega (arith, p, q))
+under_before c d g i (inr x) (inr y) = let e = x.0 in let f = y.0 in let p = x.1 in let q =
+    y.1 in inr (omega (arith, e, f), omega (arith, p, q))
 
 sorted_more : (d : Child) (q : List Child) (g i : ℕ) → Sorted q → AllUnder q g i → (g < d.group) ⊎ ((g ≡ d.group) × (i ≤ d.member))
     → Sorted (q ++ d ∷ []) × AllUnder (q ++ d ∷ []) d.group (d.member + 1)
@@ -93,11 +95,8 @@ sorted_more d (x ∷ q) g i s u le =
 -- an earlier child is another
 apart : (c d : Child) → Before d c → is_it c d ≡ false
 apart c d (inl x) = let e : nat_eq c.group d.group ≡ false = grind (arith, nat_tests) in rw e refl
-apart c d (inr x) = let lt = x.1 in let e : nat_eq c.member d.member ≡ false = grind (arith, nat_tests) in rw e (no (nat_eq c.group d.group))
-  where
-    no : (t : Bool) → (t && false) ≡ false
-    no true = refl
-    no false = refl
+apart c d (inr x) = let lt = x.1 in let e : nat_eq c.member d.member ≡ false = grind (arith, nat_tests) in rw e
+    (and_false (nat_eq c.group d.group))
 
 after_it : (c d : Child) (q : List Child) → AllAfter d q → Has c q → Before d c
 after_it c d [] a h = absurd h
@@ -156,10 +155,6 @@ ready c q g i (Begins d ∷ xs) ys (begins x w acts h) s u a = by (ready c (q ++
     more : Sorted (q ++ d ∷ []) × AllUnder (q ++ d ∷ []) d.group (d.member + 1)
     more = sorted_more d q g i s u a.0
 
-    or_true : (t : Bool) → (t || true) ≡ true
-    or_true true = refl
-    or_true false = refl
-
     by : Ready c (q ++ d ∷ []) xs → Ready c q (Begins d ∷ xs)
     by r = record { begun = which r.begun; unwaited = r.unwaited }
       where
@@ -193,10 +188,6 @@ turn_eq a b = by (nat_eq a b) refl
     by true e = let f : nat_eq b a ≡ true = grind (arith, nat_tests) in e ∙ sym f
     by false e = let f : nat_eq b a ≡ false = grind (arith, nat_tests) in e ∙ sym f
 
-and_false : (t : Bool) → (t && false) ≡ false
-and_false true = refl
-and_false false = refl
-
 assoc : (a b d : Bool) → (a && (b && d)) ≡ ((a && b) && d)
 assoc true b d = refl
 assoc false b d = refl
@@ -212,7 +203,8 @@ begun_in k c (e ∷ E) = by e.step e.answer (begun_in k c E)
         || list_any (λ e. is_start_at (place.Command k c.group c.member) e.step && is_child c.id e.answer) E)
     by (step.Start (place.Command j g i) from_pipe to_pipe) (answer.Start (start.Started id)) ih = rw (turn_eq k j) (here (nat_eq j k))
       where
-        here : (t : Bool) → list_any (begins_it c) ((if t then Begins (record { group = g; member = i; id = id }) ∷ [] else []) ++ acts_in k E)
+        here : (t : Bool) → list_any (begins_it c)
+            ((if t then Begins (record { group = g; member = i; id = id }) ∷ [] else []) ++ acts_in k E)
             ≡ (((t && (nat_eq c.group g && nat_eq c.member i)) && nat_eq c.id id)
             || list_any (λ e. is_start_at (place.Command k c.group c.member) e.step && is_child c.id e.answer) E)
         here true = ap (λ t. t || list_any (begins_it c) (acts_in k E)) (assoc (nat_eq c.group g) (nat_eq c.member i) (nat_eq c.id id))
@@ -223,7 +215,8 @@ begun_in k c (e ∷ E) = by e.step e.answer (begun_in k c E)
     by (step.Start p from_pipe to_pipe) x ih = ih
     by (step.Wait (place.Command j g i) id) x ih = here (nat_eq j k)
       where
-        here : (t : Bool) → list_any (begins_it c) ((if t then Awaits (record { group = g; member = i; id = id }) ∷ [] else []) ++ acts_in k E)
+        here : (t : Bool) → list_any (begins_it c)
+            ((if t then Awaits (record { group = g; member = i; id = id }) ∷ [] else []) ++ acts_in k E)
             ≡ list_any (λ e. is_start_at (place.Command k c.group c.member) e.step && is_child c.id e.answer) E
         here true = ih
         here false = ih
@@ -240,7 +233,8 @@ awaited_in k c (e ∷ E) = by e.step e.answer (awaited_in k c E)
         || list_any (λ e. is_wait_for (place.Command k c.group c.member) c.id e.step) E)
     by (step.Wait (place.Command j g i) id) x ih = rw (turn_eq k j) (here (nat_eq j k))
       where
-        here : (t : Bool) → list_any (awaits_it c) ((if t then Awaits (record { group = g; member = i; id = id }) ∷ [] else []) ++ acts_in k E)
+        here : (t : Bool) → list_any (awaits_it c)
+            ((if t then Awaits (record { group = g; member = i; id = id }) ∷ [] else []) ++ acts_in k E)
             ≡ (((t && (nat_eq c.group g && nat_eq c.member i)) && nat_eq c.id id)
             || list_any (λ e. is_wait_for (place.Command k c.group c.member) c.id e.step) E)
         here true = ap (λ t. t || list_any (awaits_it c) (acts_in k E)) (assoc (nat_eq c.group g) (nat_eq c.member i) (nat_eq c.id id))
@@ -248,14 +242,16 @@ awaited_in k c (e ∷ E) = by e.step e.answer (awaited_in k c E)
         here false = ih
     by (step.Start (place.Command j g i) from_pipe to_pipe) (answer.Start (start.Started id)) ih = here (nat_eq j k)
       where
-        here : (t : Bool) → list_any (awaits_it c) ((if t then Begins (record { group = g; member = i; id = id }) ∷ [] else []) ++ acts_in k E)
+        here : (t : Bool) → list_any (awaits_it c)
+            ((if t then Begins (record { group = g; member = i; id = id }) ∷ [] else []) ++ acts_in k E)
             ≡ list_any (λ e. is_wait_for (place.Command k c.group c.member) c.id e.step) E
         here true = ih
         here false = ih
     by (step.Start p from_pipe to_pipe) (answer.Start (start.Started id)) ih = ih
     by s x ih = ih
 
-pub all_open : (plan : Plan) (N : ℕ) (events : List RunEvent) → Windowed plan N events → (k g i id : ℕ) (before : List RunEvent) (x : Answer)
+pub all_open : (plan : Plan) (N : ℕ) (events : List RunEvent) → Windowed plan N events
+    → (k g i id : ℕ) (before : List RunEvent) (x : Answer)
     (after : List RunEvent) → events ≡ before ++ record { step = step.Wait (place.Command k g i) id; answer = x } ∷ after
     → is_open (place.Command k g i) id before ≡ true
 all_open plan N events w k g i id before x after is = by (ready child [] 0 0 (acts_in k before) (acts_in k after)
@@ -268,7 +264,8 @@ all_open plan N events w k g i id before x after is = by (ready child [] 0 0 (ac
     waits = all_waited plan N events w k
 
     acts : acts_in k events ≡ acts_in k before ++ Awaits child ∷ acts_in k after
-    acts = ap (acts_in k) is ∙ flat_map-append (λ e. acts_of k e.step e.answer) before (record { step = step.Wait (place.Command k g i) id; answer = x } ∷ after)
+    acts = ap (acts_in k) is ∙ flat_map-append (λ e. acts_of k e.step e.answer) before
+        (record { step = step.Wait (place.Command k g i) id; answer = x } ∷ after)
         ∙ ap (λ (t : Bool). acts_in k before ++ ((if t then Awaits child ∷ [] else []) ++ acts_in k after)) (nat_eq_equiv.refl k)
 
     yes : (a b : Bool) → a ≡ true → b ≡ false → (a && not b) ≡ true

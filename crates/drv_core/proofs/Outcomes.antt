@@ -17,7 +17,8 @@ use Rattle.drv_words.specs.declared.steps.Place.TheVariants as place
 use Rattle.drv_words.specs.declared.steps.RunEvent.{RunEvent}
 use Rattle.drv_words.specs.declared.steps.Step.{Step}
 use Rattle.drv_words.specs.declared.steps.Step.TheVariants as step
-use Rattle.std.proofs.Common.{◌≡◌, ◌<◌, ◌≤◌, ◌+◌, ◌∙◌, ◌||◌, Bool, false, true, List, [], ◌∷◌, ◌++◌, ap, append-nil, arith, if◌then◌else◌, length}
+use Rattle.std.proofs.Common.{◌≡◌, ◌<◌, ◌≤◌, ◌+◌, ◌∙◌, ◌||◌, Bool, false, true, List, [], ◌∷◌, ◌++◌, ap, append-nil, arith, if◌then◌else◌}
+use Rattle.std.proofs.Common.{length}
 use Rattle.std.proofs.Common.{nat_eq, nat_lt, refl, subst, suc, sym, zero, ℕ}
 use Rattle.std.proofs.lemmas.Bool.Decides.{nat_tests}
 use Rattle.std.proofs.lemmas.Grind.{flat_map-append}
@@ -30,7 +31,8 @@ pub any_append : {X : Type 0} (f : X → Bool) (xs ys : List X) → list_any f (
 any_append f [] ys = refl
 any_append f (x ∷ xs) ys = by (f x) (any_append f xs ys)
   where
-    by : (t : Bool) → list_any f (xs ++ ys) ≡ (list_any f xs || list_any f ys) → (t || list_any f (xs ++ ys)) ≡ ((t || list_any f xs) || list_any f ys)
+    by : (t : Bool) → list_any f (xs ++ ys) ≡ (list_any f xs || list_any f ys) → (t || list_any f (xs ++ ys))
+        ≡ ((t || list_any f xs) || list_any f ys)
     by true e = refl
     by false e = e
 
@@ -62,7 +64,8 @@ by_source_some f k (suc m) bs = ap (some f) (blocks_with_are k (of k bs) (by_sou
     ∙ some_append f (of k bs) (blocks_of (by_source (k + 1) m bs)) ∙ ap (λ t. some f (of k bs) || t) (by_source_some f (k + 1) m bs)
 
 -- a block of a source that is not among them changes nothing
-some_without : (f : RunEvent → Bool) (k m : ℕ) (b : SourceBlock) (bs : List SourceBlock) → b.source < k → some_by f k m (b ∷ bs) ≡ some_by f k m bs
+some_without : (f : RunEvent → Bool) (k m : ℕ) (b : SourceBlock) (bs : List SourceBlock) → b.source < k
+    → some_by f k m (b ∷ bs) ≡ some_by f k m bs
 some_without f k zero b bs lt = refl
 some_without f k (suc m) b bs lt =
     let e : nat_eq b.source k ≡ false = grind (arith, nat_tests) in
@@ -83,14 +86,17 @@ some_with f k (suc m) b bs le lt = by (nat_eq b.source k) refl (λ up. some_with
     assoc true t u = refl
     assoc false t u = refl
 
-    by : (t : Bool) → nat_eq b.source k ≡ t → (k + 1 ≤ b.source → some_by f (k + 1) m (b ∷ bs) ≡ (list_any f b.block || some_by f (k + 1) m bs))
-        → (some f (if t then b.block ∷ of k bs else of k bs) || some_by f (k + 1) m (b ∷ bs)) ≡ (list_any f b.block || (some f (of k bs) || some_by f (k + 1) m bs))
+    by : (t : Bool) → nat_eq b.source k ≡ t
+        → (k + 1 ≤ b.source → some_by f (k + 1) m (b ∷ bs) ≡ (list_any f b.block || some_by f (k + 1) m bs))
+        → (some f (if t then b.block ∷ of k bs else of k bs) || some_by f (k + 1) m (b ∷ bs))
+        ≡ (list_any f b.block || (some f (of k bs) || some_by f (k + 1) m bs))
     by true e ih =
         let is : b.source ≡ k = same b.source k e in
         ap (λ t. t || some_by f (k + 1) m (b ∷ bs)) (any_append f b.block (events_of (of k bs)))
         ∙ ap (λ t. (list_any f b.block || some f (of k bs)) || t) (some_without f (k + 1) m b bs (omega (arith, is)))
         ∙ assoc (list_any f b.block) (some f (of k bs)) (some_by f (k + 1) m bs)
-    by false e ih = ap (λ t. some f (of k bs) || t) (ih (grind (arith, nat_tests))) ∙ swap (some f (of k bs)) (list_any f b.block) (some_by f (k + 1) m bs)
+    by false e ih = ap (λ t. some f (of k bs) || t) (ih (grind (arith, nat_tests)))
+        ∙ swap (some f (of k bs)) (list_any f b.block) (some_by f (k + 1) m bs)
 
 some_none : (f : RunEvent → Bool) (k m : ℕ) → some_by f k m [] ≡ false
 some_none f k zero = refl
@@ -100,7 +106,8 @@ some_none f k (suc m) = some_none f (k + 1) m
 some_same : {n N : ℕ} {job : ℕ → Job} {st x : ℕ → Left} {bs : List SourceBlock} → Leads n N job st bs x → (f : RunEvent → Bool)
     → some f (blocks_of bs) ≡ some_by f 0 n bs
 some_same {n = n} no_more f = sym (some_none f 0 n)
-some_same {n = n} (goes_on {k = k} {b = b} {bs = bs} may g l) f = any_append f b (events_of (blocks_of bs)) ∙ ap (λ t. list_any f b || t) (some_same l f)
+some_same {n = n} (goes_on {k = k} {b = b} {bs = bs} may g l) f = any_append f b (events_of (blocks_of bs))
+    ∙ ap (λ t. list_any f b || t) (some_same l f)
     ∙ sym (some_with f 0 n (record { source = k; block = b }) bs (omega arith) (let lt = may.is_source in omega (arith, lt)))
 
 -- Events of which the same tests pass.
@@ -139,10 +146,12 @@ rearranges plan N E w = record {
     tests : SameTests (events_of (blocks_of w.blocks)) (events_of (blocks_of (by_source 0 (length plan.jobs) w.blocks)))
     tests f = some_same w.leads f ∙ sym (by_source_some f 0 (length plan.jobs) w.blocks)
 
-    link_same : link_after plan (events_of (blocks_of w.blocks)) ≡ link_after plan (events_of (blocks_of (by_source 0 (length plan.jobs) w.blocks)))
+    link_same : link_after plan (events_of (blocks_of w.blocks))
+        ≡ link_after plan (events_of (blocks_of (by_source 0 (length plan.jobs) w.blocks)))
     link_same = rw (tests (λ e. failed e.answer)) refl
 
-    all : SameTests (events_of (blocks_of w.blocks) ++ events_of w.link) (events_of (blocks_of (by_source 0 (length plan.jobs) w.blocks)) ++ events_of w.link)
+    all : SameTests (events_of (blocks_of w.blocks) ++ events_of w.link)
+        (events_of (blocks_of (by_source 0 (length plan.jobs) w.blocks)) ++ events_of w.link)
     all f = any_append f (events_of (blocks_of w.blocks)) (events_of w.link) ∙ ap (λ t. t || list_any f (events_of w.link)) (tests f)
         ∙ sym (any_append f (events_of (blocks_of (by_source 0 (length plan.jobs) w.blocks))) (events_of w.link))
 
@@ -165,7 +174,8 @@ only p = record { other = λ e h. by e.step e.answer h; no_report = λ n t. refl
     by s x h = refl
 
 -- blocks of one source among others
-of_with : (k j : ℕ) (bs : List Block) (cs : List SourceBlock) → of j (blocks_with k bs ++ cs) ≡ (if nat_eq k j then bs ++ of j cs else of j cs)
+of_with : (k j : ℕ) (bs : List Block) (cs : List SourceBlock) → of j (blocks_with k bs ++ cs)
+    ≡ (if nat_eq k j then bs ++ of j cs else of j cs)
 of_with k j bs cs = by (nat_eq k j) refl bs
   where
     by : (t : Bool) → nat_eq k j ≡ t → (xs : List Block) → of j (blocks_with k xs ++ cs) ≡ (if t then xs ++ of j cs else of j cs)
@@ -182,7 +192,8 @@ of_before k (suc m) j bs lt =
 
 of_by_source : (k m j : ℕ) (bs : List SourceBlock) → k ≤ j → j < k + m → of j (by_source k m bs) ≡ of j bs
 of_by_source k zero j bs le lt = absurd (omega (arith, le, lt))
-of_by_source k (suc m) j bs le lt = of_with k j (of k bs) (by_source (k + 1) m bs) ∙ by (nat_eq k j) refl (λ up. of_by_source (k + 1) m j bs up (omega (arith, lt)))
+of_by_source k (suc m) j bs le lt = of_with k j (of k bs) (by_source (k + 1) m bs)
+    ∙ by (nat_eq k j) refl (λ up. of_by_source (k + 1) m j bs up (omega (arith, lt)))
   where
     by : (t : Bool) → nat_eq k j ≡ t → (k + 1 ≤ j → of j (by_source (k + 1) m bs) ≡ of j bs)
         → (if t then of k bs ++ of j (by_source (k + 1) m bs) else of j (by_source (k + 1) m bs)) ≡ of j bs
@@ -196,7 +207,8 @@ same_of : {X : Type 0} {f : RunEvent → List X} {j : ℕ} → OnlyOf f j → (p
     → flat_map f (serial w) ≡ flat_map f E
 same_of {f = f} {j = j} o plan N E w =
     flat_map-append f (events_of (blocks_of (by_source 0 (length plan.jobs) w.blocks))) (events_of w.link ++ w.last)
-    ∙ ap (λ l. l ++ flat_map f (events_of w.link ++ w.last)) (one_source o ran.leads ∙ ap (λ l. flat_map f (events_of l)) (of_same (nat_lt j (length plan.jobs)) refl)
+    ∙ ap (λ l. l ++ flat_map f (events_of w.link ++ w.last)) (one_source o ran.leads
+    ∙ ap (λ l. flat_map f (events_of l)) (of_same (nat_lt j (length plan.jobs)) refl)
     ∙ sym (one_source o w.leads))
     ∙ sym (flat_map-append f (events_of (blocks_of w.blocks)) (events_of w.link ++ w.last))
     ∙ ap (flat_map f) (sym w.events)
@@ -205,7 +217,8 @@ same_of {f = f} {j = j} o plan N E w =
     ran = serial_runs plan w.leads w.ended
 
     of_same : (t : Bool) → nat_lt j (length plan.jobs) ≡ t → of j (by_source 0 (length plan.jobs) w.blocks) ≡ of j w.blocks
-    of_same true e = of_by_source 0 (length plan.jobs) j w.blocks (omega arith) (let lt = is_less j (length plan.jobs) e in omega (arith, lt))
+    of_same true e = of_by_source 0 (length plan.jobs) j w.blocks (omega arith)
+        (let lt = is_less j (length plan.jobs) e in omega (arith, lt))
     of_same false e =
         let le = is_not_less j (length plan.jobs) e in
         of_beyond ran.leads j le ∙ sym (of_beyond w.leads j le)

@@ -1,14 +1,18 @@
 use Rattle.drv_core.proofs.Counting.{is_less, is_not_less, same}
+use Rattle.drv_core.proofs.Files.{Each, all_each, due_each}
+use Rattle.drv_core.proofs.LinkRuns.{link_or}
 use Rattle.drv_core.proofs.Opened.{all_open}
 use Rattle.drv_core.proofs.Serial.{begin_beyond}
-use Rattle.drv_core.specs.Events.{Block, events_of, failed, positive}
+use Rattle.drv_core.specs.Events.{Block, events_of, positive}
 use Rattle.drv_core.specs.Filled.{AllFilled, Filled}
 use Rattle.drv_core.specs.Possible.{AllPossible}
-use Rattle.drv_core.specs.Story.{Claims, Goes, Kid, Left, Over, Removes, Starting, Starts, Story, Waits, after_starts, begin, begin_with, begins}
-use Rattle.drv_core.specs.Story.{claimed, exited, last, lost, more, next, over, refused_first, refused_later, removed, signalled, started, stays}
+use Rattle.drv_core.specs.Story.{Claims, Goes, Kid, Left, Over, Removes, Starting, Starts, Story, Waits, after_starts, begin, begin_with}
+use Rattle.drv_core.specs.Story.{begins}
+use Rattle.drv_core.specs.Story.{claimed, exited, last, lost, more, next, over, refused_first, refused_later, removed, signalled, started}
+use Rattle.drv_core.specs.Story.{stays}
 use Rattle.drv_core.specs.Story.{to_claims, to_groups, to_removals, to_waits, unclaimed}
-use Rattle.drv_core.specs.Windowed.{File, Leads, Removals, SourceBlock, Windowed, all_files, all_removed, blocks_of, each_once, files_from, goes_on}
-use Rattle.drv_core.specs.Windowed.{job_files, link_after, marked_files, no_more, removed as file_removed, source_at, stays as file_stays, temp_files}
+use Rattle.drv_core.specs.Windowed.{Leads, Removals, SourceBlock, Windowed, all_removed, blocks_of, due, goes_on}
+use Rattle.drv_core.specs.Windowed.{link_after, no_more, removed as file_removed, source_at, stays as file_stays}
 use Rattle.drv_words.specs.Places.{group_at, is_command, is_file, is_note, is_temp, job_at, no_job}
 use Rattle.drv_words.specs.Stepping.{can_make, pending_from, pending_with, pipe_pending, same_bool}
 use Rattle.drv_words.specs.declared.answers.Answer.{Answer}
@@ -21,12 +25,11 @@ use Rattle.drv_words.specs.declared.steps.Place.TheVariants as place
 use Rattle.drv_words.specs.declared.steps.RunEvent.{RunEvent}
 use Rattle.drv_words.specs.declared.steps.Step.{Step}
 use Rattle.drv_words.specs.declared.steps.Step.TheVariants as step
-use Rattle.std.proofs.Common.{◌≡◌, ◌<◌, ◌+◌, ◌-◌, ◌∙◌, ◌&&◌, ◌||◌, Bool, false, true, List, [], ◌∷◌, ◌++◌, None, Option, Some, ap, append_assoc, arith, drop}
-use Rattle.std.proofs.Common.{get_or, if◌then◌else◌, length, map, nat_eq, nat_lt, refl, subst, suc, sym, unwrap_or, zero, ℕ}
+use Rattle.std.proofs.Common.{◌≡◌, ◌<◌, ◌+◌, ◌-◌, ◌∙◌, ◌||◌, ◌⊎◌, Bool, false, true, List, [], ◌∷◌, ◌++◌, ap, append_assoc, arith, drop}
+use Rattle.std.proofs.Common.{get_or, if◌then◌else◌, inl, inr, length, nat_eq, nat_lt, refl, subst, suc, sym, zero, ℕ}
+use Rattle.std.proofs.lemmas.Bool.{and_from}
 use Rattle.std.proofs.lemmas.Bool.Decides.{nat_tests}
 use Rattle.std.proofs.lemmas.List.{get_or_append_left}
-use Rattle.std.specs.Cmp.Lexicographic.{pointwise}
-use Rattle.std.specs.List.{filter, list_any}
 use Rattle.std.specs.Option.{option_to_list}
 use Rattle.std.specs.Prelude.{⊤}
 
@@ -51,7 +54,8 @@ itself false = refl
 more_pipe : (i : ℕ) → positive (i + 1) ≡ true
 more_pipe i = ap positive (let e : i + 1 ≡ suc i = omega arith in e)
 
-starts_piped : {k g i m : ℕ} {b : Block} {kids : List Kid} {fault : Bool} → Starting k g i m b kids fault → (F : List RunEvent) → Piped false F
+starts_piped : {k g i m : ℕ} {b : Block} {kids : List Kid} {fault : Bool} → Starting k g i m b kids fault
+    → (F : List RunEvent) → Piped false F
     → Piped (positive i) (b ++ F)
 starts_piped {i = i} last F h = (itself (positive i), h)
 starts_piped {i = i} (more {b = b} s) F h = (itself (positive i), subst (λ t. Piped t (b ++ F)) (more_pipe i) (starts_piped s F h))
@@ -69,11 +73,13 @@ block_piped lost F h = (refl, (refl, h))
 block_piped (removed e) F h = (refl, h)
 block_piped (stays e) F h = (refl, (refl, h))
 
-leads_piped : {n N : ℕ} {job : ℕ → Job} {st x : ℕ → Left} {bs : List SourceBlock} → Leads n N job st bs x → (F : List RunEvent) → Piped false F
+leads_piped : {n N : ℕ} {job : ℕ → Job} {st x : ℕ → Left} {bs : List SourceBlock} → Leads n N job st bs x
+    → (F : List RunEvent) → Piped false F
     → Piped false (events_of (blocks_of bs) ++ F)
 leads_piped no_more F h = h
 leads_piped (goes_on {b = b} {bs = bs} may g l) F h =
-    subst (λ l. Piped false l) (sym (append_assoc b (events_of (blocks_of bs)) F)) (block_piped g (events_of (blocks_of bs) ++ F) (leads_piped l F h))
+    subst (λ l. Piped false l) (sym (append_assoc b (events_of (blocks_of bs)) F))
+    (block_piped g (events_of (blocks_of bs) ++ F) (leads_piped l F h))
 
 story_piped : {k : ℕ} {job : Job} {s : Left} {bs : List Block} → Story k job s bs → (F : List RunEvent) → Piped false F
     → Piped false (events_of bs ++ F)
@@ -138,7 +144,8 @@ Within job (Removes i fs) = i + length fs + 1 ≡ length job.on_failure
 Within job s = ⊤
 
 -- the rest of a list, from one of its items on
-drop_cons : {X : Type 0} (n : ℕ) (xs ys : List X) (y d : X) → drop n xs ≡ y ∷ ys → (get_or xs n d ≡ y) × (drop (n + 1) xs ≡ ys) × (n < length xs)
+drop_cons : {X : Type 0} (n : ℕ) (xs ys : List X) (y d : X) → drop n xs ≡ y ∷ ys
+    → (get_or xs n d ≡ y) × (drop (n + 1) xs ≡ ys) × (n < length xs)
 drop_cons zero [] ys y d e = absurd cc
 drop_cons zero (x ∷ xs) ys y d e = ((let h : x ≡ y = cc in h), (let h : xs ≡ ys = cc in h), omega arith)
 drop_cons (suc n) [] ys y d e = absurd cc
@@ -190,7 +197,8 @@ starts_placed {k = k} {g = g} (refused_first {m = m}) plan e =
 starts_placed {k = k} {g = g} (refused_later {i = i} {m = m}) plan e =
     let lt : suc i < length (group_at (job_at plan k) g) = omega (arith, e) in ((less (suc i) _ lt, (less (suc i) _ lt, (refl, tt))), tt)
 
-block_placed : {k : ℕ} (plan : Plan) {s m : Left} {b : Block} → Filled (job_at plan k) → Goes k (job_at plan k) s b m → Within (job_at plan k) s
+block_placed : {k : ℕ} (plan : Plan) {s m : Left} {b : Block} → Filled (job_at plan k) → Goes k (job_at plan k) s b m
+    → Within (job_at plan k) s
     → Placed plan b × Within (job_at plan k) m
 block_placed {k = k} plan filled (begins d) h =
     block_placed plan filled d (within_claims (job_at plan k) 0 (job_at plan k).temps filled (omega arith))
@@ -223,7 +231,8 @@ within_begin job = by job.groups
     by (c ∷ gs) = tt
 
 leads_placed : {N : ℕ} (plan : Plan) {st x : ℕ → Left} {bs : List SourceBlock} → AllFilled plan
-    → Leads (length plan.jobs) N (source_at plan) st bs x → ((k : ℕ) → Within (job_at plan k) (st k)) → Placed plan (events_of (blocks_of bs))
+    → Leads (length plan.jobs) N (source_at plan) st bs x → ((k : ℕ) → Within (job_at plan k) (st k))
+    → Placed plan (events_of (blocks_of bs))
 leads_placed plan filled no_more h = tt
 leads_placed plan {st = st} filled (goes_on {k = k} {b = b} {m = m} {bs = bs} may g l) h =
     let both = block_placed plan (filled k) (subst (λ j. Goes k j (st k) b m) (source_is plan k may.is_source) g) (h k) in
@@ -233,7 +242,8 @@ leads_placed plan {st = st} filled (goes_on {k = k} {b = b} {m = m} {bs = bs} ma
     by j true e w = subst (λ i. Within (job_at plan i) m) (same k j e) w
     by j false e w = h j
 
-story_placed : {k : ℕ} (plan : Plan) {s : Left} {bs : List Block} → Filled (job_at plan k) → Story k (job_at plan k) s bs → Within (job_at plan k) s
+story_placed : {k : ℕ} (plan : Plan) {s : Left} {bs : List Block} → Filled (job_at plan k) → Story k (job_at plan k) s bs
+    → Within (job_at plan k) s
     → Placed plan (events_of bs)
 story_placed plan filled over h = tt
 story_placed plan filled (next {b = b} {bs = bs} d t) h =
@@ -243,86 +253,36 @@ idle_placed : {k : ℕ} {bs : List Block} (plan : Plan) → Story k no_job Over 
 idle_placed plan over = tt
 idle_placed plan (next d t) = elim d [ ]
 
-at_end : (xs : List Job) (y d : Job) → get_or (xs ++ y ∷ []) (length xs) d ≡ y
-at_end [] y d = refl
-at_end (x ∷ xs) y d = at_end xs y d
-
 link_placed : (plan : Plan) (bs : List Block) (E : List RunEvent) → AllFilled plan
     → Story (length plan.jobs) (link_after plan E) (begin (link_after plan E)) bs → Placed plan (events_of bs)
-link_placed plan bs E filled t = by (list_any (λ e. failed e.answer) E) refl plan.link refl t
+link_placed plan bs E filled t = by (link_or plan E) t
   where
-    by : (f : Bool) → list_any (λ e. failed e.answer) E ≡ f → (l : Option Job) → plan.link ≡ l
-        → Story (length plan.jobs) (if f then no_job else unwrap_or plan.link no_job) (begin (if f then no_job else unwrap_or plan.link no_job)) bs
-        → Placed plan (events_of bs)
-    by true e l is t = idle_placed plan t
-    by false e None is t = idle_placed plan (subst (λ o. Story (length plan.jobs) (unwrap_or o no_job) (begin (unwrap_or o no_job)) bs) is t)
-    by false e (Some job) is t =
-        let here : job ≡ job_at plan (length plan.jobs) =
-        sym (ap (λ o. get_or (plan.jobs ++ option_to_list o) (length plan.jobs) no_job) is ∙ at_end plan.jobs job no_job) in
-        story_placed plan (filled (length plan.jobs)) (subst (λ j. Story (length plan.jobs) j (begin j) bs) here
-        (subst (λ o. Story (length plan.jobs) (unwrap_or o no_job) (begin (unwrap_or o no_job)) bs) is t)) (within_begin (job_at plan (length plan.jobs)))
+    by : (link_after plan E ≡ no_job) ⊎ (link_after plan E ≡ job_at plan (length plan.jobs))
+        → Story (length plan.jobs) (link_after plan E) (begin (link_after plan E)) bs → Placed plan (events_of bs)
+    by (inl e) t = idle_placed plan (subst (λ j. Story (length plan.jobs) j (begin j) bs) e t)
+    by (inr e) t = story_placed plan (filled (length plan.jobs)) (subst (λ j. Story (length plan.jobs) j (begin j) bs) e t)
+        (within_begin (job_at plan (length plan.jobs)))
 
--- the files that are due are files of the plan
-abbrev AllFiles : Plan → List File → Type 0
-AllFiles plan [] = ⊤
-AllFiles plan (f ∷ fs) = (is_file plan f.place ≡ true) × AllFiles plan fs
-
-files_append : (plan : Plan) (xs ys : List File) → AllFiles plan xs → AllFiles plan ys → AllFiles plan (xs ++ ys)
-files_append plan [] ys a b = b
-files_append plan (x ∷ xs) ys a b = (a.0, files_append plan xs ys a.1 b)
-
-temps_files : (plan : Plan) (k i : ℕ) (ts : List Temp) → i + length ts ≡ length (job_at plan k).temps → AllFiles plan (temp_files k i ts)
-temps_files plan k i [] e = tt
-temps_files plan k i (t ∷ ts) e = (less i _ (omega (arith, e)), temps_files plan k (i + 1) ts (omega (arith, e)))
-
-marks_files : (plan : Plan) (k i : ℕ) (ms : List (List ℕ)) → i + length ms ≡ length (job_at plan k).marked → AllFiles plan (marked_files k i ms)
-marks_files plan k i [] e = tt
-marks_files plan k i (m ∷ ms) e = (less i _ (omega (arith, e)), marks_files plan k (i + 1) ms (omega (arith, e)))
-
-jobs_files : (plan : Plan) (k : ℕ) (jobs : List Job) → ((j : ℕ) → j < length jobs → get_or jobs j no_job ≡ job_at plan (k + j))
-    → AllFiles plan (files_from k jobs)
-jobs_files plan k [] at = tt
-jobs_files plan k (job ∷ jobs) at =
-    let here : job ≡ job_at plan k = at 0 (omega arith) ∙ ap (job_at plan) (let z : k + 0 ≡ k = omega arith in z) in
-    files_append plan (job_files k job) (files_from (k + 1) jobs) (files_append plan (temp_files k 0 job.temps) (marked_files k 0 job.marked)
-    (temps_files plan k 0 job.temps (let e : 0 + length job.temps ≡ length job.temps = omega arith in e ∙ ap (λ (j : Job). length j.temps) here))
-    (marks_files plan k 0 job.marked (let e : 0 + length job.marked ≡ length job.marked = omega arith in e ∙ ap (λ (j : Job). length j.marked) here)))
-    (jobs_files plan (k + 1) jobs (λ j lt. at (suc j) (omega (arith, lt)) ∙ ap (job_at plan) (let e : k + suc j ≡ k + 1 + j = omega arith in e)))
-
-filter_files : (plan : Plan) (p : File → Bool) (fs : List File) → AllFiles plan fs → AllFiles plan (filter p fs)
-filter_files plan p [] h = tt
-filter_files plan p (f ∷ fs) h = by (p f) (filter_files plan p fs h.1)
-  where
-    by : (t : Bool) → AllFiles plan (filter p fs) → AllFiles plan (if t then f ∷ filter p fs else filter p fs)
-    by true r = (h.0, r)
-    by false r = r
-
-once_files : (plan : Plan) (seen : List (List ℕ)) (fs : List File) → AllFiles plan fs → AllFiles plan (each_once seen fs)
-once_files plan seen [] h = tt
-once_files plan seen (f ∷ fs) h = by (list_any (pointwise nat_eq f.path) seen) (once_files plan seen fs h.1) (once_files plan (f.path ∷ seen) fs h.1)
-  where
-    by : (t : Bool) → AllFiles plan (each_once seen fs) → AllFiles plan (each_once (f.path ∷ seen) fs)
-        → AllFiles plan (if t then each_once seen fs else f ∷ each_once (f.path ∷ seen) fs)
-    by true a b = a
-    by false a b = (h.0, b)
-
-last_placed : (plan : Plan) (fs : List File) {last : List RunEvent} → AllFiles plan fs → Removals (map (λ f. f.place) fs) last → Placed plan last
-last_placed plan [] h all_removed = tt
-last_placed plan (f ∷ fs) h (file_removed e r) = (h.0, last_placed plan fs h.1 r)
-last_placed plan (f ∷ fs) h (file_stays e r) = (h.0, (h.0, last_placed plan fs h.1 r))
+last_placed : (plan : Plan) {ps : List Place} {last : List RunEvent} → Each (λ p. is_file plan p ≡ true) ps
+    → Removals ps last → Placed plan last
+last_placed plan h all_removed = tt
+last_placed plan h (file_removed e r) = (h.0, last_placed plan h.1 r)
+last_placed plan h (file_stays e r) = (h.0, (h.0, last_placed plan h.1 r))
 
 all_placed : (plan : Plan) (N : ℕ) (E : List RunEvent) → AllFilled plan → Windowed plan N E → Placed plan E
 all_placed plan N E filled w = subst (λ l. Placed plan l) (sym w.events)
     (placed_append plan (events_of (blocks_of w.blocks)) (events_of w.link ++ w.last)
     (leads_placed plan filled w.leads (λ k. begun k (nat_lt k (length plan.jobs)) refl))
     (placed_append plan (events_of w.link) w.last (link_placed plan w.link (events_of (blocks_of w.blocks)) filled w.link_story)
-    (last_placed plan _ (once_files plan [] _ (filter_files plan _ (all_files plan) files)) w.last_removals)))
+    (last_placed plan files w.last_removals)))
   where
-    files : AllFiles plan (all_files plan)
-    files = jobs_files plan 0 (plan.jobs ++ option_to_list plan.link) (λ j lt. ap (job_at plan) (let z : j ≡ 0 + j = omega arith in z))
+    files : Each (λ p. is_file plan p ≡ true) (due plan (events_of (blocks_of w.blocks) ++ events_of w.link))
+    files = due_each (λ p. is_file plan p ≡ true) plan (events_of (blocks_of w.blocks) ++ events_of w.link)
+        (all_each (λ p. is_file plan p ≡ true) plan (λ k i lt h. less i _ h) (λ k i lt h. less i _ h))
 
     begun : (k : ℕ) (t : Bool) → nat_lt k (length plan.jobs) ≡ t → Within (job_at plan k) (begin (source_at plan k))
-    begun k true e = subst (λ j. Within (job_at plan k) (begin j)) (sym (source_is plan k (is_less k (length plan.jobs) e))) (within_begin (job_at plan k))
+    begun k true e = subst (λ j. Within (job_at plan k) (begin j)) (sym (source_is plan k (is_less k (length plan.jobs) e)))
+        (within_begin (job_at plan k))
     begun k false e = subst (λ s. Within (job_at plan k) s) (sym (begin_beyond plan.jobs k (is_not_less k (length plan.jobs) e))) tt
 
 pub all_possible : (plan : Plan) (N : ℕ) (events : List RunEvent) → AllFilled plan → Windowed plan N events → AllPossible plan events
@@ -334,13 +294,10 @@ all_possible plan N events filled w before e after is = by e.step e.answer refl 
     fitting : pipe_fits (pipe_pending before) e.step ≡ true
     fitting = pipe_at false before e after (subst (λ l. Piped false l) is (all_piped w))
 
-    both : (a b : Bool) → a ≡ true → b ≡ true → (a && b) ≡ true
-    both a b x y = rw (x, y) refl
-
     by : (s : Step) (x : Answer) → record { step = s; answer = x } ≡ e → has_place plan s ≡ true → pipe_fits (pipe_pending before) s ≡ true
         → can_make plan before s ≡ true
     by (step.Claim p) x h pl fi = pl
-    by (step.Start p from_pipe to_pipe) x h pl fi = both (is_command plan p) (same_bool from_pipe (pipe_pending before)) pl fi
+    by (step.Start p from_pipe to_pipe) x h pl fi = and_from (is_command plan p) (same_bool from_pipe (pipe_pending before)) pl fi
     by step.ClosePipe x h pl fi = fi
     by (step.Wait (place.Command k g i) id) x h pl fi = all_open plan N events w k g i id before x after
         (is ∙ ap (λ z. before ++ z ∷ after) (sym h))

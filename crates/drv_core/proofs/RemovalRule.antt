@@ -1,21 +1,23 @@
 use Rattle.drv_core.proofs.Counting.{is_less, is_not_less}
-use Rattle.drv_core.proofs.Sweeping.{Each, each_append}
-use Rattle.drv_core.proofs.OneJob.{OnlyOf, own_link, own_source, quiet_last}
+use Rattle.drv_core.proofs.Files.{Each, all_each, due_each}
+use Rattle.drv_core.proofs.LinkRuns.{link_or}
+use Rattle.drv_core.proofs.OneJob.{OnlyOf, none_and, own_link, own_source, quiet_last}
 use Rattle.drv_core.proofs.Outcomes.{acts_only}
 use Rattle.drv_core.proofs.Serial.{told}
-use Rattle.drv_core.specs.Events.{Block, events_of, failed, job_of, none, positive, source_of}
-use Rattle.drv_core.specs.Links.{is_work_of, job_failed}
-use Rattle.drv_core.specs.Removals.{end_at, end_removal, end_removals_in, failure_places, is_removing, own_at, own_removal, own_removals_in, removed_by_job, RemovesByRule}
-use Rattle.drv_core.specs.Started.{Act, Fails, Starts as Begins, act_of, acts_in, starts_of}
+use Rattle.drv_core.proofs.StartedFirst.{failed_is, has_fail}
+use Rattle.drv_core.proofs.Tests.{and_false, and_true, or_true}
+use Rattle.drv_core.specs.Events.{Block, events_of, none, positive, source_of}
+use Rattle.drv_core.specs.Links.{job_failed}
+use Rattle.drv_core.specs.Removals.{end_at, end_removal, end_removals_in, failure_places, is_removing, own_at, own_removal, own_removals_in}
+use Rattle.drv_core.specs.Removals.{removed_by_job, RemovesByRule}
+use Rattle.drv_core.specs.Started.{Act, act_of, acts_in, starts_of}
 use Rattle.drv_core.specs.Story.{Goes, Kid, Left, Over, Removes, Starting, Starts, Story, Waits, after_starts, begin_with, begins}
-use Rattle.drv_core.specs.Story.{claimed, exited, last, lost, more, next, over, refused_first, refused_later, removed, signalled, started, stays}
+use Rattle.drv_core.specs.Story.{claimed, exited, last, lost, more, next, over, refused_first, refused_later, removed, signalled, started}
+use Rattle.drv_core.specs.Story.{stays}
 use Rattle.drv_core.specs.Story.{to_claims, to_groups, to_removals, to_waits, unclaimed}
-use Rattle.drv_core.specs.Windowed.{File, Leads, Removals, SourceBlock, Windowed, all_files, all_removed, blocks_of, each_once, files_from, goes_on, is_due}
-use Rattle.drv_core.specs.Windowed.{job_files, link_after, marked_files, no_more, of, removed as file_removed, source_at, stays as file_stays, temp_files}
+use Rattle.drv_core.specs.Windowed.{Leads, Removals, SourceBlock, Windowed, all_removed, blocks_of, due, goes_on}
+use Rattle.drv_core.specs.Windowed.{link_after, no_more, of, removed as file_removed, source_at, stays as file_stays}
 use Rattle.drv_words.specs.Places.{job_at, no_job}
-use Rattle.drv_words.specs.declared.answers.Answer.{Answer}
-use Rattle.drv_words.specs.declared.answers.Answer.TheVariants as answer
-use Rattle.drv_words.specs.declared.answers.StartAnswer.TheVariants as start
 use Rattle.drv_words.specs.declared.plan.Command.{Command}
 use Rattle.drv_words.specs.declared.plan.Job.{Job}
 use Rattle.drv_words.specs.declared.plan.Plan.{Plan}
@@ -25,22 +27,17 @@ use Rattle.drv_words.specs.declared.steps.Place.TheVariants as place
 use Rattle.drv_words.specs.declared.steps.RunEvent.{RunEvent}
 use Rattle.drv_words.specs.declared.steps.Step.{Step}
 use Rattle.drv_words.specs.declared.steps.Step.TheVariants as step
-use Rattle.std.proofs.Common.{◌≡◌, ◌<◌, ◌≤◌, ◌+◌, ◌∙◌, ◌&&◌, ◌||◌, Bool, false, true, List, [], ◌∷◌, ◌++◌, ◌⊎◌, None, Option, Some, ap, append_assoc, arith, if◌then◌else◌, length}
-use Rattle.std.proofs.Common.{get_or, inl, inr, map, nat_eq, unwrap_or, nat_lt, not, refl, subst, suc}
+use Rattle.std.proofs.Common.{◌≡◌, ◌<◌, ◌≤◌, ◌+◌, ◌∙◌, ◌&&◌, ◌||◌, Bool, false, true, List, [], ◌∷◌, ◌++◌, ◌⊎◌, ap, append_assoc, arith}
+use Rattle.std.proofs.Common.{if◌then◌else◌, length}
+use Rattle.std.proofs.Common.{inl, inr, nat_eq, nat_lt, not, refl, subst, suc}
 use Rattle.std.proofs.Common.{sym, zero, ℕ}
 use Rattle.std.proofs.lemmas.Cmp.{nat_eq_equiv}
 use Rattle.std.proofs.lemmas.Grind.{flat_map-append}
 use Rattle.std.proofs.lemmas.List.{get_or_append_left}
-use Rattle.std.specs.Cmp.Lexicographic.{pointwise}
-use Rattle.std.specs.List.{filter, list_any}
+use Rattle.std.specs.List.{list_any}
 use Rattle.std.specs.Option.{option_to_list}
 
 -- For removal_law: a job removes its failure files exactly if it fails after it has started a command.
-
-abbrev has_fail : List Act → Bool
-has_fail [] = false
-has_fail (Begins p ∷ acts) = has_fail acts
-has_fail (Fails ∷ acts) = true
 
 abbrev has_start : List Act → Bool
 has_start acts = not (none (starts_of acts))
@@ -56,18 +53,6 @@ Rule k job (Removes i fs) acts ps = ps ≡ place.OnFailure k i ∷ failure_place
 Rule k job (Waits g fault kid kids gs) acts ps = ps ≡ files_if (fault || has_fail acts) k job
 Rule k job (Starts g m gs) acts ps = ps ≡ files_if (has_fail acts && (positive g || has_start acts)) k job
 Rule k job s acts ps = ps ≡ files_if (has_fail acts && has_start acts) k job
-
-and_true : (t : Bool) → (t && true) ≡ t
-and_true true = refl
-and_true false = refl
-
-and_false : (t : Bool) → (t && false) ≡ false
-and_false true = refl
-and_false false = refl
-
-or_true : (t : Bool) → (t || true) ≡ true
-or_true true = refl
-or_true false = refl
 
 of_removals : (k i : ℕ) (job : Job) (fs : List (List ℕ)) (acts : List Act) (ps : List Place) → Rule k job (to_removals i fs) acts ps
     → ps ≡ failure_places k i fs
@@ -114,7 +99,8 @@ of_starts k job zero fault [] gs acts ps h = h.1 ∙ sym (ap (λ l. files_if ((f
     ∙ ap (λ t. files_if t k job) (and_false (fault || false)))
 of_starts k job (suc g) fault [] gs acts ps h = of_waits k job (suc g) fault [] gs acts ps h
     ∙ ap (λ t. files_if t k job) (sym (and_true (fault || has_fail acts)))
-of_starts k job g fault (kid ∷ kids) gs acts ps h = h ∙ ap (λ t. files_if t k job) (sym (ap (λ t. (fault || has_fail acts) && t) (or_true (positive g))
+of_starts k job g fault (kid ∷ kids) gs acts ps h = h
+    ∙ ap (λ t. files_if t k job) (sym (ap (λ t. (fault || has_fail acts) && t) (or_true (positive g))
     ∙ and_true (fault || has_fail acts)))
 
 -- a block, and what follows it
@@ -123,7 +109,8 @@ block_rule : {k : ℕ} {job : Job} {s m : Left} {b : Block} → Goes k job s b m
 block_rule {k = k} {job = job} (begins {b = b} d) acts ps h =
     of_claims k job 0 job.temps (acts_in k b ++ acts) (own_removals_in k b ++ ps) (block_rule d acts ps h)
 block_rule {k = k} {job = job} (claimed {i = i} {ts = ts}) acts ps h = rw (nat_eq_equiv.refl k) (of_claims k job (i + 1) ts acts ps h)
-block_rule {k = k} {job = job} (unclaimed e) acts ps h = rw (nat_eq_equiv.refl k, e) (subst (λ l. ps ≡ files_if (true && has_start l) k job) (sym h.0) h.1)
+block_rule {k = k} {job = job} (unclaimed e) acts ps h = rw (nat_eq_equiv.refl k, e)
+    (subst (λ l. ps ≡ files_if (true && has_start l) k job) (sym h.0) h.1)
 block_rule {k = k} {job = job} (started {g = g} {gs = gs} {b = b} {kids = kids} {fault = fault} s) acts ps h =
     rw (starts_fail s acts, starts_some s acts) (ap (λ l. l ++ ps) (no_removal s) ∙ of_starts k job g fault kids gs acts ps h)
   where
@@ -149,11 +136,14 @@ block_rule {k = k} {job = job} (removed {i = i} {fs = fs} e) acts ps h =
 block_rule {k = k} {job = job} (stays {i = i} {fs = fs} e) acts ps h =
     rw (nat_eq_equiv.refl k) (ap (λ l. place.OnFailure k i ∷ l) (of_removals k (i + 1) job fs acts ps h))
 
-story_rule : {k : ℕ} {job : Job} {s : Left} {bs : List Block} → Story k job s bs → Rule k job s (acts_in k (events_of bs)) (own_removals_in k (events_of bs))
+story_rule : {k : ℕ} {job : Job} {s : Left} {bs : List Block} → Story k job s bs
+    → Rule k job s (acts_in k (events_of bs)) (own_removals_in k (events_of bs))
 story_rule over = (refl, refl)
 story_rule {k = k} {job = job} {s = s} (next {b = b} {bs = bs} d t) =
-    subst (λ l. Rule k job s l (own_removals_in k (b ++ events_of bs))) (sym (flat_map-append (λ e. act_of k e.step e.answer) b (events_of bs)))
-    (subst (λ l. Rule k job s (acts_in k b ++ acts_in k (events_of bs)) l) (sym (flat_map-append (λ e. own_removal k e.step) b (events_of bs)))
+    subst (λ l. Rule k job s l (own_removals_in k (b ++ events_of bs)))
+    (sym (flat_map-append (λ e. act_of k e.step e.answer) b (events_of bs)))
+    (subst (λ l. Rule k job s (acts_in k b ++ acts_in k (events_of bs)) l)
+    (sym (flat_map-append (λ e. own_removal k e.step) b (events_of bs)))
     (block_rule d (acts_in k (events_of bs)) (own_removals_in k (events_of bs)) (story_rule t)))
 
 -- the whole story of a job
@@ -166,24 +156,6 @@ job_rule k job bs t = by job.groups (story_rule t)
     by [] h = subst (λ l. own_removals_in k (events_of bs) ≡ files_if (has_fail l && has_start l) k job) (sym h.0) h.1
     by (c ∷ gs) h = h
 
--- a job failed exactly if one of its acts is a failure
-failed_is : (k : ℕ) (E : List RunEvent) → job_failed k E ≡ has_fail (acts_in k E)
-failed_is k [] = refl
-failed_is k (e ∷ E) = by e.step e.answer (failed_is k E)
-  where
-    by : (s : Step) (x : Answer) → job_failed k E ≡ has_fail (acts_in k E)
-        → ((is_work_of k s && failed x) || job_failed k E) ≡ has_fail (act_of k s x ++ acts_in k E)
-    by (step.Start p from_pipe to_pipe) (answer.Start (start.Started id)) ih = rw (and_false (nat_eq (job_of p) k)) (here (nat_eq (job_of p) k))
-      where
-        here : (t : Bool) → job_failed k E ≡ has_fail ((if t then Begins p ∷ [] else []) ++ acts_in k E)
-        here true = ih
-        here false = ih
-    by s x ih = here (is_work_of k s && failed x)
-      where
-        here : (t : Bool) → (t || job_failed k E) ≡ has_fail ((if t then Fails ∷ [] else []) ++ acts_in k E)
-        here true = refl
-        here false = ih
-
 -- removals of failure files are of a job's own steps
 removals_only : (k : ℕ) → OnlyOf (λ e. own_removal k e.step) k
 removals_only k = record { other = λ e h. by e.step h; no_report = λ n t. refl; no_close = refl }
@@ -195,57 +167,22 @@ removals_only k = record { other = λ e h. by e.step h; no_report = λ n t. refl
 
 -- what is removed at the end are temporaries and marked files
 
-abbrev AtEnd : File → Type 0
-AtEnd f = end_at f.place ≡ f.place ∷ []
+abbrev AtEnd : Place → Type 0
+AtEnd p = end_at p ≡ p ∷ []
 
-temps_end : (k i : ℕ) (ts : List Temp) → Each AtEnd (temp_files k i ts)
-temps_end k i [] = tt
-temps_end k i (t ∷ ts) = (refl, temps_end k (i + 1) ts)
+last_end : {ps : List Place} {last : List RunEvent} → Each AtEnd ps → Removals ps last → end_removals_in last ≡ ps
+last_end h all_removed = refl
+last_end h (file_removed e r) = rw (h.0, last_end h.1 r) refl
+last_end h (file_stays e r) = rw (h.0, last_end h.1 r) refl
 
-marked_end : (k i : ℕ) (ms : List (List ℕ)) → Each AtEnd (marked_files k i ms)
-marked_end k i [] = tt
-marked_end k i (m ∷ ms) = (refl, marked_end k (i + 1) ms)
+not_own : (k : ℕ) (p : Place) → AtEnd p → own_at k p ≡ []
+not_own k (place.OnFailure j i) h = absurd cc
+not_own k p h = refl
 
-files_end : (k : ℕ) (jobs : List Job) → Each AtEnd (files_from k jobs)
-files_end k [] = tt
-files_end k (job ∷ jobs) = each_append AtEnd (job_files k job) (files_from (k + 1) jobs)
-    (each_append AtEnd (temp_files k 0 job.temps) (marked_files k 0 job.marked) (temps_end k 0 job.temps) (marked_end k 0 job.marked)) (files_end (k + 1) jobs)
-
-each_filter : (P : File → Type 0) (p : File → Bool) (fs : List File) → Each P fs → Each P (filter p fs)
-each_filter P p [] h = tt
-each_filter P p (f ∷ fs) h = by (p f) (each_filter P p fs h.1)
-  where
-    by : (t : Bool) → Each P (filter p fs) → Each P (if t then f ∷ filter p fs else filter p fs)
-    by true r = (h.0, r)
-    by false r = r
-
-once_each : (P : File → Type 0) (seen : List (List ℕ)) (fs : List File) → Each P fs → Each P (each_once seen fs)
-once_each P seen [] h = tt
-once_each P seen (f ∷ fs) h = by (list_any (pointwise nat_eq f.path) seen) (once_each P seen fs h.1) (once_each P (f.path ∷ seen) fs h.1)
-  where
-    by : (t : Bool) → Each P (each_once seen fs) → Each P (each_once (f.path ∷ seen) fs)
-        → Each P (if t then each_once seen fs else f ∷ each_once (f.path ∷ seen) fs)
-    by true a b = a
-    by false a b = (h.0, b)
-
-last_end : (fs : List File) {last : List RunEvent} → Each AtEnd fs → Removals (map (λ f. f.place) fs) last
-    → end_removals_in last ≡ map (λ f. f.place) fs
-last_end [] h all_removed = refl
-last_end (f ∷ fs) h (file_removed e r) = rw (h.0, last_end fs h.1 r) refl
-last_end (f ∷ fs) h (file_stays e r) = rw (h.0, last_end fs h.1 r) refl
-
-last_own : (k : ℕ) (fs : List File) {last : List RunEvent} → Each AtEnd fs → Removals (map (λ f. f.place) fs) last → own_removals_in k last ≡ []
-last_own k [] h all_removed = refl
-last_own k (f ∷ fs) h (file_removed e r) = rw (other f.place h.0, last_own k fs h.1 r) refl
-  where
-    other : (p : Place) → end_at p ≡ p ∷ [] → own_at k p ≡ []
-    other (place.OnFailure j i) h = absurd cc
-    other p h = refl
-last_own k (f ∷ fs) h (file_stays e r) = rw (other f.place h.0, last_own k fs h.1 r) refl
-  where
-    other : (p : Place) → end_at p ≡ p ∷ [] → own_at k p ≡ []
-    other (place.OnFailure j i) h = absurd cc
-    other p h = refl
+last_own : (k : ℕ) {ps : List Place} {last : List RunEvent} → Each AtEnd ps → Removals ps last → own_removals_in k last ≡ []
+last_own k h all_removed = refl
+last_own k h (file_removed e r) = rw (not_own k _ h.0, last_own k h.1 r) refl
+last_own k h (file_stays e r) = rw (not_own k _ h.0, last_own k h.1 r) refl
 
 last_alone : {ps : List Place} {last : List RunEvent} → Removals ps last → list_any (λ e. not (is_removing e.step)) last ≡ false
 last_alone all_removed = refl
@@ -271,31 +208,16 @@ block_none lost = refl
 block_none (removed e) = refl
 block_none (stays e) = refl
 
-none_and : {X : Type 0} {xs ys : List X} → xs ≡ [] → ys ≡ [] → xs ++ ys ≡ []
-none_and {ys = ys} e h = rw (e, h) refl
-
-leads_none : {n N : ℕ} {job : ℕ → Job} {st x : ℕ → Left} {bs : List SourceBlock} → Leads n N job st bs x → end_removals_in (events_of (blocks_of bs)) ≡ []
+leads_none : {n N : ℕ} {job : ℕ → Job} {st x : ℕ → Left} {bs : List SourceBlock} → Leads n N job st bs x
+    → end_removals_in (events_of (blocks_of bs)) ≡ []
 leads_none no_more = refl
-leads_none (goes_on {b = b} {bs = bs} may g l) = flat_map-append (λ e. end_removal e.step) b (events_of (blocks_of bs)) ∙ none_and (block_none g) (leads_none l)
+leads_none (goes_on {b = b} {bs = bs} may g l) = flat_map-append (λ e. end_removal e.step) b (events_of (blocks_of bs))
+    ∙ none_and (block_none g) (leads_none l)
 
 story_none : {k : ℕ} {job : Job} {s : Left} {bs : List Block} → Story k job s bs → end_removals_in (events_of bs) ≡ []
 story_none over = refl
-story_none (next {b = b} {bs = bs} d t) = flat_map-append (λ e. end_removal e.step) b (events_of bs) ∙ none_and (block_none d) (story_none t)
-
-at_end : (xs : List Job) (y d : Job) → get_or (xs ++ y ∷ []) (length xs) d ≡ y
-at_end [] y d = refl
-at_end (x ∷ xs) y d = at_end xs y d
-
--- the link is not run, or it is the job of its number
-link_or : (plan : Plan) (E : List RunEvent) → (link_after plan E ≡ no_job) ⊎ (link_after plan E ≡ job_at plan (length plan.jobs))
-link_or plan E = by (list_any (λ e. failed e.answer) E) refl plan.link refl
-  where
-    by : (f : Bool) → list_any (λ e. failed e.answer) E ≡ f → (l : Option Job) → plan.link ≡ l
-        → (link_after plan E ≡ no_job) ⊎ (link_after plan E ≡ job_at plan (length plan.jobs))
-    by true e l is = inl (ap (λ (t : Bool). if t then no_job else unwrap_or plan.link no_job) e)
-    by false e None is = inl (ap (λ (t : Bool). if t then no_job else unwrap_or plan.link no_job) e ∙ ap (λ o. unwrap_or o no_job) is)
-    by false e (Some job) is = inr (ap (λ (t : Bool). if t then no_job else unwrap_or plan.link no_job) e ∙ ap (λ o. unwrap_or o no_job) is
-        ∙ sym (ap (λ o. get_or (plan.jobs ++ option_to_list o) (length plan.jobs) no_job) is ∙ at_end plan.jobs job no_job))
+story_none (next {b = b} {bs = bs} d t) = flat_map-append (λ e. end_removal e.step) b (events_of bs)
+    ∙ none_and (block_none d) (story_none t)
 
 pub removes_by_rule : (plan : Plan) (N : ℕ) (events : List RunEvent) → Windowed plan N events → RemovesByRule plan events
 removes_by_rule plan N events w = record {
@@ -305,15 +227,16 @@ removes_by_rule plan N events w = record {
   parts = w.events ∙ sym (append_assoc (events_of (blocks_of w.blocks)) (events_of w.link) w.last);
   none_before = flat_map-append (λ e. end_removal e.step) (events_of (blocks_of w.blocks)) (events_of w.link)
       ∙ none_and (leads_none w.leads) (story_none w.link_story);
-  at_end = last_end (each_once [] (filter (λ f. is_due (events_of (blocks_of w.blocks) ++ events_of w.link) f.place) (all_files plan))) files w.last_removals;
+  at_end = last_end files w.last_removals;
   alone = last_alone w.last_removals;
 }
   where
-    files : Each AtEnd (each_once [] (filter (λ f. is_due (events_of (blocks_of w.blocks) ++ events_of w.link) f.place) (all_files plan)))
-    files = once_each AtEnd [] _ (each_filter AtEnd _ (all_files plan) (files_end 0 (plan.jobs ++ option_to_list plan.link)))
+    files : Each AtEnd (due plan (events_of (blocks_of w.blocks) ++ events_of w.link))
+    files = due_each AtEnd plan (events_of (blocks_of w.blocks) ++ events_of w.link)
+        (all_each AtEnd plan (λ k i lt h. refl) (λ k i lt h. refl))
 
     quiet : (k : ℕ) → own_removals_in k w.last ≡ []
-    quiet k = last_own k (each_once [] (filter (λ f. is_due (events_of (blocks_of w.blocks) ++ events_of w.link) f.place) (all_files plan))) files w.last_removals
+    quiet k = last_own k files w.last_removals
 
     acts_quiet : (k : ℕ) → acts_in k w.last ≡ []
     acts_quiet k = quiet_last (acts_only k) (λ p x. refl) w.last_removals
@@ -323,9 +246,11 @@ removes_by_rule plan N events w = record {
         → own_removals_in k events ≡ own_removals_in k (events_of bs)
         → own_removals_in k events ≡ files_if (job_failed k events && has_start (acts_in k events)) k job
     rule k job bs t acts own = own ∙ job_rule k job bs t
-        ∙ sym (ap (λ t. files_if (t && has_start (acts_in k events)) k job) (failed_is k events) ∙ ap (λ l. files_if (has_fail l && has_start l) k job) acts)
+        ∙ sym (ap (λ t. files_if (t && has_start (acts_in k events)) k job) (failed_is k events)
+        ∙ ap (λ l. files_if (has_fail l && has_start l) k job) acts)
 
-    by : (k : ℕ) (t : Bool) → nat_lt k (length plan.jobs) ≡ t → k ≤ length plan.jobs → own_removals_in k events ≡ removed_by_job plan k events
+    by : (k : ℕ) (t : Bool) → nat_lt k (length plan.jobs) ≡ t → k ≤ length plan.jobs
+        → own_removals_in k events ≡ removed_by_job plan k events
     by k true e le =
         let lt : k < length plan.jobs = is_less k (length plan.jobs) e in
         rule k (source_at plan k) (of k w.blocks) (told w.leads w.ended k) (own_source (acts_only k) w (acts_quiet k) lt)
@@ -336,7 +261,8 @@ removes_by_rule plan N events w = record {
       where
         link : own_removals_in (length plan.jobs) events ≡ removed_by_job plan (length plan.jobs) events
         link = rule (length plan.jobs) (link_after plan (events_of (blocks_of w.blocks))) w.link w.link_story
-            (own_link (acts_only (length plan.jobs)) w (acts_quiet (length plan.jobs))) (own_link (removals_only (length plan.jobs)) w (quiet (length plan.jobs)))
+            (own_link (acts_only (length plan.jobs)) w (acts_quiet (length plan.jobs)))
+            (own_link (removals_only (length plan.jobs)) w (quiet (length plan.jobs)))
             ∙ same_files (link_or plan (events_of (blocks_of w.blocks)))
           where
             idle : {bs : List Block} → Story (length plan.jobs) no_job Over bs → acts_in (length plan.jobs) (events_of bs) ≡ []
@@ -347,9 +273,11 @@ removes_by_rule plan N events w = record {
                 ⊎ (link_after plan (events_of (blocks_of w.blocks)) ≡ job_at plan (length plan.jobs))
                 → files_if (job_failed (length plan.jobs) events && has_start (acts_in (length plan.jobs) events)) (length plan.jobs)
                 (link_after plan (events_of (blocks_of w.blocks))) ≡ removed_by_job plan (length plan.jobs) events
-            same_files (inr e) = ap (files_if (job_failed (length plan.jobs) events && has_start (acts_in (length plan.jobs) events)) (length plan.jobs)) e
+            same_files (inr e) = ap (files_if (job_failed (length plan.jobs) events && has_start (acts_in (length plan.jobs) events))
+                (length plan.jobs)) e
             same_files (inl e) =
-                let acts : acts_in (length plan.jobs) events ≡ [] = own_link (acts_only (length plan.jobs)) w (acts_quiet (length plan.jobs))
+                let acts : acts_in (length plan.jobs) events ≡ [] = own_link (acts_only (length plan.jobs)) w
+                (acts_quiet (length plan.jobs))
                 ∙ idle (subst (λ j. Story (length plan.jobs) j (begin_with j.groups) w.link) e w.link_story) in
                 let fine : job_failed (length plan.jobs) events ≡ false = failed_is (length plan.jobs) events ∙ ap has_fail acts in
                 rw fine refl

@@ -13,7 +13,8 @@ use Rattle.drv_words.specs.Places.{no_job}
 use Rattle.drv_words.specs.declared.answers.Answer.{Answer}
 use Rattle.drv_words.specs.declared.plan.Job.{Job}
 use Rattle.drv_words.specs.declared.plan.Plan.{Plan}
-use Rattle.std.proofs.Common.{◌≡◌, ◌<◌, ◌≤◌, ◌+◌, ◌∙◌, Bool, false, true, List, [], ◌∷◌, ◌++◌, None, Option, Some, ap, arith, drop, get_or, if◌then◌else◌}
+use Rattle.std.proofs.Common.{◌≡◌, ◌<◌, ◌≤◌, ◌+◌, ◌∙◌, Bool, false, true, List, [], ◌∷◌, ◌++◌, None, Option, Some, ap, arith, drop, get_or}
+use Rattle.std.proofs.Common.{if◌then◌else◌}
 use Rattle.std.proofs.Common.{length, nat_eq, refl, subst, suc, sym, unwrap_or, zero, ℕ}
 use Rattle.std.specs.Option.{option_to_list}
 use Rattle.std.specs.Vec.{vec_capacity}
@@ -21,7 +22,8 @@ use Rattle.std.specs.Vec.{vec_capacity}
 -- The room that a run of the code has.
 
 -- it depends on the sources, the link, and the room for events
-pub rooms_from : (plan : Plan) (v : RunState) (f : CodeFleet) (l : SourceState) (cap : ℕ) → v.fleet ≡ f → v.link ≡ l → vec_capacity v.events ≡ cap
+pub rooms_from : (plan : Plan) (v : RunState) (f : CodeFleet) (l : SourceState) (cap : ℕ) → v.fleet ≡ f
+    → v.link ≡ l → vec_capacity v.events ≡ cap
     → length f.sources.items ≡ length plan.jobs → AllInRoom plan.jobs f.sources.items → f.window < vec_capacity f.begun
     → InRoom (link_job plan) l → needed plan ≤ cap → Rooms plan v
 rooms_from plan v f l cap fleets links caps many rooms begun link fits = record {
@@ -39,7 +41,11 @@ Same f g = (g.window ≡ f.window) × (g.room ≡ f.room)
 opened_same : (jobs : List Job) (f : Fleet) → Same f (opened jobs f)
 opened_same jobs f = by (nat_eq f.current f.next)
   where
-    by : (t : Bool) → Same f (if t then record f { begun = f.begun ++ f.current ∷ []; next = first_busy (f.current + 1) (drop (f.current + 1) jobs) } else f)
+    by : (t : Bool) → Same f (if t then record f {
+      begun = f.begun ++ f.current ∷ [];
+      next =
+          first_busy (f.current + 1) (drop (f.current + 1) jobs);
+    } else f)
     by true = (refl, refl)
     by false = (refl, refl)
 

@@ -3,11 +3,13 @@ use Rattle.drv_core.proofs.Finish.{blocks_append, each_beginning_ends}
 use Rattle.drv_core.proofs.OneWay.{first_source, head, no_more as none_after, same_step}
 use Rattle.drv_core.proofs.Whole.{Rest, number, same_stages, splits}
 use Rattle.drv_core.specs.Choices.{BetweenBlocks}
-use Rattle.drv_core.specs.Code.Machine.{At, ClaimReport, Closing, Group, In, Inside, Opens, RemovalReport, StartReport, Took, Turn, WaitReport}
+use Rattle.drv_core.specs.Code.Machine.{At, ClaimReport, Closing, Group, In, Inside, Opens, RemovalReport, StartReport, Took, Turn}
+use Rattle.drv_core.specs.Code.Machine.{WaitReport}
 use Rattle.drv_core.specs.Code.Machine.{asked, closed, is_kind, opened, took}
 use Rattle.drv_core.specs.Events.{Block, event, events_of}
 use Rattle.drv_core.specs.Story.{Goes, Kid, Left, Over}
-use Rattle.drv_core.specs.Windowed.{IsBeginning, Leads, MayCome, SourceBlock, Windowed, begins, blocks_of, goes_on as step_on, is_left, no_more, put}
+use Rattle.drv_core.specs.Windowed.{IsBeginning, Leads, MayCome, SourceBlock, Windowed, begins, blocks_of, goes_on as step_on, is_left}
+use Rattle.drv_core.specs.Windowed.{no_more, put}
 use Rattle.drv_core.specs.Windowed.{source_at}
 use Rattle.drv_words.specs.declared.answers.Answer.{Answer}
 use Rattle.drv_words.specs.declared.answers.Answer.TheVariants as answer
@@ -101,7 +103,8 @@ pub begins_by : {plan : Plan} {N : ℕ} {E : List RunEvent} (A b o : List RunEve
     → IsBeginning plan N E
 begins_by {plan = plan} {N = N} {E = E} A b o is all = record {
   rest = b ++ all.rest;
-  whole = subst (λ l. Windowed plan N l) (ap (λ l. l ++ all.rest) (sym (append_assoc A o b) ∙ ap (λ l. l ++ b) (sym is)) ∙ append_assoc E b all.rest) all.whole;
+  whole = subst (λ l. Windowed plan N l) (ap (λ l. l ++ all.rest) (sym (append_assoc A o b) ∙ ap (λ l. l ++ b) (sym is))
+      ∙ append_assoc E b all.rest) all.whole;
 }
 
 -- also within a block
@@ -115,7 +118,8 @@ sources_begin {plan = plan} {A = A} {st = st} {k = k} one w may (opened {e = x} 
 -- Where the events are whole blocks of the sources.
 
 -- no block begins an open one
-open_no_block : {k : ℕ} {job : Job} {s m : Left} {o c : Block} {p : Inside} (F : Block) → Opens k job s o p → Goes k job s c m → o ≡ c ++ F → ⊥
+open_no_block : {k : ℕ} {job : Job} {s m : Left} {o c : Block} {p : Inside} (F : Block) → Opens k job s o p
+    → Goes k job s c m → o ≡ c ++ F → ⊥
 open_no_block {k = k} {job = job} {s = s} {o = o} {c = c} {p = p} F h g e =
     let end : Shut k job s o = shut p h in
     none_left F end.e end.rest (same_step {E = []} {F = F ++ end.e ∷ end.rest} end.goes g (append-nil (o ++ end.e ∷ end.rest)

@@ -1,26 +1,26 @@
 use Rattle.drv_core.proofs.Bounds.{bounded}
 use Rattle.drv_core.proofs.Counting.{same}
-use Rattle.drv_core.proofs.Courses.{Further, NextStep, On, OnAt, done_whole, first_step, fresh_on, goes_further, on_begins, stepped_on, unfinished}
+use Rattle.drv_core.proofs.Courses.{Further, NextStep, On, OnAt, done_whole, first_step, fresh_on, goes_further, grows, on_begins}
+use Rattle.drv_core.proofs.Courses.{stepped_on, unfinished}
 use Rattle.drv_core.proofs.Ending.{LinkAt, LinkOn}
 use Rattle.drv_core.proofs.Finish.{Fails, Told, begun_after, clash, fails, still, tells}
 use Rattle.drv_core.proofs.Going.{able_is}
 use Rattle.drv_core.proofs.Listed.{Is, listed_length}
 use Rattle.drv_core.proofs.OneWay.{no_more as none_after}
 use Rattle.drv_core.proofs.Possible.{all_possible, none_pending}
-use Rattle.drv_core.proofs.Rooms.{taken_same}
 use Rattle.drv_core.proofs.Running.{Whole, between_is, not_after, not_inside, shut}
 use Rattle.drv_core.proofs.Shown.{some_left}
 use Rattle.drv_core.proofs.Sources.{SourcesOn, pick}
 use Rattle.drv_core.specs.Choices.{BetweenBlocks, ChoicesAre, IsNextOf, may_go_on}
-use Rattle.drv_core.specs.Code.Course.{Course, Done, Link, Phase, Removals, Report, Sources, after_link, after_sources, asked_by, between, between_at}
-use Rattle.drv_core.specs.Code.Course.{choices_of, choosing, link_job, linking, removing, sourced, stays_there, stepped, stepped_at}
+use Rattle.drv_core.specs.Code.Course.{Course, Done, Link, Phase, Removals, Report, Sources, asked_by, between, between_at}
+use Rattle.drv_core.specs.Code.Course.{choices_of, choosing, stepped}
 use Rattle.drv_core.specs.Code.CourseView.{Ready, ReadyAt, Rooms, Unswept, course_of, phase_of}
-use Rattle.drv_core.specs.Code.Fleet.{Fleet, able, selected, taken}
-use Rattle.drv_core.specs.Code.Machine.{At, Out, Turn, asked, closed, is_kind, opened, took}
+use Rattle.drv_core.specs.Code.Fleet.{Fleet, able, selected}
+use Rattle.drv_core.specs.Code.Machine.{At, Out, Turn, asked, closed, is_kind, opened}
 use Rattle.drv_core.specs.Code.Reached.{Reached, after_answer, after_choice, at_first}
 use Rattle.drv_core.specs.Code.RunView.{Kept, run_of}
 use Rattle.drv_core.specs.Code.Turns.{is_inside, is_left as more_left}
-use Rattle.drv_core.specs.Codes.{greatest_code, status_of}
+use Rattle.drv_core.specs.Codes.{status_of}
 use Rattle.drv_core.specs.Needed.{needed}
 use Rattle.drv_core.specs.Events.{Block, event, events_of, none}
 use Rattle.drv_core.specs.Run.{IfDone, IfMake, action_of}
@@ -37,7 +37,8 @@ use Rattle.drv_words.specs.declared.plan.Job.{Job}
 use Rattle.drv_words.specs.declared.plan.Plan.{Plan}
 use Rattle.drv_words.specs.declared.steps.RunEvent.{RunEvent}
 use Rattle.drv_words.specs.declared.steps.Step.{Step}
-use Rattle.std.proofs.Common.{◌≡◌, ◌<◌, ◌≤◌, ◌∙◌, Bool, false, true, List, [], ◌∷◌, ◌++◌, None, Option, Some, ap, append-nil, append_assoc, arith, drop, if◌then◌else◌, length, nat_eq, not, refl}
+use Rattle.std.proofs.Common.{◌≡◌, ◌<◌, ◌≤◌, ◌∙◌, Bool, false, true, List, [], ◌∷◌, ◌++◌, None, Option, Some, ap, append-nil, append_assoc}
+use Rattle.std.proofs.Common.{arith, if◌then◌else◌, length, nat_eq, not, refl}
 use Rattle.std.proofs.Common.{subst, suc, sym, unwrap_or, ℕ}
 use Rattle.std.proofs.lemmas.List.{length-append}
 use Rattle.std.specs.Vec.{vec_capacity}
@@ -126,12 +127,14 @@ able_count : {plan : Plan} {N i : ℕ} {f : Fleet} {E : List RunEvent} (s : Sour
 able_count {plan = plan} {N = N} s e = ap (λ (l : List ℕ). length l) (able_is s.tallied (block_of s e).turns)
     ∙ listed_length (length plan.jobs) (may_go_on (length plan.jobs) N s.st)
 
-pub chosen_on : {plan : Plan} {N i : ℕ} (c : Course) (k : ℕ) → On plan N c i → k < choices_of plan c → between c ≡ true → On plan N (choosing c k) k
+pub chosen_on : {plan : Plan} {N i : ℕ} (c : Course) (k : ℕ) → On plan N c i → k < choices_of plan c
+    → between c ≡ true → On plan N (choosing c k) k
 chosen_on {plan = plan} {N = N} {i = i} c k h lt e = by c.phase h.at e lt
   where
     by : (p : Phase) → OnAt plan N p c i → between_at p c.fleet ≡ true → k < choices_of plan (record c { phase = p })
         → On plan N (choosing (record c { phase = p }) k) k
-    by Sources s e lt = subst (λ t. On plan N (if t then record c { phase = Sources; fleet = selected c.fleet k } else record c { phase = Sources }) k) (sym e)
+    by Sources s e lt = subst
+        (λ t. On plan N (if t then record c { phase = Sources; fleet = selected c.fleet k } else record c { phase = Sources }) k) (sym e)
         (record {
           at = (
             pick c.fleet (block_of s.0 out).whole s.0.keep s.0.tallied (block_of s.0 out).turns k
@@ -171,7 +174,8 @@ choices_are {plan = plan} {N = N} {i = i} c h = by (between c) refl
       where
         at : (p : Phase) → OnAt plan N p c i → between_at p c.fleet ≡ true → ChoicesAre plan N c.events (length (able plan.jobs c.fleet))
         at Sources s e = record {
-          counted = λ b. able_count s.0 out ∙ ap (λ st. count (length plan.jobs) (may_go_on (length plan.jobs) N st)) (between_is (block_of s.0 out).whole b);
+          counted = λ b. able_count s.0 out ∙ ap (λ st. count (length plan.jobs) (may_go_on (length plan.jobs) N st))
+              (between_is (block_of s.0 out).whole b);
           elsewhere = λ none. absurd (none (between_of s.0 out));
         }
           where
@@ -183,14 +187,16 @@ choices_are {plan = plan} {N = N} {i = i} c h = by (between c) refl
         at Done d e = absurd cc
 
 -- the source in progress is number i of them
-pub is_nth : {plan : Plan} {N i : ℕ} (c : Course) → On plan N c i → (b : BetweenBlocks plan N c.events) → IsNextOf plan N c.events b i (asked_by plan c)
+pub is_nth : {plan : Plan} {N i : ℕ} (c : Course) → On plan N c i → (b : BetweenBlocks plan N c.events)
+    → IsNextOf plan N c.events b i (asked_by plan c)
 is_nth {plan = plan} {N = N} {i = i} c h b = by (between c) refl
   where
     by : (t : Bool) → between c ≡ t → IsNextOf plan N c.events b i (asked_by plan c)
     by false e = absurd (not_between c h e b)
     by true e = at c.phase h.at e
       where
-        at : (p : Phase) → OnAt plan N p c i → between_at p c.fleet ≡ true → IsNextOf plan N c.events b i (asked_by plan (record c { phase = p }))
+        at : (p : Phase) → OnAt plan N p c i → between_at p c.fleet ≡ true
+            → IsNextOf plan N c.events b i (asked_by plan (record c { phase = p }))
         at Sources s e = record {
           source = c.fleet.current;
           in_range = is.below;
@@ -211,7 +217,8 @@ is_nth {plan = plan} {N = N} {i = i} c h b = by (between c) refl
             stages = between_is (block_of s.0 out).whole b
 
             next : NextStep c.fleet.current (asked c.fleet.current (source_at plan c.fleet.current) (Out (s.0.st c.fleet.current)))
-            next = first_step c.fleet.current (source_at plan c.fleet.current) (s.0.st c.fleet.current) (s.0.keep.sound c.fleet.current) s.0.left
+            next = first_step c.fleet.current (source_at plan c.fleet.current) (s.0.st c.fleet.current)
+                (s.0.keep.sound c.fleet.current) s.0.left
         at Link l e = absurd cc
         at Removals d e = absurd cc
         at Report t e = absurd cc
@@ -220,7 +227,8 @@ is_nth {plan = plan} {N = N} {i = i} c h b = by (between c) refl
 -- What the code relies on.
 
 -- a link that is not there has nothing to do
-link_idle : {plan : Plan} {N : ℕ} {E A : List RunEvent} {t : Turn} → LinkOn plan N E A t → link_after plan A ≡ no_job → more_left t ≡ true → ⊥
+link_idle : {plan : Plan} {N : ℕ} {E A : List RunEvent} {t : Turn} → LinkOn plan N E A t → link_after plan A ≡ no_job
+    → more_left t ≡ true → ⊥
 link_idle {plan = plan} {N = N} {A = A} l idle e = by l.link l.at e
   where
     empty : {bs : List Block} → Story (length plan.jobs) no_job Over bs → bs ≡ []
@@ -240,7 +248,8 @@ link_idle {plan = plan} {N = N} {A = A} l idle e = by l.link l.at e
 
     by : {B : List RunEvent} {s : Left} {o : Block} {t : Turn} → LinkAt plan N B A s → At (length plan.jobs) (link_after plan A) s o t
         → more_left t ≡ true → ⊥
-    by {s = s} k closed e = let f : Fails (length plan.jobs) (link_after plan A) s = fails (length plan.jobs) (link_after plan A) s k.sound e in all k f.goes
+    by {s = s} k closed e = let f : Fails (length plan.jobs) (link_after plan A) s =
+        fails (length plan.jobs) (link_after plan A) s k.sound e in all k f.goes
     by k (opened {e = x} {o = o} {p = p} h) e = all k (shut p h).goes
 
 pub is_ready : (plan : Plan) (w : RunState) → Kept plan w → Ready plan w
@@ -263,44 +272,9 @@ is_ready plan w k = by w.phase (reached_on k.one k.reached).on.at
     by code.Report t = some_left w.leftovers.at w.leftovers.due.items (ap none t.due)
     by code.Done d = tt
 
--- the run keeps its window
-linking_fleet : (plan : Plan) (c : Course) → (linking plan c).fleet ≡ c.fleet
-linking_fleet plan c = by (more_left c.link)
-  where
-    by : (t : Bool) → (if t then record c { phase = Link } else after_link plan c).fleet ≡ c.fleet
-    by true = refl
-    by false = refl
-
-pub sourced_fleet : (plan : Plan) (c : Course) → (sourced plan c).fleet ≡ c.fleet
-sourced_fleet plan c = by (nat_eq c.fleet.unended 0)
-  where
-    by : (t : Bool) → (if t then after_sources plan c else c).fleet ≡ c.fleet
-    by true = after (nat_eq (greatest_code c.events) 0)
-      where
-        after : (t : Bool) → (if t then linking plan c else after_link plan c).fleet ≡ c.fleet
-        after true = linking_fleet plan c
-        after false = refl
-    by false = refl
-
-stepped_window : (plan : Plan) (c : Course) (q : Step) (x : Answer) → (stepped plan c q x).fleet.window ≡ c.fleet.window
-stepped_window plan c q x = by c.phase
-  where
-    new : Course
-    new = record c { events = c.events ++ event q x ∷ [] }
-
-    by : (p : Phase) → (stepped_at plan p new x).fleet.window ≡ c.fleet.window
-    by Sources = ap (λ f. f.window) (sourced_fleet plan (record new { fleet = taken plan.jobs c.fleet x })) ∙ (taken_same plan.jobs c.fleet x).0
-    by Link = ap (λ f. f.window) (linking_fleet plan (record new { link = took (link_job plan) c.link x }))
-    by Removals = gone (stays_there x)
-      where
-        gone : (t : Bool) → (if t then record new { phase = Report } else removing new (drop 1 c.due)).fleet.window ≡ c.fleet.window
-        gone true = refl
-        gone false = refl
-    by Report = refl
-    by Done = refl
-
 -- fewer events than a run has at most
-fewer : (plan : Plan) (w : RunState) (q : Step) → Kept plan w → asked_by plan (course_of plan w) ≡ Some q → length w.events.items < needed plan
+fewer : (plan : Plan) (w : RunState) (q : Step) → Kept plan w → asked_by plan (course_of plan w) ≡ Some q
+    → length w.events.items < needed plan
 fewer plan w q k is = by (goes_further (course_of plan w) k.one (reached_on k.one k.reached).on is)
   where
     by : Further plan w.fleet.window w.events.items q → length w.events.items < needed plan
@@ -317,7 +291,7 @@ room_at plan w q k is = let few = fewer plan w q k is in let room = k.rooms.even
 -- after an answer the same is known, and the window is the same
 pub same_window : (plan : Plan) (w v : RunState) (q : Step) (x : Answer) → course_of plan v ≡ stepped plan (course_of plan w) q x
     → v.fleet.window ≡ w.fleet.window
-same_window plan w v q x to = ap (λ c. c.fleet.window) to ∙ stepped_window plan (course_of plan w) q x
+same_window plan w v q x to = ap (λ c. c.fleet.window) to ∙ (grows plan (course_of plan w) q x).1
 
 pub answered : (plan : Plan) (w v : RunState) (q : Step) (x : Answer) → Kept plan w → asked_by plan (course_of plan w) ≡ Some q
     → is_kind q x ≡ true → course_of plan v ≡ stepped plan (course_of plan w) q x → Rooms plan v → Unswept plan v → Kept plan v
@@ -363,7 +337,8 @@ knows_at plan pass_codes w a k is = subst (λ a. Knows plan pass_codes w.fleet.w
     }
       where
         can : Further plan w.fleet.window w.events.items q → can_make plan w.events.items q ≡ true
-        can f = all_possible plan w.fleet.window (w.events.items ++ event q f.x ∷ f.rest) k.filled f.whole w.events.items (event q f.x) f.rest refl
+        can f = all_possible plan w.fleet.window (w.events.items ++ event q f.x ∷ f.rest) k.filled f.whole w.events.items
+            (event q f.x) f.rest refl
     by None e = record {
       beginning = on_begins (course_of plan w) k.one h;
       possible = tt;

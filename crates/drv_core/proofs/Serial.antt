@@ -2,7 +2,8 @@ use Rattle.drv_core.proofs.Counting.{count_none, count_other, count_some, is_les
 use Rattle.drv_core.specs.Events.{Block}
 use Rattle.drv_core.specs.Serial.{blocks_with, by_source}
 use Rattle.drv_core.specs.Story.{Fresh, Goes, Left, Over, Story, Waits, begin, begin_with, next, over}
-use Rattle.drv_core.specs.Windowed.{Leads, MayCome, SourceBlock, begins, count, goes_on, is_flying, is_fresh, is_left, is_under_way, no_more, of}
+use Rattle.drv_core.specs.Windowed.{Leads, MayCome, SourceBlock, begins, count, goes_on, is_flying, is_fresh, is_left, is_under_way}
+use Rattle.drv_core.specs.Windowed.{no_more, of}
 use Rattle.drv_core.specs.Windowed.{put, source_at}
 use Rattle.drv_words.specs.Places.{no_job}
 use Rattle.drv_words.specs.declared.plan.Command.{Command}
@@ -21,7 +22,8 @@ pub told : {n N : ℕ} {job : ℕ → Job} {st end : ℕ → Left} {bs : List So
 told {job = job} {st = st} no_more ended k = subst (λ s. Story k (job k) s []) (sym (ended k)) over
 told {job = job} {st = st} (goes_on {k = i} {b = b} {m = m} {bs = bs} may g rest) ended k = by (nat_eq i k) refl (told rest ended k)
   where
-    by : (t : Bool) → nat_eq i k ≡ t → Story k (job k) (if t then m else st k) (of k bs) → Story k (job k) (st k) (if t then b ∷ of k bs else of k bs)
+    by : (t : Bool) → nat_eq i k ≡ t → Story k (job k) (if t then m else st k) (of k bs)
+        → Story k (job k) (st k) (if t then b ∷ of k bs else of k bs)
     by true e s = next (subst (λ x. Goes x (job x) (st x) b m) (same i k e) g) s
     by false e s = s
 
@@ -55,9 +57,11 @@ may : (n : ℕ) (st : ℕ → Left) (k : ℕ) → k < n → Alone st k → MayCo
 may n st k lt a = record {
   is_source = lt;
   in_order = λ e j below. rw (a.earlier j below) refl;
-  in_window = λ e. (let none : count n (λ j. is_under_way (st j)) ≡ 0 = count_none n (λ j. is_under_way (st j)) (λ j below. idle e j (nat_eq k j) refl) in
+  in_window = λ e. (let none : count n (λ j. is_under_way (st j)) ≡ 0 = count_none n (λ j. is_under_way (st j))
+      (λ j below. idle e j (nat_eq k j) refl) in
       omega (arith, none));
-  all_fly = λ e. (let most : count n (λ j. is_flying (st j)) ≤ 1 = count_other n k (λ j. is_flying (st j)) (λ j other. idle_lands (st j) (a.others j (turn j other))) in
+  all_fly = λ e. (let most : count n (λ j. is_flying (st j)) ≤ 1 = count_other n k (λ j. is_flying (st j))
+      (λ j other. idle_lands (st j) (a.others j (turn j other))) in
       let least : 1 ≤ count n (λ j. is_flying (st j)) = count_some n k (λ j. is_flying (st j)) lt e in
       let some : 1 ≤ count n (λ j. is_left (st j)) = count_some n k (λ j. is_left (st j)) lt (flying_left (st k) e) in
       omega (arith, most, least, some));
@@ -94,7 +98,8 @@ walk : {n k : ℕ} {job : ℕ → Job} {s : Left} {bs : List Block} → Story k 
     → Ran n 1 job st (blocks_with k bs ++ after)
 walk over st is lt a after go = go st (sym is) (λ j e. refl)
 walk {n = n} {k = k} {job = job} (next {m = m} {b = b} g s) st is lt a after go =
-    ran_more (may n st k lt a) (subst (λ x. Goes k (job k) x b m) is g) (walk s (put st k m) (sym (put_here st k m)) lt (alone_put m a) after
+    ran_more (may n st k lt a) (subst (λ x. Goes k (job k) x b m) is g)
+    (walk s (put st k m) (sym (put_here st k m)) lt (alone_put m a) after
     (λ new end same_rest. go new end (λ j e. same_rest j e ∙ put_other st k m j e)))
 
 -- the sources before k have ended, and none is under way
@@ -144,7 +149,8 @@ begin_beyond (job ∷ jobs) zero le = absurd (omega (arith, le))
 begin_beyond (job ∷ jobs) (suc j) le = begin_beyond jobs j (omega (arith, le))
 
 -- the sources of a run, source by source
-pub serial_runs : (plan : Plan) {N : ℕ} {bs : List SourceBlock} {ends : ℕ → Left} → Leads (length plan.jobs) N (source_at plan) (begins plan) bs ends
+pub serial_runs : (plan : Plan) {N : ℕ} {bs : List SourceBlock} {ends : ℕ → Left}
+    → Leads (length plan.jobs) N (source_at plan) (begins plan) bs ends
     → ((k : ℕ) → ends k ≡ Over) → Ran (length plan.jobs) 1 (source_at plan) (begins plan) (by_source 0 (length plan.jobs) bs)
 serial_runs plan {bs = bs} l ended = walks bs 0 (length plan.jobs) (begins plan) (omega arith) (record {
   stories = λ j le. told l ended j;

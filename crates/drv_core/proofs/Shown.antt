@@ -4,7 +4,8 @@ use Rattle.drv_words.specs.declared.steps.Note.TheVariants as note
 use Rattle.drv_words.specs.declared.steps.Place.{Place}
 use Rattle.drv_words.specs.declared.steps.Step.{Step}
 use Rattle.drv_words.specs.declared.steps.Step.TheVariants as step
-use Rattle.std.proofs.Common.{◌≡◌, ◌<◌, ◌+◌, ◌∙◌, false, true, List, [], ◌∷◌, None, Option, Some, ap, arith, drop, length, refl, suc, sym, zero, ℕ}
+use Rattle.std.proofs.Common.{◌≡◌, ◌<◌, ◌+◌, ◌∙◌, false, true, List, [], ◌∷◌, None, Option, Some, ap, arith, drop, length, refl, suc, sym}
+use Rattle.std.proofs.Common.{zero, ℕ}
 use Rattle.std.proofs.lemmas.Option.{slice_get_past}
 use Rattle.std.specs.Prelude.{slice_get}
 

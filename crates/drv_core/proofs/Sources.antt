@@ -1,11 +1,12 @@
 use Rattle.drv_core.proofs.Counting.{count_none}
-use Rattle.drv_core.proofs.Finish.{Keeps, begun_after, clash, keeps_more}
+use Rattle.drv_core.proofs.Finish.{Keeps, begun_after, clash, keeps_first, keeps_more}
 use Rattle.drv_core.proofs.Going.{Tallied, chosen_is, counted, first_is, fresh_is, may_come, some_may}
 use Rattle.drv_core.proofs.Listed.{Is, listed_below}
 use Rattle.drv_core.proofs.Running.{Whole, at_open, at_takes, whole_more}
-use Rattle.drv_core.proofs.Serial.{begin_beyond, begin_idle}
+use Rattle.drv_core.proofs.Serial.{begin_idle}
 use Rattle.drv_core.specs.Choices.{may_go_on}
-use Rattle.drv_core.specs.Code.Fleet.{Fleet, asked_of, busy, closed, ended, first_busy, fresh_fleet, going, opened, selected, settled, taken, turn_put, turned}
+use Rattle.drv_core.specs.Code.Fleet.{Fleet, asked_of, busy, closed, ended, first_busy, fresh_fleet, going, opened, selected, settled}
+use Rattle.drv_core.specs.Code.Fleet.{taken, turn_put, turned}
 use Rattle.drv_core.specs.Code.Machine.{At, In, Out, Took, Turn, closed as at_block, is_kind, took}
 use Rattle.drv_core.specs.Code.Turns.{is_inside, is_left as more_left}
 use Rattle.drv_core.specs.Events.{Block, event, none}
@@ -18,7 +19,8 @@ use Rattle.drv_words.specs.declared.plan.Job.{Job}
 use Rattle.drv_words.specs.declared.plan.Plan.{Plan}
 use Rattle.drv_words.specs.declared.steps.RunEvent.{RunEvent}
 use Rattle.drv_words.specs.declared.steps.Step.{Step}
-use Rattle.std.proofs.Common.{◌≡◌, ◌<◌, ◌≤◌, ◌+◌, ◌∙◌, ◌⊎◌, Bool, false, true, List, [], ◌∷◌, ◌++◌, Some, ap, append-nil, append_assoc, arith, drop}
+use Rattle.std.proofs.Common.{◌≡◌, ◌<◌, ◌≤◌, ◌+◌, ◌∙◌, ◌⊎◌, Bool, false, true, List, [], ◌∷◌, ◌++◌, Some, ap, append-nil, append_assoc}
+use Rattle.std.proofs.Common.{arith, drop}
 use Rattle.std.proofs.Common.{get_or, if◌then◌else◌, inl, inr, length, nat_eq, not, refl, subst, suc, sym, zero, ℕ}
 use Rattle.std.proofs.lemmas.Cmp.{nat_eq_equiv}
 use Rattle.std.specs.List.{filter}
@@ -63,7 +65,11 @@ same_tally turns current t = record {
 turns_opened : (jobs : List Job) (f : Fleet) → (opened jobs f).turns ≡ f.turns
 turns_opened jobs f = by (nat_eq f.current f.next)
   where
-    by : (t : Bool) → (if t then record f { begun = f.begun ++ f.current ∷ []; next = first_busy (f.current + 1) (drop (f.current + 1) jobs) } else f).turns ≡ f.turns
+    by : (t : Bool) → (if t then record f {
+      begun = f.begun ++ f.current ∷ [];
+      next =
+          first_busy (f.current + 1) (drop (f.current + 1) jobs);
+    } else f).turns ≡ f.turns
     by true = refl
     by false = refl
 
@@ -163,10 +169,12 @@ sources_take {plan = plan} {N = N} {f = f} {E = E} {q = q} x one s is e = by (to
         }))
     by (Out m) t g = subst (λ c. SourcesOn plan N c (E ++ event q x ∷ []) 0 ⊎ SourcesOver plan N c (E ++ event q x ∷ []))
         (sym (ap (λ u. settled plan.jobs (with u)) t ∙ inside (Out m) false refl))
-        (subst (λ l. SourcesOn plan N (turned plan.jobs (with (Out m))) l 0 ⊎ SourcesOver plan N (turned plan.jobs (with (Out m))) l) (sym events)
+        (subst (λ l. SourcesOn plan N (turned plan.jobs (with (Out m))) l 0 ⊎ SourcesOver plan N (turned plan.jobs (with (Out m))) l)
+        (sym events)
         (choose (closed (opened plan.jobs (with (Out m)))) one (whole_more s.whole s.may g) (keeps_more s.keep s.may g)
         (counted (same_tally (turn_put f.turns f.current (Out m)) f.current s.tallied) s.may s.left (begun_after g) refl (here (Out m)))
-        (λ j. ap (λ (tn : ℕ → Turn). tn j) (turns_closed (opened plan.jobs (with (Out m))) ∙ turns_opened plan.jobs (with (Out m))) ∙ all j (nat_eq f.current j) refl)))
+        (λ j. ap (λ (tn : ℕ → Turn). tn j) (turns_closed (opened plan.jobs (with (Out m))) ∙ turns_opened plan.jobs (with (Out m)))
+        ∙ all j (nat_eq f.current j) refl)))
       where
         all : (j : ℕ) (u : Bool) → nat_eq f.current j ≡ u → turn_put f.turns f.current (Out m) j ≡ Out (put s.st f.current m j)
         all j true e = rw e refl
@@ -180,7 +188,8 @@ count_first (suc n) p = let ih = count_first n p in omega (arith, ih)
 
 busy_count : (jobs : List Job) → length (filter busy jobs) ≡ count (length jobs) (λ j. is_left (begin (get_or jobs j no_job)))
 busy_count [] = refl
-busy_count (job ∷ jobs) = by job.groups (busy_count jobs) ∙ sym (count_first (length jobs) (λ j. is_left (begin (get_or (job ∷ jobs) j no_job))))
+busy_count (job ∷ jobs) = by job.groups (busy_count jobs)
+    ∙ sym (count_first (length jobs) (λ j. is_left (begin (get_or (job ∷ jobs) j no_job))))
   where
     by : (gs : List (List Command)) → length (filter busy jobs) ≡ count (length jobs) (λ j. is_left (begin (get_or jobs j no_job)))
         → length (if not (none gs) then job ∷ filter busy jobs else filter busy jobs)
@@ -188,9 +197,11 @@ busy_count (job ∷ jobs) = by job.groups (busy_count jobs) ∙ sym (count_first
     by [] ih = omega (arith, ih)
     by (c ∷ gs) ih = omega (arith, ih)
 
-pub sources_start : (plan : Plan) (N : ℕ) → 1 ≤ N → SourcesOn plan N (fresh_fleet plan.jobs N) [] 0 ⊎ SourcesOver plan N (fresh_fleet plan.jobs N) []
+pub sources_start : (plan : Plan) (N : ℕ) → 1 ≤ N → SourcesOn plan N (fresh_fleet plan.jobs N) [] 0
+    ⊎ SourcesOver plan N (fresh_fleet plan.jobs N) []
 sources_start plan N one = subst (λ g. SourcesOn plan N g [] 0 ⊎ SourcesOver plan N g []) first
-    (choose {st = begins plan} (fresh_fleet plan.jobs N) one (record { blocks = []; leads = no_more; events = refl }) keeps tally (λ j. refl))
+    (choose {st = begins plan} (fresh_fleet plan.jobs N) one (record { blocks = []; leads = no_more; events = refl })
+    (keeps_first plan N) tally (λ j. refl))
   where
     facts : (0 ≤ first_busy 0 plan.jobs) × (first_busy 0 plan.jobs ≤ 0 + length plan.jobs)
         × ((j : ℕ) → 0 ≤ j → j < first_busy 0 plan.jobs → none (source_at plan j).groups ≡ true)
@@ -200,16 +211,10 @@ sources_start plan N one = subst (λ g. SourcesOn plan N g [] 0 ⊎ SourcesOver 
     first : selected (fresh_fleet plan.jobs N) 0 ≡ fresh_fleet plan.jobs N
     first = refl
 
-    keeps : Keeps (length plan.jobs) N (source_at plan) (begins plan)
-    keeps = record {
-      window = (let idle = count_none (length plan.jobs) (λ j. is_under_way (begins plan j)) (λ j lt. begin_idle (source_at plan j)) in omega (arith, idle));
-      sound = λ j e. e;
-      beyond = λ j le. begin_beyond plan.jobs j le;
-    }
-
     tally : Tallied plan.jobs N (begins plan) (fresh_fleet plan.jobs N)
     tally = record {
-      begun = sym (listed_below (length plan.jobs) 0 (λ j. is_under_way (begins plan j)) (omega arith) (λ j le lt. begin_idle (source_at plan j)));
+      begun = sym (listed_below (length plan.jobs) 0 (λ j. is_under_way (begins plan j)) (omega arith)
+          (λ j le lt. begin_idle (source_at plan j)));
       unended = busy_count plan.jobs;
       window = refl;
       next_in = (let most = facts.1 in omega (arith, most));

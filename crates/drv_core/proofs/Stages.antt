@@ -6,7 +6,8 @@ use Rattle.drv_words.specs.declared.answers.Answer.TheVariants as answer
 use Rattle.drv_words.specs.declared.answers.StartAnswer.TheVariants as start
 use Rattle.drv_words.specs.declared.plan.Command.{Command}
 use Rattle.drv_words.specs.declared.plan.Job.{Job}
-use Rattle.std.proofs.Common.{◌≡◌, ◌<◌, ◌≤◌, ◌+◌, ◌-◌, ◌∙◌, Bool, false, true, List, [], ◌∷◌, ◌++◌, ap, arith, drop, get_or, length, nat_eq, nat_lt}
+use Rattle.std.proofs.Common.{◌≡◌, ◌<◌, ◌≤◌, ◌+◌, ◌-◌, ◌∙◌, Bool, false, true, List, [], ◌∷◌, ◌++◌, ap, arith, drop, get_or, length, nat_eq}
+use Rattle.std.proofs.Common.{nat_lt}
 use Rattle.std.proofs.Common.{refl, suc, sym, zero, ℕ}
 use Rattle.std.proofs.lemmas.Bool.Decides.{nat_tests}
 use Rattle.std.proofs.lemmas.List.{drop_more}
@@ -43,7 +44,8 @@ kids_on i n [] lt = absurd (omega (arith, lt))
 kids_on i zero (id ∷ ids) lt = ap (λ m. record { member = m; id = id } ∷ kids_from (i + 1) ids) (omega arith)
 kids_on i (suc n) (id ∷ ids) lt = kids_on (i + 1) n ids (omega (arith, lt))
     ∙ ap (λ m. record { member = m; id = get_or ids n 0 } ∷ drop (n + 1) (kids_from (i + 1) ids)) (omega arith)
-    ∙ ap (λ m. record { member = i + suc n; id = get_or ids n 0 } ∷ drop m (kids_from i (id ∷ ids))) (let e : suc (n + 1) ≡ suc n + 1 = omega arith in e)
+    ∙ ap (λ m. record { member = i + suc n; id = get_or ids n 0 } ∷ drop m (kids_from i (id ∷ ids)))
+    (let e : suc (n + 1) ≡ suc n + 1 = omega arith in e)
 
 pub waits_on : (job : Job) (g i : ℕ) (fault : Bool) (ids : List ℕ) (gs : List (List Command)) → i < length ids
     → to_waits job g fault (drop i (kids_from 0 ids)) gs ≡ Waits g fault (kid_at ids i) (drop (i + 1) (kids_from 0 ids)) gs
@@ -58,7 +60,8 @@ starts_on job g fault (id ∷ ids) gs lt = refl
 pub kids_gone : (i n : ℕ) (ids : List ℕ) → nat_lt n (length ids) ≡ false → drop n (kids_from i ids) ≡ []
 kids_gone i zero [] h = refl
 kids_gone i (suc n) [] h = refl
-kids_gone i zero (id ∷ ids) h = absurd (let lt : nat_lt 0 (suc (length ids)) ≡ true = grind (arith, nat_tests) in let no : true ≡ false = sym lt ∙ h in cc)
+kids_gone i zero (id ∷ ids) h = absurd (let lt : nat_lt 0 (suc (length ids)) ≡ true = grind (arith, nat_tests) in let no : true
+    ≡ false = sym lt ∙ h in cc)
 kids_gone i (suc n) (id ∷ ids) h = kids_gone (i + 1) n ids (grind (arith, nat_tests))
 
 kids_more : (i id : ℕ) (ids : List ℕ) → kids_from i (ids ++ id ∷ []) ≡ kids_from i ids ++ record { member = i + length ids; id = id } ∷ []
@@ -79,7 +82,8 @@ pub start_more : (job : Job) (g n id : ℕ) (ids : List ℕ) (gs : List (List Co
     ≡ after_start job g (length ids) (n - 1 - length ids) (kids_from 0 ids) gs (answer.Start (start.Started id))
 start_more job g n id ids gs h = by (n - 1 - length ids) refl
   where
-    by : (m : ℕ) → n - 1 - length ids ≡ m → In (Group g (length (ids ++ id ∷ [])) (n - 1 - length (ids ++ id ∷ [])) (kids_from 0 (ids ++ id ∷ [])) gs)
+    by : (m : ℕ) → n - 1 - length ids ≡ m
+        → In (Group g (length (ids ++ id ∷ [])) (n - 1 - length (ids ++ id ∷ [])) (kids_from 0 (ids ++ id ∷ [])) gs)
         ≡ after_start job g (length ids) m (kids_from 0 ids) gs (answer.Start (start.Started id))
     by zero e = absurd (let lt : length ids + 1 < n = grind (arith, nat_tests) in omega (arith, lt, e))
     by (suc m) e =

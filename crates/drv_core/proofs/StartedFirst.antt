@@ -2,19 +2,30 @@ use Rattle.drv_core.proofs.LinkRuns.{link_same}
 use Rattle.drv_core.proofs.OneJob.{own_link, own_source, quiet_last}
 use Rattle.drv_core.proofs.Outcomes.{acts_only}
 use Rattle.drv_core.proofs.Serial.{told}
-use Rattle.drv_core.specs.Events.{Block, events_of}
-use Rattle.drv_core.specs.Links.{link_run}
-use Rattle.drv_core.specs.Started.{Act, Fails, InOrder, StartsInOrder, act_of, acts_in, all_started, fails, members, planned, starts, starts_of}
-use Rattle.drv_core.specs.Story.{Claims, Fresh, Goes, Kid, Left, Over, Removes, Starting, Starts, Story, Waits, after_starts, begin_with, begins}
-use Rattle.drv_core.specs.Story.{claimed, exited, last, lost, more, next, over, refused_first, refused_later, removed, signalled, started, stays}
+use Rattle.drv_core.proofs.Tests.{and_false}
+use Rattle.drv_core.specs.Events.{Block, events_of, failed, job_of}
+use Rattle.drv_core.specs.Links.{is_work_of, job_failed, link_run}
+use Rattle.drv_core.specs.Started.{Act, Fails, InOrder, Starts as Begins, StartsFirst, StartsInOrder, act_of, acts_in, all_started, fails}
+use Rattle.drv_core.specs.Started.{members, planned, starts, starts_of}
+use Rattle.drv_core.specs.Story.{Claims, Fresh, Goes, Kid, Left, Over, Removes, Starting, Starts, Story, Waits, after_starts, begin_with}
+use Rattle.drv_core.specs.Story.{begins}
+use Rattle.drv_core.specs.Story.{claimed, exited, last, lost, more, next, over, refused_first, refused_later, removed, signalled, started}
+use Rattle.drv_core.specs.Story.{stays}
 use Rattle.drv_core.specs.Story.{to_claims, to_groups, to_removals, to_waits, unclaimed}
 use Rattle.drv_core.specs.Windowed.{Windowed, source_at}
+use Rattle.drv_words.specs.declared.answers.Answer.{Answer}
+use Rattle.drv_words.specs.declared.answers.Answer.TheVariants as answer
+use Rattle.drv_words.specs.declared.answers.StartAnswer.TheVariants as start
 use Rattle.drv_words.specs.declared.plan.Command.{Command}
 use Rattle.drv_words.specs.declared.plan.Job.{Job}
 use Rattle.drv_words.specs.declared.plan.Plan.{Plan}
 use Rattle.drv_words.specs.declared.plan.Temp.{Temp}
+use Rattle.drv_words.specs.declared.steps.Place.{Place}
 use Rattle.drv_words.specs.declared.steps.RunEvent.{RunEvent}
-use Rattle.std.proofs.Common.{◌≡◌, ◌+◌, Bool, false, true, List, [], ◌∷◌, ◌++◌, ap, length, refl, subst, suc, sym, zero, ℕ}
+use Rattle.drv_words.specs.declared.steps.Step.{Step}
+use Rattle.drv_words.specs.declared.steps.Step.TheVariants as step
+use Rattle.std.proofs.Common.{◌≡◌, ◌+◌, ◌∙◌, ◌&&◌, ◌||◌, Bool, false, true, List, [], ◌∷◌, ◌++◌, ap, if◌then◌else◌, length, nat_eq, refl}
+use Rattle.std.proofs.Common.{subst, suc, sym, zero, ℕ}
 use Rattle.std.proofs.lemmas.Cmp.{nat_eq_equiv}
 use Rattle.std.proofs.lemmas.Grind.{flat_map-append}
 
@@ -56,7 +67,8 @@ of_waits k job g true [] gs acts h = of_removals k job 0 job.on_failure acts h
 of_waits k job g false [] gs acts h = of_groups k job (g + 1) gs acts h
 
 -- the starts of a group are in order
-of_starting : {k g i m : ℕ} {b : Block} {kids : List Kid} {fault : Bool} → Starting k g i m b kids fault → (job : Job) (gs : List (List Command))
+of_starting : {k g i m : ℕ} {b : Block} {kids : List Kid} {fault : Bool} → Starting k g i m b kids fault
+    → (job : Job) (gs : List (List Command))
     → (acts : List Act) → Order k job (after_starts job g fault kids gs) acts → After k g fault gs acts
 of_starting last job gs acts h = h
 of_starting {k = k} {g = g} {fault = true} (more s) job gs acts h = h
@@ -66,7 +78,8 @@ of_starting {k = k} {g = suc g} refused_first job gs acts h = of_removals k job 
 of_starting {k = k} {g = zero} refused_later job gs acts h = ap starts_of h
 of_starting {k = k} {g = suc g} refused_later job gs acts h = of_removals k job 0 job.on_failure acts h
 
-in_order : {k g i m : ℕ} {b : Block} {kids : List Kid} {fault : Bool} → Starting k g i m b kids fault → (gs : List (List Command)) (acts : List Act)
+in_order : {k g i m : ℕ} {b : Block} {kids : List Kid} {fault : Bool} → Starting k g i m b kids fault
+    → (gs : List (List Command)) (acts : List Act)
     → After k g fault gs acts → InOrder (members k g i m ++ planned k (g + 1) gs) (acts_in k b ++ acts)
 in_order {k = k} last gs acts h = rw (nat_eq_equiv.refl k) (starts h)
 in_order {k = k} (more s) gs acts h = rw (nat_eq_equiv.refl k) (starts (in_order s gs acts h))
@@ -113,13 +126,63 @@ job_order : (k : ℕ) (job : Job) (gs : List (List Command)) (bs : List Block) �
 job_order k job [] bs e t = subst (λ l. InOrder [] l) (sym (story_order t)) all_started
 job_order k job (c ∷ gs) bs e t = subst (λ l. InOrder (planned k 0 l) (acts_in k (events_of bs))) e (story_order t)
 
+-- whether a failure is among acts
+abbrev pub has_fail : List Act → Bool
+has_fail [] = false
+has_fail (Begins p ∷ acts) = has_fail acts
+has_fail (Fails ∷ acts) = true
+
+-- a job failed exactly if one of its acts is a failure
+pub failed_is : (k : ℕ) (E : List RunEvent) → job_failed k E ≡ has_fail (acts_in k E)
+failed_is k [] = refl
+failed_is k (e ∷ E) = by e.step e.answer (failed_is k E)
+  where
+    by : (s : Step) (x : Answer) → job_failed k E ≡ has_fail (acts_in k E)
+        → ((is_work_of k s && failed x) || job_failed k E) ≡ has_fail (act_of k s x ++ acts_in k E)
+    by (step.Start p from_pipe to_pipe) (answer.Start (start.Started id)) ih = rw (and_false (nat_eq (job_of p) k))
+        (here (nat_eq (job_of p) k))
+      where
+        here : (t : Bool) → job_failed k E ≡ has_fail ((if t then Begins p ∷ [] else []) ++ acts_in k E)
+        here true = ih
+        here false = ih
+    by s x ih = here (is_work_of k s && failed x)
+      where
+        here : (t : Bool) → (t || job_failed k E) ≡ has_fail ((if t then Fails ∷ [] else []) ++ acts_in k E)
+        here true = refl
+        here false = ih
+
+-- the commands of the list that are not started
+abbrev left_of : {ps : List Place} {acts : List Act} → InOrder ps acts → List Place
+left_of all_started = []
+left_of (starts o) = left_of o
+left_of (fails {ps = ps} e) = ps
+
+first_of : {ps : List Place} {acts : List Act} (o : InOrder ps acts) → ps ≡ starts_of acts ++ left_of o
+first_of all_started = refl
+first_of (starts {p = p} o) = ap (λ l. p ∷ l) (first_of o)
+first_of (fails {ps = ps} e) = sym (ap (λ l. l ++ ps) e)
+
+all_of : {ps : List Place} {acts : List Act} → InOrder ps acts → has_fail acts ≡ false → starts_of acts ≡ ps
+all_of all_started h = refl
+all_of (starts {p = p} o) h = ap (λ l. p ∷ l) (all_of o h)
+all_of (fails e) h = absurd cc
+
+starts_first : {k : ℕ} {ps : List Place} {E : List RunEvent} → InOrder ps (acts_in k E) → StartsFirst k ps E
+starts_first {k = k} {E = E} o = record {
+  in_order = o;
+  rest = left_of o;
+  first = first_of o;
+  every =
+      λ e. all_of o (sym (failed_is k E) ∙ e);
+}
+
 pub all_in_order : (plan : Plan) (N : ℕ) (events : List RunEvent) → Windowed plan N events → StartsInOrder plan events
 all_in_order plan N events w = record {
-  sources = λ k lt. subst (λ l. InOrder (planned k 0 (source_at plan k).groups) l)
+  sources = λ k lt. starts_first (subst (λ l. InOrder (planned k 0 (source_at plan k).groups) l)
       (sym (own_source (acts_only k) w (quiet_last (acts_only k) (λ p x. refl) w.last_removals) lt))
-      (job_order k (source_at plan k) (source_at plan k).groups _ refl (told w.leads w.ended k));
-  link = subst (λ l. InOrder (planned (length plan.jobs) 0 (link_run plan events).groups) l)
+      (job_order k (source_at plan k) (source_at plan k).groups _ refl (told w.leads w.ended k)));
+  link = starts_first (subst (λ l. InOrder (planned (length plan.jobs) 0 (link_run plan events).groups) l)
       (sym (own_link (acts_only (length plan.jobs)) w (quiet_last (acts_only (length plan.jobs)) (λ p x. refl) w.last_removals)))
       (subst (λ job. InOrder (planned (length plan.jobs) 0 job.groups) (acts_in (length plan.jobs) (events_of w.link))) (link_same w)
-      (job_order (length plan.jobs) _ _ _ refl w.link_story));
+      (job_order (length plan.jobs) _ _ _ refl w.link_story)));
 }

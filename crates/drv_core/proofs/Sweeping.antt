@@ -1,50 +1,37 @@
 use Rattle.drv_core.proofs.Counting.{is_less, is_not_less, same}
+use Rattle.drv_core.proofs.Files.{Each, all_each}
 use Rattle.drv_core.proofs.Finish.{clash}
+use Rattle.drv_core.proofs.Tests.{or_false, some_is}
 use Rattle.drv_core.specs.Code.LeftoverView.{IsFresh, leftover_list, leftover_of}
-use Rattle.drv_core.specs.Code.Leftovers.{called_by, calling, claim_by, claims_in, counted, gathered, is_counted, is_left, noted, noting, swept}
+use Rattle.drv_core.specs.Code.Leftovers.{called_by, calling, claim_by, claims_in, counted, gathered, is_counted, is_left, noted, noting}
+use Rattle.drv_core.specs.Code.Leftovers.{swept}
 use Rattle.drv_core.specs.Code.Numbering.{Leftover, first_with, numbered_files}
 use Rattle.drv_core.specs.Events.{job_of}
 use Rattle.drv_core.specs.declared.leftovers.Leftovers.{Leftovers}
-use Rattle.drv_core.specs.Windowed.{File, all_files, each_once, files_from, is_call_of, job_files, marked_files, temp_files}
+use Rattle.drv_core.specs.Windowed.{File, all_files, each_once, is_call_of}
 use Rattle.drv_words.specs.declared.answers.Answer.{Answer}
 use Rattle.drv_words.specs.declared.answers.Answer.TheVariants as answer
 use Rattle.drv_words.specs.declared.answers.ClaimAnswer.TheVariants as claim
-use Rattle.drv_words.specs.declared.plan.Job.{Job}
 use Rattle.drv_words.specs.declared.plan.Plan.{Plan}
-use Rattle.drv_words.specs.declared.plan.Temp.{Temp}
 use Rattle.drv_words.specs.declared.steps.Place.{Place}
 use Rattle.drv_words.specs.declared.steps.Place.TheVariants as place
 use Rattle.drv_words.specs.declared.steps.RunEvent.{RunEvent}
 use Rattle.drv_words.specs.declared.steps.Step.{Step}
 use Rattle.drv_words.specs.declared.steps.Step.TheVariants as step
-use Rattle.std.proofs.Common.{◌≡◌, ◌<◌, ◌≤◌, ◌+◌, ◌∙◌, ◌&&◌, ◌||◌, Bool, false, true, List, [], ◌∷◌, ◌++◌, None, Option, Some, ap, append_assoc, arith}
+use Rattle.std.proofs.Common.{◌≡◌, ◌<◌, ◌≤◌, ◌+◌, ◌∙◌, ◌&&◌, ◌||◌, Bool, false, true, List, [], ◌∷◌, ◌++◌, Some, ap, append_assoc, arith}
 use Rattle.std.proofs.Common.{drop, get_or, if◌then◌else◌, length, map, nat_eq, nat_lt, not, refl, replicate, subst, suc, sym, unwrap_or, ℕ}
 use Rattle.std.proofs.lemmas.Cmp.{nat_eq_equiv, nat_list_eq_equiv}
-use Rattle.std.proofs.lemmas.List.{drop_more, get_or-replicate, get_or_past, get_or-set_other, get_or-set_same, length-append, length-map, length-replicate, length-set}
+use Rattle.std.proofs.lemmas.List.{drop_more, get_or-replicate, get_or_past, get_or-set_other, get_or-set_same, length-append, length-map}
+use Rattle.std.proofs.lemmas.List.{length-replicate, length-set}
 use Rattle.std.specs.Cmp.Lexicographic.{pointwise, same_text}
 use Rattle.std.specs.List.{filter, list_any}
-use Rattle.std.specs.Option.{option_to_list}
 use Rattle.std.specs.Prelude.{⊤, slice_set}
 
 -- The files that the code removes at the end are those that are left after the events, each path once.
 
--- a test doesn't both pass and fail
-clash_at : (t : Bool) → t ≡ true → t ≡ false → ⊥
-clash_at t x y = clash x y
-
 -- each path once, by a flag for each number of a path
 
--- each of these files has the property
-abbrev pub Each : (File → Type 0) → List File → Type 0
-Each P [] = ⊤
-Each P (f ∷ fs) = P f × Each P fs
-
--- what holds of each file, and follows from it, holds of each
-each_more : (P Q : File → Type 0) → ((f : File) → P f → Q f) → (fs : List File) → Each P fs → Each Q fs
-each_more P Q h [] e = tt
-each_more P Q h (f ∷ fs) e = (h f e.0, each_more P Q h fs e.1)
-
--- the same, of two such facts
+-- what holds of each file, and follows from two such facts, holds of each
 each_two : (P Q R : File → Type 0) → ((f : File) → P f → Q f → R f) → (fs : List File) → Each P fs → Each Q fs → Each R fs
 each_two P Q R h [] p q = tt
 each_two P Q R h (f ∷ fs) p q = (h f p.0 q.0, each_two P Q R h fs p.1 q.1)
@@ -78,46 +65,37 @@ flag_more num gone seen f g room alike old = (
     by true e = subst (λ n. get_or (slice_set gone (num f.path) true) n false ≡ true) (same (num f.path) (num g.path) e)
         (get_or-set_same gone (num f.path) true false room)
         ∙ ap (λ (t : Bool). t || list_any (pointwise nat_eq g.path) seen) (sym (alike ∙ e))
-    by false e = get_or-set_other gone (num f.path) (num g.path) true false (λ is. clash_at (nat_eq (num f.path) (num g.path))
+    by false e = get_or-set_other gone (num f.path) (num g.path) true false (λ is. clash
         (ap (λ n. nat_eq (num f.path) n) is ∙ nat_eq_equiv.refl (num f.path)) e) ∙ old.1
         ∙ ap (λ (t : Bool). t || list_any (pointwise nat_eq g.path) seen) (sym (alike ∙ e))
 
--- each path once, where it is known whether the first file is left
-kept_is : (seen : List (List ℕ)) (f : File) (rest : List File) (t : Bool) → each_once seen (if t then f ∷ rest else rest)
-    ≡ (if t then (if list_any (pointwise nat_eq f.path) seen then each_once seen rest else f ∷ each_once (f.path ∷ seen)
-    rest) else each_once seen rest)
-kept_is seen f rest true = refl
-kept_is seen f rest false = refl
-
 -- each path once, by the flags as by the list of paths
-pub once_is : (claimed : List ℕ) (called : List Bool) (num : List ℕ → ℕ) (gone : List Bool) (seen : List (List ℕ)) (fs : List File) → Numbered num fs
+pub once_is : (claimed : List ℕ) (called : List Bool) (num : List ℕ → ℕ) (gone : List Bool) (seen : List (List ℕ)) (fs : List File)
+    → Numbered num fs
     → Each (Flagged num gone seen) fs
-    → map (λ g. g.place) (each_once seen (filter (λ g. is_counted claimed called g.place) fs)) ≡ gathered claimed called gone (map (numbered num) fs)
+    → map (λ g. g.place) (each_once seen (filter (λ g. is_counted claimed called g.place) fs))
+    ≡ gathered claimed called gone (map (numbered num) fs)
 once_is claimed called num gone seen [] n flags = refl
-once_is claimed called num gone seen (f ∷ fs) n flags = ap (λ l. map (λ g. g.place) l) (kept_is seen f (filter (λ g. is_counted claimed called g.place) fs)
-    (is_counted claimed called f.place))
-    ∙ by (is_counted claimed called f.place) (list_any (pointwise nat_eq f.path) seen) (get_or gone (num f.path) false) flags.0.1
+once_is claimed called num gone seen (f ∷ fs) n flags =
+    by (is_counted claimed called f.place) (list_any (pointwise nat_eq f.path) seen) (get_or gone (num f.path) false) flags.0.1 _ _ _
     (once_is claimed called num gone seen fs n.1 flags.1)
     (once_is claimed called num (slice_set gone (num f.path) true) (f.path ∷ seen) fs n.1
     (each_two (λ g. pointwise nat_eq g.path f.path ≡ nat_eq (num f.path) (num g.path)) (Flagged num gone seen)
     (Flagged num (slice_set gone (num f.path) true) (f.path ∷ seen)) (λ g a o. flag_more num gone seen f g flags.0.0 a o)
-    fs n.0 flags.1))
+    fs n.0 flags.1)) refl
   where
+    places : List File → List Place
+    places gs = map (λ g. g.place) gs
+
     -- Plan: by whether the path was seen before: the code's flag for its number says the same.
-    by : (t u v : Bool) → v ≡ u → map (λ g. g.place) (each_once seen (filter (λ g. is_counted claimed called g.place) fs)) ≡ gathered claimed called gone
-        (map (numbered num) fs)
-        → map (λ g. g.place) (each_once (f.path ∷ seen) (filter (λ g. is_counted claimed called g.place) fs)) ≡ gathered claimed called
-        (slice_set gone (num f.path) true) (map (numbered num) fs)
-        → map (λ g. g.place) (if t then (if u then each_once seen (filter (λ g. is_counted claimed called g.place) fs) else f ∷ each_once
-        (f.path ∷ seen) (filter (λ g. is_counted claimed called g.place) fs)) else each_once seen
-        (filter (λ g. is_counted claimed called g.place) fs))
-        ≡ (if (t && not v) then f.place ∷ gathered claimed called (slice_set gone (num f.path) true) (map (numbered num) fs) else gathered claimed called gone
-        (map (numbered num) fs))
-    by false u v e skip keep = skip
-    by true true true e skip keep = skip
-    by true true false e skip keep = absurd cc
-    by true false true e skip keep = absurd cc
-    by true false false e skip keep = ap (λ l. f.place ∷ l) keep
+    by : (t u v : Bool) → v ≡ u → (rest : List File) (later now : List Place) → places (each_once seen rest) ≡ later
+        → places (each_once (f.path ∷ seen) rest) ≡ now → list_any (pointwise nat_eq f.path) seen ≡ u
+        → places (each_once seen (if t then f ∷ rest else rest)) ≡ (if (t && not v) then f.place ∷ now else later)
+    by false u v e rest later now skip keep is = skip
+    by true true true e rest later now skip keep is = rw is skip
+    by true true false e rest later now skip keep is = absurd cc
+    by true false true e rest later now skip keep is = absurd cc
+    by true false false e rest later now skip keep is = rw is (ap (λ l. f.place ∷ l) keep)
 
 -- the number of a path among these files
 abbrev pub number_in : List File → List ℕ → ℕ
@@ -180,10 +158,6 @@ found_in fs f i = record {
       (sym i.parts) ∙ first_here 0 f.path i.before f i.rest (nat_list_eq_equiv.refl f.path);
 }
 
--- the number of an option is the only one in it
-some_is : (a b : ℕ) → Some a ≡ Some b → a ≡ b
-some_is a b e = ap (λ o. unwrap_or o 0) e
-
 -- the number that is found is one of the list
 first_from : (i : ℕ) (p : List ℕ) (fs : List File) (n : ℕ) → first_with i p fs ≡ Some n → (i ≤ n) × (n < i + length fs)
 first_from i p [] n e = absurd cc
@@ -191,7 +165,7 @@ first_from i p (f ∷ fs) n e = by (pointwise nat_eq p f.path) e (λ h. first_fr
   where
     by : (t : Bool) → (if t then Some i else first_with (i + 1) p fs) ≡ Some n
         → (first_with (i + 1) p fs ≡ Some n → (i + 1 ≤ n) × (n < i + 1 + length fs)) → (i ≤ n) × (n < i + suc (length fs))
-    by true h ih = (let is : i ≡ n = some_is i n h in omega (arith, is), let is : i ≡ n = some_is i n h in omega (arith, is))
+    by true h ih = (let is : i ≡ n = some_is h in omega (arith, is), let is : i ≡ n = some_is h in omega (arith, is))
     by false h ih = (let le : i + 1 ≤ n = (ih h).0 in omega (arith, le), let lt : n < i + 1 + length fs = (ih h).1 in omega (arith, lt))
 
 -- two paths with one first file are the same
@@ -202,7 +176,7 @@ first_one i p q (f ∷ fs) n e h = by (pointwise nat_eq p f.path) (pointwise nat
   where
     -- Plan: by which of the two paths the first file has; a later file has a later number (`later`).
     later : (r : List ℕ) → Some i ≡ Some n → first_with (i + 1) r fs ≡ Some n → ⊥
-    later r x y = let is : i ≡ n = some_is i n x in let le : i + 1 ≤ n = (first_from (i + 1) r fs n y).0 in omega (arith, is, le)
+    later r x y = let is : i ≡ n = some_is x in let le : i + 1 ≤ n = (first_from (i + 1) r fs n y).0 in omega (arith, is, le)
 
     by : (t u : Bool) → pointwise nat_eq p f.path ≡ t → pointwise nat_eq q f.path ≡ u → (if t then Some i else first_with (i + 1) p fs)
         ≡ Some n → (if u then Some i else first_with (i + 1) q fs) ≡ Some n
@@ -232,7 +206,7 @@ alike fs f g i j = by (pointwise nat_eq g.path f.path) refl
       where
         -- other paths have other numbers
         no : (u : Bool) → nat_eq (number_in fs f.path) (number_in fs g.path) ≡ u → false ≡ u
-        no true h = absurd (clash_at (pointwise nat_eq g.path f.path) (ap (λ p. pointwise nat_eq g.path p) (one h)
+        no true h = absurd (clash (ap (λ p. pointwise nat_eq g.path p) (one h)
             ∙ nat_list_eq_equiv.refl g.path) e)
         no false h = refl
 
@@ -271,7 +245,8 @@ none_flagged fs = each_in (Flagged (number_in fs) (replicate (length fs) false) 
 -- The counts are those of the events.
 
 -- an item of a list of which one is new
-get_set : {X : Type 0} (xs : List X) (k j : ℕ) (x d : X) → j < length xs → get_or (slice_set xs k x) j d ≡ (if nat_eq k j then x else get_or xs j d)
+get_set : {X : Type 0} (xs : List X) (k j : ℕ) (x d : X) → j < length xs → get_or (slice_set xs k x) j d
+    ≡ (if nat_eq k j then x else get_or xs j d)
 get_set xs k j x d lt = by (nat_eq k j) refl
   where
     by : (t : Bool) → nat_eq k j ≡ t → get_or (slice_set xs k x) j d ≡ (if t then x else get_or xs j d)
@@ -283,10 +258,12 @@ noting_is : (claimed : List ℕ) (k : ℕ) (s : Step) (x : Answer) → k < lengt
 noting_is claimed k (step.Claim (place.Temp j i)) (answer.Claim claim.Claimed) lt =
     (length-set claimed j (get_or claimed j 0 + 1), get_set claimed j k (get_or claimed j 0 + 1) 0 lt ∙ by (nat_eq j k) refl)
   where
-    by : (t : Bool) → nat_eq j k ≡ t → (if t then get_or claimed j 0 + 1 else get_or claimed k 0) ≡ get_or claimed k 0 + length (if t then i ∷ [] else [])
+    by : (t : Bool) → nat_eq j k ≡ t → (if t then get_or claimed j 0 + 1 else get_or claimed k 0)
+        ≡ get_or claimed k 0 + length (if t then i ∷ [] else [])
     by true e = ap (λ n. get_or claimed n 0 + 1) (same j k e)
     by false e = omega arith
-noting_is claimed k (step.Claim p) (answer.Claim claim.Claimed) lt = (refl, (let z : get_or claimed k 0 ≡ get_or claimed k 0 + 0 = omega arith in z))
+noting_is claimed k (step.Claim p) (answer.Claim claim.Claimed) lt =
+    (refl, (let z : get_or claimed k 0 ≡ get_or claimed k 0 + 0 = omega arith in z))
 noting_is claimed k s x lt = (refl, (let z : get_or claimed k 0 ≡ get_or claimed k 0 + 0 = omega arith in z))
 
 noted_is : (claimed : List ℕ) (k : ℕ) (E : List RunEvent) → k < length claimed
@@ -302,12 +279,20 @@ noted_is claimed k (e ∷ E) lt =
 
 calling_is : (called : List Bool) (k : ℕ) (s : Step) → k < length called
     → (length (calling called s) ≡ length called) × (get_or (calling called s) k false ≡ (is_call_of k s || get_or called k false))
-calling_is called k (step.Claim p) lt = (length-set called (job_of p) true, get_set called (job_of p) k true false lt ∙ by (nat_eq (job_of p) k))
+calling_is called k (step.Claim p) lt = (
+  length-set called (job_of p) true,
+  get_set called (job_of p) k true false lt
+      ∙ by (nat_eq (job_of p) k),
+)
   where
     by : (t : Bool) → (if t then true else get_or called k false) ≡ (t || get_or called k false)
     by true = refl
     by false = refl
-calling_is called k (step.Start p from_pipe to_pipe) lt = (length-set called (job_of p) true, get_set called (job_of p) k true false lt ∙ by (nat_eq (job_of p) k))
+calling_is called k (step.Start p from_pipe to_pipe) lt = (
+  length-set called (job_of p) true,
+  get_set called (job_of p) k true false lt
+      ∙ by (nat_eq (job_of p) k),
+)
   where
     by : (t : Bool) → (if t then true else get_or called k false) ≡ (t || get_or called k false)
     by true = refl
@@ -320,7 +305,8 @@ called_is called k [] lt = refl
 called_is called k (e ∷ E) lt =
     let one = calling_is called k e.step lt in
     called_is (calling called e.step) k E (subst (λ n. k < n) (sym one.0) lt)
-    ∙ ap (λ t. list_any (λ e. is_call_of k e.step) E || t) one.1 ∙ turn (list_any (λ e. is_call_of k e.step) E) (is_call_of k e.step) (get_or called k false)
+    ∙ ap (λ t. list_any (λ e. is_call_of k e.step) E || t) one.1
+    ∙ turn (list_any (λ e. is_call_of k e.step) E) (is_call_of k e.step) (get_or called k false)
   where
     turn : (a b c : Bool) → (a || (b || c)) ≡ ((b || a) || c)
     turn true true c = refl
@@ -328,64 +314,43 @@ called_is called k (e ∷ E) lt =
     turn false true c = refl
     turn false false c = refl
 
--- each file is one of a job of the plan
-abbrev Among : ℕ → File → Type 0
-Among n f = job_of f.place < n
-
-pub each_append : (P : File → Type 0) (xs ys : List File) → Each P xs → Each P ys → Each P (xs ++ ys)
-each_append P [] ys a b = b
-each_append P (x ∷ xs) ys a b = (a.0, each_append P xs ys a.1 b)
-
-temps_among : (n k i : ℕ) (ts : List Temp) → k < n → Each (Among n) (temp_files k i ts)
-temps_among n k i [] lt = tt
-temps_among n k i (t ∷ ts) lt = (lt, temps_among n k (i + 1) ts lt)
-
-marked_among : (n k i : ℕ) (ms : List (List ℕ)) → k < n → Each (Among n) (marked_files k i ms)
-marked_among n k i [] lt = tt
-marked_among n k i (m ∷ ms) lt = (lt, marked_among n k (i + 1) ms lt)
-
-files_among : (n k : ℕ) (jobs : List Job) → k + length jobs ≤ n → Each (Among n) (files_from k jobs)
-files_among n k [] le = tt
-files_among n k (job ∷ jobs) le = each_append (Among n) (job_files k job) (files_from (k + 1) jobs)
-    (each_append (Among n) (temp_files k 0 job.temps) (marked_files k 0 job.marked) (temps_among n k 0 job.temps (omega (arith, le)))
-    (marked_among n k 0 job.marked (omega (arith, le)))) (files_among n (k + 1) jobs (omega (arith, le)))
-
-all_among : (plan : Plan) → Each (Among (length plan.jobs + 1)) (all_files plan)
-all_among plan = files_among (length plan.jobs + 1) 0 (plan.jobs ++ option_to_list plan.link)
-    (let len = length-append plan.jobs (option_to_list plan.link) in let one = at_most_one plan.link in omega (arith, len, one))
-  where
-    at_most_one : (o : Option Job) → length (option_to_list o) ≤ 1
-    at_most_one None = omega arith
-    at_most_one (Some x) = omega arith
-
-filter_each : (P : File → Type 0) (p q : File → Bool) (fs : List File) → Each P fs → ((f : File) → P f → p f ≡ q f) → filter p fs ≡ filter q fs
-filter_each P p q [] e h = refl
-filter_each P p q (f ∷ fs) e h = rw (h f e.0, filter_each P p q fs e.1 h) refl
+filter_same : (P : File → Type 0) (p q : File → Bool) (fs : List File) → Each P fs → ((f : File) → P f → p f ≡ q f)
+    → filter p fs ≡ filter q fs
+filter_same P p q [] e h = refl
+filter_same P p q (f ∷ fs) e h = rw (h f e.0, filter_same P p q fs e.1 h) refl
 
 -- a file is left by the counts as by the events
 counted_left : (n : ℕ) (E : List RunEvent) (p : Place) → job_of p < n
     → is_counted (noted (replicate n 0) E) (called_by (replicate n false) E) p ≡ is_left E p
-counted_left n E (place.Temp k i) lt = ap (λ m. nat_lt i m) (noted_is (replicate n 0) k E (subst (λ m. k < m) (sym (length-replicate n 0)) lt)
-    ∙ ap (λ m. m + length (claims_in k E)) (get_or-replicate n k 0 0 lt) ∙ (let z : 0 + length (claims_in k E) ≡ length (claims_in k E) = omega arith in z))
+counted_left n E (place.Temp k i) lt = ap (λ m. nat_lt i m)
+    (noted_is (replicate n 0) k E (subst (λ m. k < m) (sym (length-replicate n 0)) lt)
+    ∙ ap (λ m. m + length (claims_in k E)) (get_or-replicate n k 0 0 lt)
+    ∙ (let z : 0 + length (claims_in k E) ≡ length (claims_in k E) = omega arith in z))
 counted_left n E (place.Marked k i) lt = called_is (replicate n false) k E (subst (λ m. k < m) (sym (length-replicate n false)) lt)
-    ∙ ap (λ t. list_any (λ e. is_call_of k e.step) E || t) (get_or-replicate n k false false lt) ∙ or_false (list_any (λ e. is_call_of k e.step) E)
-  where
-    or_false : (t : Bool) → (t || false) ≡ t
-    or_false true = refl
-    or_false false = refl
+    ∙ ap (λ t. list_any (λ e. is_call_of k e.step) E || t) (get_or-replicate n k false false lt)
+    ∙ or_false (list_any (λ e. is_call_of k e.step) E)
 counted_left n E p lt = refl
 
 -- what the code gathers is what is left
 pub gathered_is : (plan : Plan) (E : List RunEvent) → gathered (noted (replicate (length plan.jobs + 1) 0) E)
     (called_by (replicate (length plan.jobs + 1) false) E) (replicate (length (all_files plan)) false) (numbered_files [] (all_files plan))
     ≡ swept plan E
-gathered_is plan E = sym (ap (λ fs. map (λ g. g.place) (each_once [] fs)) (filter_each (Among (length plan.jobs + 1)) (λ g. is_left E g.place)
-    (λ g. is_counted (noted (replicate (length plan.jobs + 1) 0) E) (called_by (replicate (length plan.jobs + 1) false) E) g.place)
-    (all_files plan) (all_among plan) (λ f lt. sym (counted_left (length plan.jobs + 1) E f.place lt)))
-    ∙ once_is (noted (replicate (length plan.jobs + 1) 0) E) (called_by (replicate (length plan.jobs + 1) false) E) (number_in (all_files plan))
-    (replicate (length (all_files plan)) false) [] (all_files plan) (numbered_all (all_files plan)) (none_flagged (all_files plan))
-    ∙ ap (gathered (noted (replicate (length plan.jobs + 1) 0) E) (called_by (replicate (length plan.jobs + 1) false) E)
-    (replicate (length (all_files plan)) false)) (sym (numbered_are (all_files plan) [] (all_files plan) refl)))
+gathered_is plan E = sym (ap (λ fs. map (λ g. g.place) (each_once [] fs)) (filter_same (λ f. job_of f.place < length plan.jobs + 1)
+    (λ g. is_left E g.place) (λ g. is_counted claimed called g.place) (all_files plan)
+    (all_each (λ p. job_of p < length plan.jobs + 1) plan (λ k i lt h. lt) (λ k i lt h. lt))
+    (λ f lt. sym (counted_left (length plan.jobs + 1) E f.place lt)))
+    ∙ once_is claimed called (number_in (all_files plan)) gone [] (all_files plan) (numbered_all (all_files plan))
+    (none_flagged (all_files plan))
+    ∙ ap (gathered claimed called gone) (sym (numbered_are (all_files plan) [] (all_files plan) refl)))
+  where
+    claimed : List ℕ
+    claimed = noted (replicate (length plan.jobs + 1) 0) E
+
+    called : List Bool
+    called = called_by (replicate (length plan.jobs + 1) false) E
+
+    gone : List Bool
+    gone = replicate (length (all_files plan)) false
 
 -- as many are numbered as there are files
 many_numbered : (fs : List File) → length (numbered_files [] fs) ≡ length fs
@@ -433,5 +398,7 @@ pub noted_on : (claimed new start : List ℕ) (E : List RunEvent) (i : ℕ) (d :
 noted_on claimed new start E i d lt to all = ap (λ l. noted l (drop (i + 1) E)) to ∙ sym (ap (noted claimed) (drop_more E i d lt)) ∙ all
 
 pub called_on : (called new start : List Bool) (E : List RunEvent) (i : ℕ) (d : RunEvent) → i < length E
-    → new ≡ calling called (get_or E i d).step → called_by called (drop i E) ≡ called_by start E → called_by new (drop (i + 1) E) ≡ called_by start E
-called_on called new start E i d lt to all = ap (λ l. called_by l (drop (i + 1) E)) to ∙ sym (ap (called_by called) (drop_more E i d lt)) ∙ all
+    → new ≡ calling called (get_or E i d).step → called_by called (drop i E) ≡ called_by start E
+    → called_by new (drop (i + 1) E) ≡ called_by start E
+called_on called new start E i d lt to all = ap (λ l. called_by l (drop (i + 1) E)) to ∙ sym (ap (called_by called) (drop_more E i d lt))
+    ∙ all

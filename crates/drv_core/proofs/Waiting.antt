@@ -2,9 +2,12 @@ use Rattle.std.specs.Prelude.{⊤}
 use Rattle.drv_core.proofs.OneJob.{OnlyOf, Own, own, quiet_last}
 use Rattle.drv_core.proofs.Counting.{is_less, is_not_less}
 use Rattle.drv_core.specs.Events.{Block, events_of, source_of}
-use Rattle.drv_core.specs.Story.{Claims, Fresh, Goes, Kid, Left, Starting, Starts, Story, Waits, after_starts, begin_with, begins, claimed, exited, last, lost, more, next, over}
-use Rattle.drv_core.specs.Story.{refused_first, refused_later, removed, signalled, started, stays, to_claims, to_groups, to_removals, to_waits, unclaimed}
-use Rattle.drv_core.specs.Waited.{Act, Ascends, Awaits, Begins, Child, Waited, WaitsForEach, acts_in, acts_of, awaits, begins as one_begins, child_at, over as all_waited_for}
+use Rattle.drv_core.specs.Story.{Claims, Fresh, Goes, Kid, Left, Starting, Starts, Story, Waits, after_starts, begin_with, begins, claimed}
+use Rattle.drv_core.specs.Story.{exited, last, lost, more, next, over}
+use Rattle.drv_core.specs.Story.{refused_first, refused_later, removed, signalled, started, stays, to_claims, to_groups, to_removals}
+use Rattle.drv_core.specs.Story.{to_waits, unclaimed}
+use Rattle.drv_core.specs.Waited.{Act, Ascends, Awaits, Begins, Child, Waited, WaitsForEach, acts_in, acts_of, awaits, begins as one_begins}
+use Rattle.drv_core.specs.Waited.{child_at, over as all_waited_for}
 use Rattle.drv_core.specs.Windowed.{Windowed}
 use Rattle.drv_words.specs.declared.answers.Answer.{Answer}
 use Rattle.drv_words.specs.declared.answers.Answer.TheVariants as answer
@@ -18,7 +21,8 @@ use Rattle.drv_words.specs.declared.steps.Place.TheVariants as place
 use Rattle.drv_words.specs.declared.steps.RunEvent.{RunEvent}
 use Rattle.drv_words.specs.declared.steps.Step.{Step}
 use Rattle.drv_words.specs.declared.steps.Step.TheVariants as step
-use Rattle.std.proofs.Common.{◌≡◌, ◌<◌, ◌≤◌, ◌⊎◌, ◌+◌, Bool, arith, inl, inr, nat_lt, false, true, List, [], ◌∷◌, ◌++◌, append-nil, append_assoc, nat_eq, refl, subst, suc, sym, zero, ℕ}
+use Rattle.std.proofs.Common.{◌≡◌, ◌<◌, ◌≤◌, ◌⊎◌, ◌+◌, Bool, arith, inl, inr, nat_lt, false, true, List, [], ◌∷◌, ◌++◌, append-nil}
+use Rattle.std.proofs.Common.{append_assoc, nat_eq, refl, subst, suc, sym, zero, ℕ}
 use Rattle.std.proofs.lemmas.Cmp.{nat_eq_equiv}
 use Rattle.std.proofs.lemmas.Grind.{flat_map-append}
 
@@ -46,12 +50,14 @@ open_claims : (job : Job) (i : ℕ) (ts : List Temp) → open_at (to_claims job 
 open_claims job i [] = open_groups 0 job.groups
 open_claims job i (t ∷ ts) = refl
 
-open_waits : (job : Job) (g : ℕ) (fault : Bool) (kids : List Kid) (gs : List (List Command)) → open_at (to_waits job g fault kids gs) ≡ children g kids
+open_waits : (job : Job) (g : ℕ) (fault : Bool) (kids : List Kid) (gs : List (List Command))
+    → open_at (to_waits job g fault kids gs) ≡ children g kids
 open_waits job g fault (kid ∷ kids) gs = refl
 open_waits job g true [] gs = open_removals 0 job.on_failure
 open_waits job g false [] gs = open_groups (g + 1) gs
 
-open_starts : (job : Job) (g : ℕ) (fault : Bool) (kids : List Kid) (gs : List (List Command)) → open_at (after_starts job g fault kids gs) ≡ children g kids
+open_starts : (job : Job) (g : ℕ) (fault : Bool) (kids : List Kid) (gs : List (List Command))
+    → open_at (after_starts job g fault kids gs) ≡ children g kids
 open_starts job zero fault [] gs = refl
 open_starts job (suc g) fault [] gs = open_waits job (suc g) fault [] gs
 open_starts job g fault (kid ∷ kids) gs = refl
@@ -60,7 +66,8 @@ open_begin : (gs : List (List Command)) → open_at (begin_with gs) ≡ []
 open_begin [] = refl
 open_begin (c ∷ gs) = refl
 
-starts_wait : {k g i m : ℕ} {b : Block} {kids : List Kid} {fault : Bool} → Starting k g i m b kids fault → (waiting : List Child) (acts : List Act)
+starts_wait : {k g i m : ℕ} {b : Block} {kids : List Kid} {fault : Bool} → Starting k g i m b kids fault
+    → (waiting : List Child) (acts : List Act)
     → Waited (waiting ++ children g kids) acts → Waited waiting (acts_in k b ++ acts)
 starts_wait {k = k} last waiting acts h = rw (nat_eq_equiv.refl k) (one_begins _ waiting acts h)
 starts_wait {k = k} (more s) waiting acts h = rw (nat_eq_equiv.refl k)
@@ -70,7 +77,8 @@ starts_wait refused_later waiting acts h = subst (λ l. Waited l acts) (append-n
 
 block_waits : {k : ℕ} {job : Job} {s m : Left} {b : Block} → Goes k job s b m → (acts : List Act) → Waited (open_at m) acts
     → Waited (open_at s) (acts_in k b ++ acts)
-block_waits {k = k} {job = job} (begins {b = b} g) acts h = subst (λ l. Waited l (acts_in k b ++ acts)) (open_claims job 0 job.temps) (block_waits g acts h)
+block_waits {k = k} {job = job} (begins {b = b} g) acts h = subst (λ l. Waited l (acts_in k b ++ acts))
+    (open_claims job 0 job.temps) (block_waits g acts h)
 block_waits {job = job} (claimed {i = i} {ts = ts}) acts h = subst (λ l. Waited l acts) (open_claims job (i + 1) ts) h
 block_waits (unclaimed e) acts h = h
 block_waits {job = job} (started {g = g} {gs = gs} {kids = kids} {fault = fault} s) acts h =
@@ -125,12 +133,14 @@ later_removals : (g i : ℕ) (fs : List (List ℕ)) → Later g (to_removals i f
 later_removals g i [] = tt
 later_removals g i (f ∷ fs) = tt
 
-later_waits : (job : Job) (g h : ℕ) (fault : Bool) (kids : List Kid) (gs : List (List Command)) → g ≤ h + 1 → Later g (to_waits job h fault kids gs)
+later_waits : (job : Job) (g h : ℕ) (fault : Bool) (kids : List Kid) (gs : List (List Command)) → g ≤ h + 1
+    → Later g (to_waits job h fault kids gs)
 later_waits job g h fault (kid ∷ kids) gs le = le
 later_waits job g h true [] gs le = later_removals g 0 job.on_failure
 later_waits job g h false [] gs le = later_groups g (h + 1) gs le
 
-later_starts : (job : Job) (h : ℕ) (fault : Bool) (kids : List Kid) (gs : List (List Command)) → Later (h + 1) (after_starts job h fault kids gs)
+later_starts : (job : Job) (h : ℕ) (fault : Bool) (kids : List Kid) (gs : List (List Command))
+    → Later (h + 1) (after_starts job h fault kids gs)
 later_starts job zero fault [] gs = tt
 later_starts job (suc h) fault [] gs = later_waits job (suc h + 1) (suc h) fault [] gs (omega arith)
 later_starts job h fault (kid ∷ kids) gs = let le : h + 1 ≤ h + 1 = omega arith in le
@@ -164,7 +174,8 @@ block_ascends : {k : ℕ} {job : Job} {s m : Left} {b : Block} → Goes k job s 
     → Ascending s (acts_in k b ++ acts)
 block_ascends {k = k} {job = job} (begins {b = b} d) acts h g e =
     block_ascends d acts h g (subst (λ i. Later i (to_claims job 0 job.temps)) (sym e) (later_claims job 0 job.temps))
-block_ascends {job = job} (claimed {i = i} {ts = ts}) acts h g e = h g (subst (λ n. Later n (to_claims job (i + 1) ts)) (sym e) (later_claims job (i + 1) ts))
+block_ascends {job = job} (claimed {i = i} {ts = ts}) acts h g e =
+    h g (subst (λ n. Later n (to_claims job (i + 1) ts)) (sym e) (later_claims job (i + 1) ts))
 block_ascends (unclaimed x) acts h g e = h g tt
 block_ascends {k = k} {job = job} (started {g = l} {gs = gs} {b = b} {kids = kids} {fault = fault} s) acts h g le =
     ascend_from g 0 l 0 (acts_in k b ++ acts) (by (nat_lt g l) refl) (starts_ascend s acts (h (l + 1) (later_starts job l fault kids gs)))
@@ -193,7 +204,8 @@ later_begin (c ∷ gs) = refl
 
 pub all_waited : (plan : Plan) (N : ℕ) (events : List RunEvent) → Windowed plan N events → (k : ℕ) → WaitsForEach k events
 all_waited plan N events w k = record {
-  each = subst (λ l. Waited [] l) (sym o.is) (subst (λ l. Waited l (acts_in k (events_of o.blocks))) (open_begin o.job.groups) (story_waits o.story));
+  each = subst (λ l. Waited [] l) (sym o.is) (subst (λ l. Waited l (acts_in k (events_of o.blocks)))
+      (open_begin o.job.groups) (story_waits o.story));
   once = subst (λ l. Ascends 0 0 l) (sym o.is) (story_ascends o.story 0 (later_begin o.job.groups));
 }
   where

@@ -2,14 +2,16 @@ use Rattle.drv_words.specs.declared.steps.Place.{Place}
 use Rattle.drv_core.proofs.OneWay.{first_source, head, no_more, same_step, same_story, skip}
 use Rattle.drv_core.specs.Events.{Block, events_of, removal_failed}
 use Rattle.drv_core.specs.Story.{Goes, Left, Over, Story, begin}
-use Rattle.drv_core.specs.Windowed.{Leads, Removals, SourceBlock, Windowed, all_removed, blocks_of, due, goes_on, link_after, no_more as stop}
+use Rattle.drv_core.specs.Windowed.{Leads, Removals, SourceBlock, Windowed, all_removed, blocks_of, due, goes_on, link_after}
+use Rattle.drv_core.specs.Windowed.{no_more as stop}
 use Rattle.drv_core.specs.Windowed.{put, removed, stays}
 use Rattle.drv_words.specs.declared.answers.Answer.{Answer}
 use Rattle.drv_words.specs.declared.answers.Answer.TheVariants as answer
 use Rattle.drv_words.specs.declared.plan.Job.{Job}
 use Rattle.drv_words.specs.declared.plan.Plan.{Plan}
 use Rattle.drv_words.specs.declared.steps.RunEvent.{RunEvent}
-use Rattle.std.proofs.Common.{◌≡◌, ◌∙◌, List, [], ◌∷◌, ◌++◌, None, Option, Some, ap, append-nil, append_assoc, if◌then◌else◌, length, refl, subst}
+use Rattle.std.proofs.Common.{◌≡◌, ◌∙◌, List, [], ◌∷◌, ◌++◌, None, Option, Some, ap, append-nil, append_assoc, if◌then◌else◌, length, refl}
+use Rattle.std.proofs.Common.{subst}
 use Rattle.std.proofs.Common.{sym, ℕ}
 use Rattle.std.proofs.lemmas.List.{append_cancel_right}
 
@@ -32,7 +34,8 @@ same_leads {n = n} {M = M} {job = job} {st = st} {y = y} {E = E} {F = F} (goes_o
     (goes_on {k = j} {b = c} {m = l} {bs = cs} may2 h t) ex ey e =
     let split : b ++ (events_of (blocks_of bs) ++ E) ≡ c ++ (events_of (blocks_of cs) ++ F) =
     sym (append_assoc b (events_of (blocks_of bs)) E) ∙ e ∙ append_assoc c (events_of (blocks_of cs)) F in
-    let is : j ≡ k = ap number (sym (head h (events_of (blocks_of cs) ++ F)) ∙ ap first_source (sym split) ∙ head g (events_of (blocks_of bs) ++ E)) in
+    let is : j ≡ k = ap number (sym (head h (events_of (blocks_of cs) ++ F)) ∙ ap first_source (sym split)
+    ∙ head g (events_of (blocks_of bs) ++ E)) in
     let one = same_step g (subst (λ i. Goes i (job i) (st i) c l) is h) split in
     same_leads s (subst (λ x. Leads n M job (put st k x) cs y) (sym one.0) (subst (λ i. Leads n M job (put st i l) cs y) is t)) ex ey one.1
 
@@ -52,8 +55,10 @@ splits {cs = cs} stop l e = record { blocks = cs; leads = l; events = e }
 splits {bs = b ∷ bs} (goes_on may g s) stop e = absurd (not_none _ g (sym e ∙ append_assoc b.block (events_of (blocks_of bs)) _))
 splits {n = n} {M = M} {job = job} {st = st} {y = y} {F = F} (goes_on {k = k} {b = b} {bs = bs} may g s)
     (goes_on {k = j} {b = c} {m = l} {bs = cs} may2 h t) e =
-    let split : b ++ (events_of (blocks_of bs) ++ F) ≡ c ++ events_of (blocks_of cs) = sym (append_assoc b (events_of (blocks_of bs)) F) ∙ e in
-    let is : j ≡ k = ap number (sym (head h (events_of (blocks_of cs))) ∙ ap first_source (sym split) ∙ head g (events_of (blocks_of bs) ++ F)) in
+    let split : b ++ (events_of (blocks_of bs) ++ F) ≡ c ++ events_of (blocks_of cs) = sym (append_assoc b (events_of (blocks_of bs)) F)
+    ∙ e in
+    let is : j ≡ k = ap number (sym (head h (events_of (blocks_of cs))) ∙ ap first_source (sym split)
+    ∙ head g (events_of (blocks_of bs) ++ F)) in
     let one = same_step g (subst (λ i. Goes i (job i) (st i) c l) is h) split in
     splits s (subst (λ x. Leads n M job (put st k x) cs y) (sym one.0) (subst (λ i. Leads n M job (put st i l) cs y) is t)) one.1
 
@@ -93,7 +98,8 @@ before xs ys {F = F} e is = append_cancel_right xs ys F (ap (λ l. xs ++ l) (sym
 -- a whole run goes on in no whole run, of any window
 pub none_is_longer : (plan : Plan) (N M : ℕ) (E rest : List RunEvent) → Windowed plan N E → Windowed plan M (E ++ rest) → rest ≡ []
 none_is_longer plan N M E rest w v =
-    let all : events_of (blocks_of w.blocks) ++ (events_of w.link ++ (w.last ++ rest)) ≡ events_of (blocks_of v.blocks) ++ (events_of v.link ++ v.last) =
+    let all : events_of (blocks_of w.blocks) ++ (events_of w.link ++ (w.last ++ rest))
+    ≡ events_of (blocks_of v.blocks) ++ (events_of v.link ++ v.last) =
     sym (ap (λ l. l ++ rest) w.events ∙ append_assoc (events_of (blocks_of w.blocks)) (events_of w.link ++ w.last) rest
     ∙ ap (λ l. events_of (blocks_of w.blocks) ++ l) (append_assoc (events_of w.link) w.last rest)) ∙ v.events in
     let later : events_of w.link ++ (w.last ++ rest) ≡ events_of v.link ++ v.last = same_leads w.leads v.leads w.ended v.ended all in
@@ -105,5 +111,6 @@ none_is_longer plan N M E rest w v =
     let due_last : Removals (due plan (events_of (blocks_of w.blocks) ++ events_of w.link)) v.last =
     subst (λ l. Removals (due plan (events_of (blocks_of w.blocks) ++ l)) v.last) link
     (subst (λ l. Removals (due plan (l ++ events_of v.link)) v.last) sources v.last_removals) in
-    sym (last_read w.last_removals rest) ∙ ap (read_last (due plan (events_of (blocks_of w.blocks) ++ events_of w.link))) (last ∙ sym (append-nil v.last))
+    sym (last_read w.last_removals rest) ∙ ap (read_last (due plan (events_of (blocks_of w.blocks) ++ events_of w.link)))
+    (last ∙ sym (append-nil v.last))
     ∙ last_read due_last []

@@ -1,5 +1,5 @@
 use Rattle.drv_core.specs.Events.{failed, job_of}
-use Rattle.drv_core.specs.Links.{is_work_of, link_run}
+use Rattle.drv_core.specs.Links.{is_work_of, job_failed, link_run}
 use Rattle.drv_core.specs.Windowed.{source_at}
 use Rattle.drv_words.specs.declared.answers.Answer.{Answer}
 use Rattle.drv_words.specs.declared.answers.Answer.TheVariants as answer
@@ -12,7 +12,7 @@ use Rattle.drv_words.specs.declared.steps.RunEvent.{RunEvent}
 use Rattle.drv_words.specs.declared.steps.Step.{Step}
 use Rattle.drv_words.specs.declared.steps.Step.TheVariants as step
 use Rattle.std.specs.List.{flat_map}
-use Rattle.std.specs.Prelude.{◌≡◌, ◌+◌, ◌-◌, ◌<◌, ◌&&◌, List, [], ◌∷◌, ◌++◌, if◌then◌else◌, length, nat_eq, suc, zero, ℕ}
+use Rattle.std.specs.Prelude.{◌≡◌, ◌+◌, ◌-◌, ◌<◌, ◌&&◌, List, [], ◌∷◌, ◌++◌, false, if◌then◌else◌, length, nat_eq, suc, zero, ℕ}
 
 -- Which commands of a plan are started (POSIX c99, "Consequences of Errors"; this project's profile).
 
@@ -57,7 +57,14 @@ pub data InOrder : List Place → List Act → Type 0 where
   starts : {p : Place} {ps : List Place} {acts : List Act} → InOrder ps acts → InOrder (p ∷ ps) (Starts p ∷ acts)
   fails : {ps : List Place} {acts : List Act} → starts_of acts ≡ [] → InOrder ps (Fails ∷ acts)
 
+-- So the started commands of job k are the first of its list, and all of it if the job did not fail.
+pub record StartsFirst (k : ℕ) (list : List Place) (events : List RunEvent) : Type 0 where
+  pub in_order : InOrder list (acts_in k events)
+  pub rest : List Place
+  pub first : list ≡ started_in k events ++ rest
+  pub every : job_failed k events ≡ false → started_in k events ≡ list
+
 -- the same of each source, and of the link if it is run
 pub record StartsInOrder (plan : Plan) (events : List RunEvent) : Type 0 where
-  pub sources : (k : ℕ) → k < length plan.jobs → InOrder (planned k 0 (source_at plan k).groups) (acts_in k events)
-  pub link : InOrder (planned (length plan.jobs) 0 (link_run plan events).groups) (acts_in (length plan.jobs) events)
+  pub sources : (k : ℕ) → k < length plan.jobs → StartsFirst k (planned k 0 (source_at plan k).groups) events
+  pub link : StartsFirst (length plan.jobs) (planned (length plan.jobs) 0 (link_run plan events).groups) events

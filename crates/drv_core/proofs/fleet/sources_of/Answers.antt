@@ -24,4 +24,5 @@ returns-clause-many c =
 
 -- none of them has an empty group
 pub returns-clause-filled : goal.returns-clause-filled
-returns-clause-filled c = all_filled c.args.jobs.now c.loop-job.sources.items c.loop-job.job-index c.loop-job-test.false c.loop-job.invariant
+returns-clause-filled c = all_filled c.args.jobs.now c.loop-job.sources.items c.loop-job.job-index c.loop-job-test.false
+    c.loop-job.invariant

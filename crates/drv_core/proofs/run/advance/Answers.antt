@@ -22,4 +22,5 @@ returns-in-Some-clause-kept c = answered c.args.plan.now c.args.work.now c.take.
 
 -- the window stays
 pub returns-in-Some-clause-window : goal.returns-in-Some-clause-window
-returns-in-Some-clause-window c = same_window c.args.plan.now c.args.work.now c.take.new.self c.in-Some.step c.args.answer c.take.ensures.takes
+returns-in-Some-clause-window c = same_window c.args.plan.now c.args.work.now c.take.new.self c.in-Some.step
+    c.args.answer c.take.ensures.takes

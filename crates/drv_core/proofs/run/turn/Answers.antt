@@ -9,4 +9,5 @@ returns-clause-kept c = turned_kept c.args.plan.now c.args.work.now c.choose.new
 
 -- the window stays
 pub returns-clause-window : goal.returns-clause-window
-returns-clause-window c = turned_window c.args.plan.now c.args.work.now c.choose.new.self c.args.choice (c.choose.ensures.chosen c.args.plan.now)
+returns-clause-window c = turned_window c.args.plan.now c.args.work.now c.choose.new.self c.args.choice
+    (c.choose.ensures.chosen c.args.plan.now)

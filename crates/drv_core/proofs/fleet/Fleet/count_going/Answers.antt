@@ -11,5 +11,6 @@ pub returns-clause-going : goal.returns-clause-going
 returns-clause-going c jobs =
     count_from_yields_List _ _ c.count.ensures.ran
     (YieldsList-from_filter _ (may_go (all_fly (fleet_of jobs c.args.self.now)) (fleet_of jobs c.args.self.now))
-    (YieldsList-from_slice c.args.self.now.begun.items (ap iter_rest c.filter.ensures.source ∙ c.iter.ensures.rest ∙ c.as_slice-begun.ensures.value))
+    (YieldsList-from_slice c.args.self.now.begun.items (ap iter_rest c.filter.ensures.source ∙ c.iter.ensures.rest
+    ∙ c.as_slice-begun.ensures.value))
     c.filter.ensures.closure (λ x r q k. search (rules, tests)))

@@ -6,7 +6,8 @@ use Rattle.std.proofs.Common.{subst, sym}
 
 -- the source is inside a block, and stays in progress
 pub returns-then-is_inside-clause-taken : goal.returns-then-is_inside-clause-taken
-returns-then-is_inside-clause-taken c = stays c.args.jobs.now (worked c.args.jobs.now (fleet_of c.args.jobs.now c.args.self.now) c.args.answer)
+returns-then-is_inside-clause-taken c = stays c.args.jobs.now
+    (worked c.args.jobs.now (fleet_of c.args.jobs.now c.args.self.now) c.args.answer)
     (fleet_of c.args.jobs.now c.work.new.self) c.work.ensures.fleet (c.if-is_inside.ensures c.args.jobs.now)
 
 pub returns-then-is_inside-clause-children : goal.returns-then-is_inside-clause-children

@@ -6,7 +6,8 @@ use Rattle.std.proofs.Common.{◌<◌, ◌∙◌, ap, if◌then◌else◌, lengt
 
 -- the source of this number goes on
 pub returns-then-is_between-clause-chosen : goal.returns-then-is_between-clause-chosen
-returns-then-is_between-clause-chosen c plan = ap (λ f. record (course_of plan c.args.self.now) { fleet = f }) (c.select.ensures.selected plan.jobs)
+returns-then-is_between-clause-chosen c plan = ap (λ f. record (course_of plan c.args.self.now) { fleet = f })
+    (c.select.ensures.selected plan.jobs)
     ∙ ap (λ t. if t then record (course_of plan c.args.self.now) { fleet = selected (course_of plan c.args.self.now).fleet c.args.choice }
     else course_of plan c.args.self.now) (c.if-is_between.ensures plan)
 

@@ -13,7 +13,8 @@ returns-clause-rooms c = rooms_from c.args.plan.now c.leave_sources.new.self c.i
     (ap (λ e. vec_capacity e) c.leave_sources.ensures.events)
     (subst (λ (jobs : _). length c.in_ok-new.field-0.sources.items ≡ length jobs) c.as_slice.ensures c.in_ok-new.ensures.many)
     (subst (λ jobs. AllInRoom jobs c.in_ok-new.field-0.sources.items) c.as_slice.ensures c.in_ok-new.ensures.room)
-    (subst (λ r. r.window < r.room) (sym c.in_ok-new.ensures.fresh) (omega arith)) c.in_ok-link_source.ensures.room c.in_ok-room_for.ensures.room
+    (subst (λ r. r.window < r.room) (sym c.in_ok-new.ensures.fresh) (omega arith)) c.in_ok-link_source.ensures.room
+    c.in_ok-room_for.ensures.room
 
 -- no group is empty
 pub returns-clause-filled : goal.returns-clause-filled

@@ -7,7 +7,8 @@ use Rattle.std.specs.Vec.{vec_capacity}
 pub returns-in-Removals-clause-rooms : goal.returns-in-Removals-clause-rooms
 returns-in-Removals-clause-rooms c = rooms_from c.args.plan.now c.take_removal.new.self c.args.self.now.fleet c.args.self.now.link
     (vec_capacity c.args.self.now.events) c.take_removal.ensures.fleet c.take_removal.ensures.link
-    (ap (λ e. vec_capacity e) c.take_removal.ensures.events ∙ c.push_reserved.ensures.capacity) c.requires.rooms.sources c.requires.rooms.children
+    (ap (λ e. vec_capacity e) c.take_removal.ensures.events ∙ c.push_reserved.ensures.capacity) c.requires.rooms.sources
+    c.requires.rooms.children
     c.requires.rooms.begun c.requires.rooms.link c.requires.rooms.events
 
 pub returns-in-Report-clause-rooms : goal.returns-in-Report-clause-rooms
