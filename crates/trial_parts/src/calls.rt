@@ -1,94 +1,91 @@
-//! Single calls of the library. Prints the result, and then how many questions the call asked.
+//! Single calls of the library, and their results.
 //!
 //! ```text
-//! read | kind PATH..    the system's answer: the length of a file, the kind of a path
-//! variable NAME..       the same: the value of a variable
-//! lines TEXT            how many lines the text of a plan shows
-//! pieces TEXT           the pieces of a spec text of gcc
-//! ours TEXT             such a text in this driver's spec language
-//! dump TEXT             the texts of a gcc's dump, and which of them are refused
+//! lines TEXT              how many lines the text of a plan shows
+//! pieces TEXT             the pieces of a spec text of gcc
+//! ours TEXT               such a text in this driver's spec language
+//! dump TEXT               the texts of a gcc's dump, and which of them are refused
+//! tokens TEXT             where each token of a spec text begins and ends, and which is the next one
+//! order PATTERN NAME..    the order of these switches, and where what a pattern names begins and ends in it
 //! ```
 
-mod outside;
-mod texts;
-
 use crate::names::look_up;
-use crate::script::read_system;
+use crate::texts::{add_dump, add_lines, add_ours, add_pieces, add_tokens};
 use crate::transcript::Transcript;
-use drv_system::{HostSystem, System};
+use drv_args::Switch;
+use drv_match::{Pattern, Switches};
 use drv_words::Word;
-use outside::{Question, try_questions};
 use std::alloc::{AllocError, Global};
-use std::io;
-use texts::{Reading, try_reading};
 
 /// A call that can be made.
 #[derive(Clone, Copy)]
 enum Call {
-    Ask(Question),
-    Read(Reading),
+    Lines,
+    Pieces,
+    Ours,
+    Dump,
+    Tokens,
+    Order,
 }
 
 /// The names of calls.
-const CALLS: [(&[u8], Call); 7] = [
-    (b"read", Call::Ask(Question::Read)),
-    (b"kind", Call::Ask(Question::Kind)),
-    (b"variable", Call::Ask(Question::Variable)),
-    (b"lines", Call::Read(Reading::Lines)),
-    (b"pieces", Call::Read(Reading::Pieces)),
-    (b"ours", Call::Read(Reading::Ours)),
-    (b"dump", Call::Read(Reading::Dump)),
+const CALLS: [(&[u8], Call); 6] = [
+    (b"lines", Call::Lines),
+    (b"pieces", Call::Pieces),
+    (b"ours", Call::Ours),
+    (b"dump", Call::Dump),
+    (b"tokens", Call::Tokens),
+    (b"order", Call::Order),
 ];
 
-/// Makes a call, on this machine if the words say so, otherwise over the script of standard input.
-///
-/// # Errors
-/// A lack of memory, and a standard input that can't be read.
-pub fn try_call(rt: &HostRuntime, call: &[Word], out: &mut Transcript) -> io::Result<()> {
-    match call {
-        [host, call @ ..] if host.as_bytes() == b"host".as_slice() => on_host(rt, call, out),
-        _ => over_script(rt, call, out),
+/// The pattern of a word: with a star at its end it names all that begins so.
+fn pattern_of(word: &[u8]) -> Pattern<'_> {
+    match word {
+        [name @ .., b'*'] => Pattern { name, star: true },
+        name => Pattern { name, star: false },
     }
 }
 
-/// Makes a call that asks the machine.
-fn on_host(rt: &HostRuntime, call: &[Word], out: &mut Transcript) -> io::Result<()> {
-    let mut sys = HostSystem::new(rt.clone()?);
-    Ok(answer(rt.alloc(), &mut sys, call, out)?)
-}
-
-/// Makes a call that asks the script on standard input.
-fn over_script(rt: &HostRuntime, call: &[Word], out: &mut Transcript) -> io::Result<()> {
-    let mut sys = read_system(rt)?;
-    Ok(answer(rt.alloc(), &mut sys, call, out)?)
-}
-
-/// Adds the result of a call, and how many questions it asked.
-fn answer<S: System>(
+/// Adds the places of switches by their names, and where the block of a pattern begins and ends there.
+fn add_order(
     alloc: Global,
-    sys: &mut S,
-    call: &[Word],
+    pattern: &[u8],
+    names: &[Word],
     out: &mut Transcript,
 ) -> Result<(), AllocError> {
-    try_named(alloc, sys, call, out)?;
-    out.add(b"\n")?;
-    out.add_count(sys.journal().len())?;
-    out.add(b" asked\n")
+    let mut line = Vec::new(alloc);
+    for name in names {
+        let name = name.clone()?;
+        line.push(Switch { name, arg: None })?;
+    }
+    let switches = Switches::new(alloc, line.as_slice())?;
+    for place in switches.order() {
+        out.add_count(*place)?;
+        out.add(b" ")?;
+    }
+    let (start, end) = switches.block(&pattern_of(pattern));
+    out.add_line(b"block ", start)?;
+    out.add_line(b"to ", end)
 }
 
 /// Makes the call that the first of the words names.
-fn try_named<S: System>(
-    alloc: Global,
-    sys: &mut S,
-    words: &[Word],
-    out: &mut Transcript,
-) -> Result<(), AllocError> {
+///
+/// # Errors
+/// A lack of memory.
+pub fn try_call(alloc: Global, words: &[Word], out: &mut Transcript) -> Result<(), AllocError> {
     let [name, rest @ ..] = words else {
-        return out.add(b"no such call");
+        return out.add(b"no such call\n");
     };
     match (look_up(&CALLS, name.as_bytes()), rest) {
-        (Some(Call::Ask(question)), rest) => try_questions(sys, question, rest, out),
-        (Some(Call::Read(reading)), [text]) => try_reading(alloc, reading, text.as_bytes(), out),
-        _ => out.add(b"no such call"),
+        (Some(Call::Lines), [text]) => add_lines(alloc, text.as_bytes(), out)?,
+        (Some(Call::Pieces), [text]) => add_pieces(alloc, text.as_bytes(), out)?,
+        (Some(Call::Ours), [text]) => add_ours(alloc, text.as_bytes(), out)?,
+        (Some(Call::Dump), [text]) => add_dump(alloc, text.as_bytes(), out)?,
+        (Some(Call::Tokens), [text]) => add_tokens(alloc, text.as_bytes(), out)?,
+        (Some(Call::Order), [pattern, names @ ..]) => {
+            return add_order(alloc, pattern.as_bytes(), names, out);
+        }
+        _ => out.add(b"no such call")?,
     }
+    out.add(b"\n")
 }

@@ -148,7 +148,7 @@ pub fn choose_blocks(
     running: Running,
     out: &mut Transcript,
 ) -> Result<(), AllocError> {
-    let mut run = Run::new(alloc, plan, running.pass_codes, running.window.sources())?;
+    let mut run = Run::new(alloc, plan, running.pass_codes, running.window.number())?;
     for line in lines {
         go(&mut run, plan, line.as_slice(), out)?;
     }

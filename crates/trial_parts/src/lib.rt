@@ -9,6 +9,7 @@ mod planning;
 mod running;
 mod script;
 mod showing;
+mod texts;
 mod transcript;
 
 pub use calls::try_call;

@@ -178,9 +178,3 @@ pub fn system(alloc: Global, lines: &[Listing<Word>]) -> Result<ScriptSystem, Al
     }
     Ok(sys)
 }
-
-/// A system that answers as standard input says.
-pub fn read_system(rt: &HostRuntime) -> io::Result<ScriptSystem> {
-    let lines = read_lines(rt)?;
-    Ok(system(rt.alloc(), lines.as_slice())?)
-}

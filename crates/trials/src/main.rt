@@ -2,23 +2,19 @@
 //! printed:
 //!
 //! ```text
-//! call CALL ARG..         a single call of the library, over a script
-//! call host CALL ARG..    the same on this machine
-//! plan WINDOW [pass]      the plan of standard input, over a script; with `pass` exit codes are passed on
-//! run WINDOW [pass]       the same on this machine
-//! choose WINDOW [pass]    the run of such a plan with chosen sources
-//! drive WORD..            a whole call of the driver with these arguments and the seed 42, over a script
-//! compile NAME WORD..     a whole call of gdrv-cc by that name, as `compiling` says
+//! call CALL WORD..       a single call of the library, as `calls` of `trial_parts` says
+//! plan WINDOW [pass]     the plan of standard input, over a script; with `pass` exit codes are passed on
+//! run WINDOW [pass]      the same on this machine
+//! choose WINDOW [pass]   the run of such a plan with chosen sources
+//! drive WORD..           a whole call of the driver with these arguments and the seed 42, over a script
 //! ```
 //!
 //! Standard input holds the plan, as `planning` of `trial_parts` says, and the script, as `script`
 //! there says.
 #![tactic(auto)]
 
-mod compiling;
 mod runs;
 
-use compiling::try_compile;
 use drv_system::arguments;
 use drv_words::Word;
 use runs::{Way, try_drive, try_plan};
@@ -27,7 +23,7 @@ use trial_parts::{Transcript, look_up, try_call};
 
 /// What is printed where the words name nothing to be tried.
 const USAGE: &[u8] =
-    b"usage: trials call [host] CALL ARG.. | plan|run|choose WINDOW [pass] | drive WORD.. | compile NAME WORD..\n";
+    b"usage: trials call CALL WORD.. | plan|run|choose WINDOW [pass] | drive WORD..\n";
 
 /// The names of ways to carry out a plan.
 const WAYS: [(&[u8], Way); 3] = [
@@ -45,13 +41,9 @@ fn try_words(rt: &HostRuntime, words: &[Word], out: &mut Transcript) -> io::Resu
     if let Some(way) = look_up(&WAYS, part) {
         try_plan(rt, way, rest, out)
     } else if part == b"call".as_slice() {
-        try_call(rt, rest, out)
+        Ok(try_call(rt.alloc(), rest, out)?)
     } else if part == b"drive".as_slice() {
         try_drive(rt, rest, out)
-    } else if part == b"compile".as_slice()
-        && let [name, args @ ..] = rest
-    {
-        try_compile(rt, name, args, out)
     } else {
         Ok(out.add(USAGE)?)
     }

@@ -15,7 +15,7 @@ use trial_parts::{
 };
 
 /// The seed of the names of temporaries: they begin with `cc0000002a_`.
-pub const SEED: u32 = 42;
+const SEED: u32 = 42;
 
 /// How a plan is carried out.
 #[derive(Clone, Copy)]
@@ -38,7 +38,7 @@ fn carry_out<S: System>(
 ) -> Result<(), AllocError>
     requires new { S.events sys.old ≡ [] }
 {
-    let sources = running.window.sources();
+    let sources = running.window.number();
     let status = execute(alloc, sys, plan, running.pass_codes, sources)?;
     add_events(sys.journal(), Some(plan), out)?;
     out.add_line(b"status ", usize::from(status))?;
@@ -68,15 +68,6 @@ fn on_host(
     carry_out(rt.alloc(), &mut sys, plan, running, out)
 }
 
-/// What these words say of a run: the first is its window, and with another it passes on exit codes.
-fn running_by(words: &[Word]) -> Option<Running> {
-    match words {
-        [window] => running_of(window, false),
-        [window, _, ..] => running_of(window, true),
-        [] => None,
-    }
-}
-
 /// Carries out the plan of standard input, with the window that the words say.
 pub fn try_plan(
     rt: &HostRuntime,
@@ -84,7 +75,7 @@ pub fn try_plan(
     words: &[Word],
     out: &mut Transcript,
 ) -> io::Result<()> {
-    let Some(running) = running_by(words) else {
+    let Some(running) = running_of(words) else {
         return Ok(out.add(b"a window is 1 to 64\n")?);
     };
     let lines = read_lines(rt)?;
@@ -114,7 +105,7 @@ fn add_ending(alloc: Global, ending: &Ending, out: &mut Transcript) -> Result<()
 }
 
 /// Whether a step of a run was made.
-pub fn has_step(events: &[Event]) -> bool {
+fn has_step(events: &[Event]) -> bool {
     events
         .iter()
         .any(|event: &Event| matches!(event, Event::Run(_)))

@@ -1,24 +1,13 @@
-//! What texts are read as: the text of a plan, the spec texts of a gcc, and its dump.
+//! What texts are read as: the text of a plan, the spec texts of a gcc, its dump, and the tokens of a
+//! spec text of this driver.
 
 use crate::transcript::Transcript;
 use drv_dump::{
     DumpFault, Misfit, OursFault, TextFault, read_text, translate_dump, translate_text,
 };
+use drv_syntax::{SyntaxFault, Token, parse};
 use drv_words::read_back;
 use std::alloc::{AllocError, Global};
-
-/// What a text is read as.
-#[derive(Clone, Copy)]
-pub enum Reading {
-    /// The lines of a plan.
-    Lines,
-    /// The pieces of a spec text.
-    Pieces,
-    /// A spec text in this driver's language.
-    Ours,
-    /// The same of the texts that a gcc dumped.
-    Dump,
-}
 
 /// The name of what doesn't fit.
 fn misfit_name(misfit: Misfit) -> &'static [u8] {
@@ -39,8 +28,8 @@ fn add_misfit(misfit: Misfit, at: usize, out: &mut Transcript) -> Result<(), All
     out.add_count(at)
 }
 
-/// The number of lines of a plan that a text shows, or a dash if it shows none.
-fn try_lines(alloc: Global, text: &[u8], out: &mut Transcript) -> Result<(), AllocError> {
+/// Adds the number of lines of a plan that a text shows, or a dash if it shows none.
+pub fn add_lines(alloc: Global, text: &[u8], out: &mut Transcript) -> Result<(), AllocError> {
     match read_back(alloc, text)? {
         Some(lines) => {
             out.add_count(lines.len())?;
@@ -50,8 +39,8 @@ fn try_lines(alloc: Global, text: &[u8], out: &mut Transcript) -> Result<(), All
     }
 }
 
-/// The pieces of a text, each with a slash after it, or the refusal.
-fn try_pieces(alloc: Global, text: &[u8], out: &mut Transcript) -> Result<(), AllocError> {
+/// Adds the pieces of a text, each with a slash after it, or the refusal.
+pub fn add_pieces(alloc: Global, text: &[u8], out: &mut Transcript) -> Result<(), AllocError> {
     match read_text(alloc, text) {
         Ok(pieces) => {
             for piece in pieces.as_slice() {
@@ -65,8 +54,8 @@ fn try_pieces(alloc: Global, text: &[u8], out: &mut Transcript) -> Result<(), Al
     }
 }
 
-/// A text in this driver's language, or the refusal.
-fn try_ours(alloc: Global, text: &[u8], out: &mut Transcript) -> Result<(), AllocError> {
+/// Adds a text in this driver's language, or the refusal.
+pub fn add_ours(alloc: Global, text: &[u8], out: &mut Transcript) -> Result<(), AllocError> {
     match translate_text(alloc, text) {
         Ok(words) => out.add(words.as_bytes()),
         Err(OursFault::Memory) => Err(AllocError),
@@ -89,9 +78,9 @@ fn add_dump_refusal(fault: &DumpFault, out: &mut Transcript) -> Result<(), Alloc
     }
 }
 
-/// The texts of a dump in this driver's language and the names of those that are refused, or the
+/// Adds the texts of a dump in this driver's language and the names of those that are refused, or the
 /// refusal.
-fn try_dump(alloc: Global, dump: &[u8], out: &mut Transcript) -> Result<(), AllocError> {
+pub fn add_dump(alloc: Global, dump: &[u8], out: &mut Transcript) -> Result<(), AllocError> {
     match translate_dump(alloc, dump) {
         Ok(ours) => {
             out.add(ours.texts.as_bytes())?;
@@ -102,17 +91,27 @@ fn try_dump(alloc: Global, dump: &[u8], out: &mut Transcript) -> Result<(), Allo
     }
 }
 
-/// Adds what a text is read as.
-pub fn try_reading(
-    alloc: Global,
-    reading: Reading,
-    text: &[u8],
-    out: &mut Transcript,
-) -> Result<(), AllocError> {
-    match reading {
-        Reading::Lines => try_lines(alloc, text, out),
-        Reading::Pieces => try_pieces(alloc, text, out),
-        Reading::Ours => try_ours(alloc, text, out),
-        Reading::Dump => try_dump(alloc, text, out),
+/// Adds a token, with a slash after it: where it begins and ends, and the place in the list after those
+/// inside it.
+fn add_token(token: &Token, out: &mut Transcript) -> Result<(), AllocError> {
+    out.add_number(u64::from(token.start))?;
+    out.add(b"-")?;
+    out.add_number(u64::from(token.end))?;
+    out.add(b":")?;
+    out.add_count(token.next)?;
+    out.add(b"/")
+}
+
+/// Adds the tokens of a spec text, or a dash if it has no tree.
+pub fn add_tokens(alloc: Global, text: &[u8], out: &mut Transcript) -> Result<(), AllocError> {
+    match parse(alloc, text) {
+        Ok(tree) => {
+            for token in tree.tokens() {
+                add_token(token, out)?;
+            }
+            Ok(())
+        }
+        Err(SyntaxFault::Memory) => Err(AllocError),
+        Err(_) => out.add(b"-"),
     }
 }
