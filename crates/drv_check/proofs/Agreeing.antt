@@ -1,55 +1,37 @@
-use Rattle.drv_check.proofs.IncludesRead.{answers_alike, refusing}
 use Rattle.drv_check.proofs.LinesNumbered.{Same, name_same, pair_body_same, text_same}
-use Rattle.drv_check.proofs.PiecesChecked.{begins}
-use Rattle.drv_check.proofs.PiecesRead.{checked_read}
-use Rattle.drv_check.proofs.UntilBad.{carried_alike}
-use Rattle.drv_check.specs.Agreement.{Agrees, all_loaded, fault_in, fault_of, faults_of}
-use Rattle.drv_check.specs.Checked.{based, checked, checked_over, faults_alone, is_fault, tells_fault}
-use Rattle.drv_check.specs.Checks.{Enters, all_called, by_text, called, changed, entered, enters_at, file_checked, finding_of, noted}
-use Rattle.drv_check.specs.Checks.{empty_check, open_file, opened, opened_of, pieces_checked, put_aside, spot_in, step, stepped}
-use Rattle.drv_check.specs.Checks.{new_marks, warned, with_number}
-use Rattle.drv_check.specs.Includes.{inclusion_in, read_text}
-use Rattle.drv_check.specs.Numbers.{AreRead, IsRead}
+use Rattle.drv_check.specs.Agreement.{Agrees, all_loaded, faults_of}
+use Rattle.drv_check.specs.Checks.{Enters, changed, entered, noted, opened, put_aside, spot_in, step, stepped, with_number}
+use Rattle.drv_check.specs.Includes.{inclusion_in, inclusion_of}
+use Rattle.drv_check.specs.Numbers.{IsRead}
 use Rattle.drv_check.specs.Points.{front_length}
-use Rattle.drv_check.specs.Warnings.{marks_of}
-use Rattle.drv_check.specs.UnusedTexts.{source_names}
-use Rattle.drv_check.specs.Whole.{file_judged, judged, pieces_judged, sources_judged, whole_marks}
 use Rattle.drv_check.specs.declared.findings.Checking.{Checking}
-use Rattle.drv_check.specs.declared.findings.Finding.{Finding}
-use Rattle.drv_check.specs.declared.findings.Note.TheVariants.{Fault, Warned}
-use Rattle.drv_check.specs.declared.findings.Note.{Note}
-use Rattle.drv_check.specs.declared.findings.Source.{Source}
+use Rattle.drv_check.specs.declared.findings.Fault.{Fault}
 use Rattle.drv_check.specs.declared.findings.Spot.{Spot}
+use Rattle.drv_check.specs.declared.opening.Inclusion.{Inclusion}
 use Rattle.drv_check.specs.declared.opening.OpenFile.{OpenFile}
 use Rattle.drv_check.specs.declared.pieces.Piece.{Piece}
-use Rattle.drv_check.specs.declared.unused_text.Names.{Names}
-use Rattle.drv_check.specs.declared.warning.Mark.{Mark}
-use Rattle.drv_search.specs.Search.{file_found, prefixes_of}
 use Rattle.drv_search.specs.declared.prefixes.Prefixes.{Prefixes}
 use Rattle.drv_specs.specs.Blanks.{is_blank}
-use Rattle.drv_specs.specs.Builtin.{builtin_specs}
-use Rattle.drv_specs.specs.Directives.{Bad, Directive, Include, Pair, Rename, Text, directives_of}
+use Rattle.drv_specs.specs.Directives.{Bad, Directive, Include, Pair, Rename, Text, read_settled}
+use Rattle.drv_specs.specs.Lines.{settle}
 use Rattle.drv_specs.specs.Loading as load
-use Rattle.drv_specs.specs.Loading.{Carried, all_carried, carried, file_carried, file_loaded, including, loaded, most_files, most_levels}
-use Rattle.drv_specs.specs.Loading.{set_in, text_read, then_by, worked}
+use Rattle.drv_specs.specs.Loading.{Carried, carried, file_loaded, including, loaded, most_files, set_in, then_by, worked}
 use Rattle.drv_specs.specs.Sets.{Set, with_name, with_pair_body, with_text}
-use Rattle.drv_specs.specs.declared.fault.SpecsFault.TheVariants.{BadLine, IncludeTooDeep, TooManyIncludes}
+use Rattle.drv_specs.specs.declared.directive.IfMissing.{IfMissing}
+use Rattle.drv_specs.specs.declared.fault.SpecsFault.TheVariants.{BadLine}
 use Rattle.drv_specs.specs.declared.fault.SpecsFault.{SpecsFault}
-use Rattle.drv_system.specs.Facts.{Facts, read_of}
-use Rattle.drv_system.specs.Known.{◌>>=◌, Is, Known, Unasked, asked}
-use Rattle.drv_system.specs.declared.event.ReadAnswer.{ReadAnswer}
-use Rattle.std.proofs.Common.{◌≡◌, ◌∙◌, ◌+◌, ◌++◌, ◌∷◌, Bool, Err, List, None, Ok, Option, Result, Some, [], ap, append_assoc, drop, false}
-use Rattle.std.proofs.Common.{if◌then◌else◌, length, refl, subst, suc, sym, zero, ℕ}
-use Rattle.std.proofs.lemmas.List.{append-nil}
-use Rattle.std.specs.List.{flat_map}
-use Rattle.std.specs.Prelude.{filter, map}
+use Rattle.drv_system.specs.Facts.{Facts}
+use Rattle.drv_system.specs.Known.{◌>>=◌, Is, Known, Unasked}
+use Rattle.std.proofs.Common.{◌≡◌, ◌∙◌, ◌++◌, ◌∷◌, Err, List, None, Ok, Option, Result, Some, [], ap, append_assoc, refl, subst, sym, ℕ}
+use Rattle.std.proofs.lemmas.List.{append-nil, map-append}
+use Rattle.std.specs.Prelude.{slice_get}
 
 -- For first_fault_is_refusal (src/laws.rt): a check finds no fault exactly where the driver loads the files, and its first fault is the
 -- driver's refusal.
 -- Names: `F` is what is known of the outside. `prefixes` is where files are searched for. `c` is a check before a step, `c'` after it, and
 -- `d` or `c''` between. `file` is the open file, and `piece` one of its pieces. `from` is where a file is included. `levels` is how deep
 -- files may still be within one another, and `left` how many may still be read. `enters` is how an open file is checked. `before` is the
--- faults so far. `known` is what the driver makes of the same step, if the facts tell it. `missing` and `may` say what is done with a file
+-- faults so far. `known` is what the driver makes of the same step, if the facts tell it. `missing` says what is done with a file
 -- that isn't there. `over` is the files that are loaded first, and `names` those of the call. `faults_of` is the faults of findings, in
 -- order. `including`, `carried` and `all_carried` are the driver's: a file that is included, one directive, and several (drv_specs).
 -- `then_by` goes on behind a step that is not refused. `all_loaded` is files loaded by the driver. `IsRead piece directive`: the piece is
@@ -69,26 +51,14 @@ same_in {x = x} is = ap (known_or x) is
 
 -- the faults of findings
 
--- the faults of two lists of findings, one after the other
-pub faults_both : (first second : List Finding) → faults_of (first ++ second) ≡ faults_of first ++ faults_of second
-faults_both [] second = refl
-faults_both (finding ∷ first) second =
-    ap (λ fs. fault_of finding ++ fs) (faults_both first second)
-    ∙ sym (append_assoc (fault_of finding) (faults_of first) (faults_of second))
-
--- Findings without a fault change no list of faults: so warnings may be left out of the comparison.
-pub faults_with : (first second : List Finding) → faults_of second ≡ [] → faults_of (first ++ second) ≡ faults_of first
-faults_with first second none = faults_both first second ∙ ap (λ fs. faults_of first ++ fs) none ∙ append-nil (faults_of first)
-
--- The warnings of a piece hold no fault.
-pub no_faults : (file : OpenFile) (piece : Piece) (marks : List Mark) → faults_of (map (finding_of file piece) marks) ≡ []
-no_faults file piece [] = refl
-no_faults file piece (mark ∷ marks) = no_faults file piece marks
+-- the faults of two lists, one after the other
+faults_both : (first second : List Fault) → faults_of (first ++ second) ≡ faults_of first ++ faults_of second
+faults_both first second = map-append (λ found. found.fault) first second
 
 -- A fault that is noted comes last in the list of faults.
 pub noted_faults : (c : Checking) (spot : Option Spot) (fault : SpecsFault)
-    → faults_of (noted c spot (Fault fault)).findings ≡ faults_of c.findings ++ fault ∷ []
-noted_faults c spot fault = faults_both c.findings (record { spot = spot; note = Fault fault } ∷ [])
+    → faults_of (noted c spot fault).findings ≡ faults_of c.findings ++ fault ∷ []
+noted_faults c spot fault = faults_both c.findings (record { spot = spot; fault = fault } ∷ [])
 
 -- what the driver makes of it, after these faults and with these
 
@@ -125,21 +95,16 @@ joins before c c' (Is (Err fault)) next first second =
 -- a directive that includes no file
 
 module _ (c : Checking) (file : OpenFile) (piece : Piece) where
-  -- What a piece is warned of adds no fault.
-  warned_faults : faults_of (warned c file piece).findings ≡ faults_of c.findings
-  warned_faults = faults_with c.findings (map (finding_of file piece) (new_marks file.again (marks_of c.whose c.set piece.text)))
-      (no_faults file piece (new_marks file.again (marks_of c.whose c.set piece.text)))
-
   -- What the check makes of a piece that includes no file, where this is what the driver makes of it.
   abbrev Alone : Enters → Result Set SpecsFault → Checking → Type 0
   Alone enters result c' =
-      (put_aside (changed (warned c file piece) file piece (Is result)) >>= λ next. entered enters next.0 next.1) ≡ Is c'
+      (put_aside (changed c file piece (Is result)) >>= λ next. entered enters next.0 next.1) ≡ Is c'
 
   -- Where the driver changes the set, the check has the same set and no new fault.
   changed_well : (enters : Enters) (set : Set) (c' : Checking) → Alone enters (Ok set) c'
       → Follows (faults_of c.findings) c' (Is (Ok (record { set = set; files = c.files })))
   changed_well enters set c' is =
-      subst (λ x. Follows (faults_of c.findings) x (Is (Ok (record { set = set; files = c.files })))) (same_in is) (warned_faults, refl)
+      subst (λ x. Follows (faults_of c.findings) x (Is (Ok (record { set = set; files = c.files })))) (same_in is) (refl, refl)
 
   -- Where the driver refuses a piece, the check notes that fault, with the number of the piece's line.
   changed_ill : (enters : Enters) (fault told : SpecsFault) (c' : Checking) → with_number piece.number fault ≡ told
@@ -148,9 +113,7 @@ module _ (c : Checking) (file : OpenFile) (piece : Piece) where
   changed_ill enters fault told c' same is =
       subst (λ x. Follows (faults_of c.findings) x (Is (Err told))) (same_in is) (
         [],
-        noted_faults (warned c file piece) _ (with_number piece.number fault) ∙ ap (λ fs. fs
-            ++ with_number piece.number fault ∷ []) warned_faults
-            ∙ ap (λ f. faults_of c.findings ++ f ∷ []) same,
+        noted_faults c _ (with_number piece.number fault) ∙ ap (λ f. faults_of c.findings ++ f ∷ []) same,
       )
 
   -- In both cases the check ends as the driver does, where the fault has no line number of its own.
@@ -167,6 +130,10 @@ number_in (Pair key body) = 0
 number_in (Rename old new) = 0
 number_in (Include missing name) = 0
 
+-- the file that the first of directives includes
+abbrev first_included : List Directive → Option Inclusion
+first_included directives = inclusion_of (slice_get directives 0)
+
 module _ (F : Facts) (prefixes : Prefixes) where
   -- a piece loaded as a text by itself
 
@@ -177,10 +144,11 @@ module _ (F : Facts) (prefixes : Prefixes) where
   change_alone (Err fault) = refl
 
   -- The driver loads a piece by itself as the one directive that the piece is.
-  pub loaded_alone : (set : Set) (text : List ℕ) (directive : Directive) → directives_of text ≡ directive ∷ []
+  pub loaded_alone : (set : Set) (text : List ℕ) (directive : Directive) → settle text ≡ text → read_settled text ≡ directive ∷ []
       → loaded F prefixes set text ≡ worked F prefixes set most_files (directive ∷ [])
   unfolding loaded
-  loaded_alone set text directive is = ap (worked F prefixes set most_files) is
+  loaded_alone set text directive left is =
+      ap (λ t. worked F prefixes set most_files (read_settled t)) left ∙ ap (worked F prefixes set most_files) is
 
   -- A check of one piece ends with this.
   abbrev pub One : Enters → ℕ → Checking → OpenFile → Piece → Checking → Type 0
@@ -192,16 +160,15 @@ module _ (F : Facts) (prefixes : Prefixes) where
       → loaded F prefixes c.set piece.text ≡ Is result → One enters levels c file piece c'
       → Alone c file piece enters result c'
   stays enters levels c c' file piece result none loads is =
-      ap (λ k. put_aside (changed (warned c file piece) file piece k) >>= λ next. entered enters next.0 next.1) (sym loads)
+      ap (λ k. put_aside (changed c file piece k) >>= λ next. entered enters next.0 next.1) (sym loads)
       ∙ ap (λ i. stepped F prefixes levels c file piece i >>= λ next. entered enters next.0 next.1) (sym none) ∙ is
 
   -- how deep files may be within one another
 
   -- from this state (c) the check of an included file, at most `levels` deep, ends as the driver's reading of it does
   abbrev pub OpensFrom : Enters → ℕ → Checking → Type 0
-  OpensFrom enters levels c = (c' : Checking) (from : Option Spot) (may : Bool) (missing : _) (name : List ℕ)
-      → ((path : List ℕ) (answer : ReadAnswer) → text_read missing path answer ≡ read_text may path answer)
-      → (opened F prefixes levels c from (record { may_miss = may; file = name }) >>= λ next. entered enters next.0 next.1) ≡ Is c'
+  OpensFrom enters levels c = (c' : Checking) (from : Option Spot) (missing : IfMissing) (name : List ℕ)
+      → (opened F prefixes levels c from (record { if_missing = missing; file = name }) >>= λ next. entered enters next.0 next.1) ≡ Is c'
       → Follows (faults_of c.findings) c' (including F prefixes levels (carried_of c) missing name)
 
   -- one piece ends as the driver does with its directive, where the files that it may include do
@@ -212,23 +179,24 @@ module _ (F : Facts) (prefixes : Prefixes) where
       → Follows (faults_of c.findings) c' (carried (including F prefixes levels) (carried_of c) directive)
   one_as enters levels c opens c' file piece (Text name body) read is =
       changed_as c file piece enters (with_text c.set name body) c' (text_same piece.number c.set name body)
-      (stays enters levels c c' file piece (with_text c.set name body) read.includes
-      (loaded_alone c.set piece.text (Text name body) read.alone ∙ change_alone (with_text c.set name body)) is)
+      (stays enters levels c c' file piece (with_text c.set name body) (ap first_included read.alone)
+      (loaded_alone c.set piece.text (Text name body) read.settled read.alone ∙ change_alone (with_text c.set name body)) is)
   one_as enters levels c opens c' file piece (Pair key body) read is =
       changed_as c file piece enters (with_pair_body c.set key body) c' (pair_body_same piece.number c.set key body)
-      (stays enters levels c c' file piece (with_pair_body c.set key body) read.includes
-      (loaded_alone c.set piece.text (Pair key body) read.alone ∙ change_alone (with_pair_body c.set key body)) is)
+      (stays enters levels c c' file piece (with_pair_body c.set key body) (ap first_included read.alone)
+      (loaded_alone c.set piece.text (Pair key body) read.settled read.alone ∙ change_alone (with_pair_body c.set key body)) is)
   one_as enters levels c opens c' file piece (Rename old new) read is =
       changed_as c file piece enters (with_name c.set old new) c' (name_same piece.number c.set old new)
-      (stays enters levels c c' file piece (with_name c.set old new) read.includes
-      (loaded_alone c.set piece.text (Rename old new) read.alone ∙ change_alone (with_name c.set old new)) is)
+      (stays enters levels c c' file piece (with_name c.set old new) (ap first_included read.alone)
+      (loaded_alone c.set piece.text (Rename old new) read.settled read.alone ∙ change_alone (with_name c.set old new)) is)
   one_as enters levels c opens c' file piece (Bad n) read is =
       changed_ill c file piece enters (BadLine 1) (BadLine n) c' (ap BadLine (sym (ap number_in read.here)))
-      (stays enters levels c c' file piece (Err (BadLine 1)) read.includes (loaded_alone c.set piece.text (Bad 1) read.alone) is)
+      (stays enters levels c c' file piece (Err (BadLine 1)) (ap first_included read.alone)
+      (loaded_alone c.set piece.text (Bad 1) read.settled read.alone) is)
   one_as enters levels c opens c' file piece (Include missing name) read is =
-      opens c' (spot_in file piece (front_length is_blank piece.text)) read.includes.0 missing name read.includes.2
+      opens c' (spot_in file piece (front_length is_blank piece.text)) missing name
       (ap (λ i. stepped F prefixes levels c file piece i >>= λ next. entered enters next.0 next.1)
-      (sym read.includes.1) ∙ is)
+      (sym (ap first_included read.alone)) ∙ is)
 
   -- the files of the call
 
@@ -244,14 +212,6 @@ module _ (F : Facts) (prefixes : Prefixes) where
   loads_set before c Unasked follows = follows
   loads_set before c (Is (Ok d)) follows = (follows.0, ap (λ x. x.set) follows.1)
   loads_set before c (Is (Err fault)) follows = follows
-
-  -- checks with the same faults and set end alike
-  pub loads_alike : (before : List SpecsFault) (c d : Checking) (known : Known (Result Set SpecsFault))
-      → faults_of d.findings ≡ faults_of c.findings
-      → d.set ≡ c.set → Loads before c known → Loads before d known
-  loads_alike before c d Unasked faults sets loads = loads
-  loads_alike before c d (Is (Ok set)) faults sets loads = (faults ∙ loads.0, sets ∙ loads.1)
-  loads_alike before c d (Is (Err fault)) faults sets loads = (loads.0, faults ∙ loads.1)
 
   -- the faults before stay at the front of the list
   loads_grow : (before : List SpecsFault) (c : Checking) (known : Known (Result Set SpecsFault)) → Loads before c known

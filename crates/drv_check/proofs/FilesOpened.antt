@@ -1,13 +1,12 @@
 use Rattle.drv_check.specs.Checks.{by_text, found_text, noted, opened, opened_of}
 use Rattle.drv_check.specs.declared.findings.Checking.{Checking}
-use Rattle.drv_check.specs.declared.findings.Note.TheVariants.{Fault}
 use Rattle.drv_check.specs.declared.findings.Spot.{Spot}
-use Rattle.drv_check.specs.declared.including.Inclusion.{Inclusion}
+use Rattle.drv_check.specs.declared.opening.Inclusion.{Inclusion}
 use Rattle.drv_check.specs.declared.opening.OpenFile.{OpenFile}
 use Rattle.drv_search.specs.declared.prefixes.Prefixes.{Prefixes}
+use Rattle.drv_specs.specs.Loading.{text_read}
 use Rattle.drv_specs.specs.declared.fault.SpecsFault.TheVariants.{IncludeTooDeep, TooManyIncludes}
 use Rattle.drv_specs.specs.declared.fault.SpecsFault.{SpecsFault}
-use Rattle.drv_check.specs.Includes.{read_text}
 use Rattle.drv_search.specs.Search.{file_found}
 use Rattle.drv_system.specs.Asking.{Extends}
 use Rattle.drv_system.specs.Facts.{Facts, read_of}
@@ -24,7 +23,7 @@ use Rattle.std.proofs.Common.{◌≡◌, ◌∙◌, ◌<◌, ◌-◌, Err, IfOk,
 
 module _ (F : Facts) (prefixes : Prefixes) (c : Checking) (from : Option Spot) (inclusion : Inclusion) where
   -- No file is opened within too many others: the reason is noted.
-  deep : (levels : ℕ) → levels ≡ 0 → opened F prefixes levels c from inclusion ≡ Is (noted c from (Fault IncludeTooDeep), None)
+  deep : (levels : ℕ) → levels ≡ 0 → opened F prefixes levels c from inclusion ≡ Is (noted c from IncludeTooDeep, None)
   deep zero is = refl
   deep (suc levels) is = absurd cc
 
@@ -34,7 +33,7 @@ module _ (F : Facts) (prefixes : Prefixes) (c : Checking) (from : Option Spot) (
   within (suc levels) is = refl
 
   -- No file is opened after too many others: the reason is noted.
-  many : (left : ℕ) → left ≡ 0 → opened_of F prefixes left c from inclusion ≡ Is (noted c from (Fault TooManyIncludes), None)
+  many : (left : ℕ) → left ≡ 0 → opened_of F prefixes left c from inclusion ≡ Is (noted c from TooManyIncludes, None)
   many zero is = refl
   many (suc left) is = absurd cc
 
@@ -48,12 +47,12 @@ module _ (F : Facts) (prefixes : Prefixes) (c : Checking) (from : Option Spot) (
       ap (λ n. found_text F prefixes inclusion >>= λ found. Is (by_text (record c { files = n }) from found.0 found.1)) less
 
   -- For the exit of the code where the file is nested too deep.
-  pub opens_deep : (levels : ℕ) (new : Checking) → levels ≡ 0 → new ≡ noted c from (Fault IncludeTooDeep)
+  pub opens_deep : (levels : ℕ) (new : Checking) → levels ≡ 0 → new ≡ noted c from IncludeTooDeep
       → opened F prefixes levels c from inclusion ≡ Is (new, None)
   opens_deep levels new is noted_so = deep levels is ∙ ap (λ d. Is (d, None)) (sym noted_so)
 
   -- For its exit where too many files were read.
-  pub opens_none : (levels : ℕ) (new : Checking) → 0 < levels → c.files ≡ 0 → new ≡ noted c from (Fault TooManyIncludes)
+  pub opens_none : (levels : ℕ) (new : Checking) → 0 < levels → c.files ≡ 0 → new ≡ noted c from TooManyIncludes
       → opened F prefixes levels c from inclusion ≡ Is (new, None)
   opens_none levels new some is noted_so = within levels some ∙ many c.files is ∙ ap (λ d. Is (d, None)) (sym noted_so)
 
@@ -75,9 +74,9 @@ module _ (F : Facts) (prefixes : Prefixes) (c : Checking) (from : Option Spot) (
 pub found_is : (F G : Facts) (prefixes : Prefixes) (inclusion : Inclusion) (path : List ℕ) (answer : ReadAnswer)
     (text : Result (List ℕ) SpecsFault)
     → file_found F prefixes inclusion.file ≡ Is path → Extends G F → read_of G path ≡ Some answer
-    → text ≡ read_text inclusion.may_miss path answer
+    → text ≡ text_read inclusion.if_missing path answer
     → found_text F prefixes inclusion ≡ Is (path, text)
 found_is F G prefixes inclusion path answer text finds e known is =
-    ap (λ k. k >>= λ p. asked (read_of F p) >>= λ a. Is (p, read_text inclusion.may_miss p a)) finds
-    ∙ ap (λ a. asked a >>= λ a'. Is (path, read_text inclusion.may_miss path a')) (e.reads path answer known)
+    ap (λ k. k >>= λ p. asked (read_of F p) >>= λ a. Is (p, text_read inclusion.if_missing p a)) finds
+    ∙ ap (λ a. asked a >>= λ a'. Is (path, text_read inclusion.if_missing path a')) (e.reads path answer known)
     ∙ ap (λ t. Is (path, t)) (sym is)

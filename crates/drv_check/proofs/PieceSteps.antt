@@ -1,9 +1,9 @@
-use Rattle.drv_check.specs.Checks.{changed, faulty, opened, put_aside, spot_in, step, stepped, warned}
+use Rattle.drv_check.specs.Checks.{changed, faulty, opened, put_aside, spot_in, step, stepped}
 use Rattle.drv_check.specs.Includes.{inclusion_in}
 use Rattle.drv_check.specs.Points.{front_length}
 use Rattle.drv_check.specs.declared.findings.Checking.{Checking}
 use Rattle.drv_check.specs.declared.findings.Spot.{Spot}
-use Rattle.drv_check.specs.declared.including.Inclusion.{Inclusion}
+use Rattle.drv_check.specs.declared.opening.Inclusion.{Inclusion}
 use Rattle.drv_check.specs.declared.opening.OpenFile.{OpenFile}
 use Rattle.drv_check.specs.declared.pieces.Piece.{Piece}
 use Rattle.drv_search.specs.declared.prefixes.Prefixes.{Prefixes}
@@ -17,7 +17,7 @@ use Rattle.std.proofs.Common.{◌≡◌, ◌∙◌, Err, IfOk, None, Ok, Option,
 
 -- For check_files (src/checking.rt): a piece changes the set, adds its fault, or opens a file.
 -- Names: `F` is what is known of the outside. `prefixes` is where files are searched for. `levels` is how deep files may still be within
--- one another. `c` is the check before the piece, `d` with its warnings, and `new` after it. `file` is the open file, and `piece` its
+-- one another. `c` is the check before the piece, `d` after its warnings, and `new` after it. `file` is the open file, and `piece` its
 -- piece. `known` is what the driver makes of the piece. `inclusion` is the file that it includes, and `spot` where. `fault` is a refusal.
 -- `result` is what the code's call gives. `changed` and `step` are a check after a piece (specs/Checks).
 
@@ -46,8 +46,8 @@ module _ (F : Facts) (prefixes : Prefixes) (levels : ℕ) (c : Checking) (file :
       ap (stepped F prefixes levels c file piece) (sym is) ∙ ap (λ s. opened F prefixes levels c s inclusion) (sym at) ∙ goes
 
   -- Another piece changes the set and opens nothing.
-  pub steps_on : (d new : Checking) → None ≡ inclusion_in piece.text → d ≡ warned c file piece
+  pub steps_on : (d new : Checking) → None ≡ inclusion_in piece.text → d ≡ c
       → changed d file piece (loaded F prefixes d.set piece.text) ≡ Is new → step F prefixes levels c file piece ≡ Is (new, None)
-  steps_on d new is warns goes =
+  steps_on d new is same goes =
       ap (stepped F prefixes levels c file piece) (sym is)
-      ∙ ap (λ x. put_aside (changed x file piece (loaded F prefixes x.set piece.text))) (sym warns) ∙ ap put_aside goes
+      ∙ ap (λ x. put_aside (changed x file piece (loaded F prefixes x.set piece.text))) (sym same) ∙ ap put_aside goes

@@ -4,6 +4,7 @@ use Rattle.drv_check.specs.declared.opening.OpenFile.{OpenFile}
 use Rattle.drv_check.specs.declared.pieces.Piece.{Piece}
 use Rattle.drv_search.specs.declared.prefixes.Prefixes.{Prefixes}
 use Rattle.drv_specs.specs.Loading.{most_files, most_levels}
+use Rattle.drv_specs.specs.declared.directive.IfMissing.TheVariants.{Refuse}
 use Rattle.drv_system.specs.Facts.{Facts}
 use Rattle.drv_system.specs.Known.{◌>>=◌, Is, Known}
 use Rattle.std.proofs.Common.{◌≡◌, ◌∙◌, ◌∷◌, ◌<◌, ◌+◌, ◌-◌, Err, IfOk, IfSome, List, None, Ok, Option, Result, Some, [], ap, arith, drop}
@@ -94,7 +95,7 @@ module _ (F : Facts) (prefixes : Prefixes) (limit : Limit) where
   -- a file of the call
   module _ (c d : Checking) (name : List ℕ) where
     pub called_in : {E X : Type 0} (file : OpenFile) (new : Checking) (result : Result X E)
-        → opened F prefixes most_levels (record c { files = most_files }) None (record { may_miss = false; file = name })
+        → opened F prefixes most_levels (record c { files = most_files }) None (record { if_missing = Refuse; file = name })
         ≡ Is (d, Some file)
         → IfOk result (λ _. file_checked F prefixes limit 15 d file ≡ Is new) → IfOk result (λ _. called F prefixes limit c name ≡ Is new)
     called_in file new (Err e) opens goes = goes

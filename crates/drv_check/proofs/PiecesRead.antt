@@ -1,10 +1,7 @@
-use Rattle.drv_check.proofs.IncludesRead.{body_as, keyword_as}
-use Rattle.drv_check.specs.Includes.{inclusion_at, inclusion_in, may_miss}
-use Rattle.drv_check.specs.Numbers.{AreRead, IncludesAs, IsRead, renumbered}
+use Rattle.drv_check.specs.Numbers.{AreRead, IsRead, renumbered}
 use Rattle.drv_check.proofs.UntilBad.{is_none, until_bad}
 use Rattle.drv_check.specs.Pieces.{alone, alone_at, checked_pieces, first_lacks_colon, goes_on_at, is_cut, kind_of, line_kind, longer, opened}
 use Rattle.drv_check.specs.Pieces.{opened_by, piece_of, pieces_from, pieces_of}
-use Rattle.drv_check.specs.declared.including.Inclusion.{Inclusion}
 use Rattle.drv_check.specs.declared.pieces.LineKind.TheVariants as kind
 use Rattle.drv_check.specs.declared.pieces.LineKind.{LineKind}
 use Rattle.drv_check.specs.declared.pieces.Piece.{Piece}
@@ -202,17 +199,13 @@ alone_read : (n at : ℕ) (line : List ℕ) → list_all is_line_byte line ≡ t
     ≡ Alone (by_keyword n (without_front is_blank line) (words_of (without_front is_blank line))))
     → IsRead (piece_of n at line) (by_keyword n (without_front is_blank line) (words_of (without_front is_blank line)))
 alone_read n at line bytes full is = record {
+  settled = settled_same line (line_settled line false bytes);
   alone =
-      ap read_settled (settled_same line (line_settled line false bytes))
-      ∙ ap (read_lines false 1) (one_piece line [] (line_alone line bytes))
+      ap (read_lines false 1) (one_piece line [] (line_alone line bytes))
       ∙ ap (λ e. directive_in (start_at e false 1 line []) ++ read_lines (is_inside e false (start_at e false 1 line [])) 2 []) full
       ∙ ap (λ s. directive_in s ++ []) (is 1 [])
       ∙ ap (λ d. d ∷ []) (sym (keyword_renumbered 1 n (without_front is_blank line) (words_of (without_front is_blank line))));
   here = sym (keyword_renumbered n n (without_front is_blank line) (words_of (without_front is_blank line)));
-  includes =
-      subst (λ s. IncludesAs (inclusion_at (may_miss (words_of (without_front is_blank line))) s)
-      (by_keyword n (without_front is_blank line) (words_of (without_front is_blank line)))) (sym (is 1 []))
-      (keyword_as 1 n (without_front is_blank line) (words_of (without_front is_blank line)));
 }
 
 -- a piece that goes on before these lines: what is known of its text, by which it is read when it ends
@@ -224,32 +217,15 @@ record Going (piece : Piece) (first : List ℕ) (body lines : List (List ℕ)) :
       ≡ WithBody (entry_of n (without_front is_blank first) lines)
   body_full : list_all is_full body ≡ true
   ends : (lines ≡ []) ⊎ (ends_with_backslash piece.text ≡ false)
-  begins : (rest : List ℕ) × (piece.text ≡ first ++ rest)
-
--- a directive with a body includes no file
-entry_as : (inclusion : Option Inclusion) (n : ℕ) (line : List ℕ) (lines : List (List ℕ)) (at : Option ℕ) → inclusion ≡ None
-    → IncludesAs inclusion (by_colon n line lines at)
-entry_as inclusion n line lines None is = is
-entry_as inclusion n line lines (Some at) is = by (take at line)
-  where
-    -- Plan: `by` goes by the key: an empty one, one with a star (`by_star`), or that of a pair.
-    by : (key : List ℕ) → IncludesAs inclusion (by_key key (body_of (drop (at + 1) line) lines))
-    by [] = is
-    by (b ∷ key) = by_star (b == asterisk)
-      where
-        -- Plan: `by_star` goes by both answers of `b == asterisk`.
-        by_star : (t : Bool) → IncludesAs inclusion (if t then Text key (body_of (drop (at + 1) line) lines)
-            else Pair (b ∷ key) (body_of (drop (at + 1) line) lines))
-        by_star true = is
-        by_star false = is
 
 -- a piece with a body that has ended, read alone, is the directive of its first line
 entry_read : (piece : Piece) (first : List ℕ) (body lines : List (List ℕ)) → Going piece first body lines
     → IsRead piece (entry_of piece.number (without_front is_blank first) body)
 entry_read piece first body lines g =
     record {
+      settled = settled_same piece.text g.settles;
       alone =
-          ap read_settled (settled_same piece.text g.settles) ∙ ap (read_lines false 1) g.lines_are
+          ap (read_lines false 1) g.lines_are
           ∙ ap (λ e. directive_in (start_at e false 1 first body) ++ read_lines (is_inside e false (start_at e false 1 first body)) 2 body)
           g.full
           ∙ ap (λ s. directive_in s ++ read_lines (opens_body s) 2 body) (g.opens 1 body)
@@ -258,10 +234,6 @@ entry_read piece first body lines g =
           (position is_colon (without_front is_blank first))));
       here = sym (colon_renumbered piece.number piece.number (without_front is_blank first) body
           (position is_colon (without_front is_blank first)));
-      includes =
-          entry_as (inclusion_in piece.text) piece.number (without_front is_blank first) body
-          (position is_colon (without_front is_blank first))
-          (body_as piece.text first g.begins.0 g.begins.1 g.full (ap kind_of (g.opens 1 [])));
     }
 
 -- pieces where reading recovers from a line that is no directive
@@ -359,7 +331,6 @@ inside_more recovers line lines bytes ends out here within piece first body n at
       opens = g.opens;
       body_full = list_all-append is_full body (line ∷ []) ∙ ap (λ t. t && (is_full line && true)) g.body_full ∙ ap (λ e. not e && true) is;
       ends = still ends;
-      begins = (g.begins.0 ++ newline ∷ line, ap (λ t. t ++ newline ∷ line) g.begins.1 ∙ append_assoc first g.begins.0 (newline ∷ line));
     }
 
     none : is_cut piece line ≡ true → (ls : List (List ℕ)) → entry_of piece.number f ls ≡ Bad piece.number
@@ -419,7 +390,6 @@ outside_more recovers line lines bytes ends out within n at = by (is_empty_line 
       opens = is;
       body_full = refl;
       ends = ends;
-      begins = ([], sym (append-nil line));
     }
 
     by_start : is_empty_line line ≡ false → Begins f → goal (line_kind line) (start_of n f lines)

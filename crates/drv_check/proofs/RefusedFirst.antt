@@ -1,14 +1,12 @@
 use Rattle.drv_check.proofs.Agreeing.{Follows, Loads, One, OpensFrom, carried_of, joins, loads_join, loads_set}
 use Rattle.drv_check.proofs.Agreeing.{noted_faults, one_as}
 use Rattle.drv_check.proofs.Agreeing.{same_in}
-use Rattle.drv_check.proofs.IncludesRead.{answers_alike, refusing}
 use Rattle.drv_check.proofs.PiecesRead.{checked_read}
 use Rattle.drv_check.proofs.UntilBad.{carried_alike}
 use Rattle.drv_check.proofs.PiecesChecked.{begins, names_kept, names_next, pieces_kept, pieces_next}
 use Rattle.drv_check.specs.Agreement.{all_loaded, faults_of}
 use Rattle.drv_check.specs.Checks.{Limit, all_called, by_text, called, entered, enters_at, file_checked, is_full, open_file, opened_of}
 use Rattle.drv_check.specs.Checks.{pieces_checked, step, was_read}
-use Rattle.drv_check.specs.Includes.{read_text}
 use Rattle.drv_check.specs.Numbers.{AreRead}
 use Rattle.drv_check.specs.declared.findings.Checking.{Checking}
 use Rattle.drv_check.specs.declared.findings.Spot.{Spot}
@@ -20,6 +18,8 @@ use Rattle.drv_specs.specs.Directives.{Directive, directives_of}
 use Rattle.drv_specs.specs.Loading.{Carried, all_carried, carried, file_carried, file_loaded, including, most_files, most_levels}
 use Rattle.drv_specs.specs.Loading.{text_read, then_by}
 use Rattle.drv_specs.specs.Sets.{Set}
+use Rattle.drv_specs.specs.declared.directive.IfMissing.TheVariants.{Refuse}
+use Rattle.drv_specs.specs.declared.directive.IfMissing.{IfMissing}
 use Rattle.drv_specs.specs.declared.fault.SpecsFault.TheVariants.{IncludeTooDeep, TooManyIncludes}
 use Rattle.drv_specs.specs.declared.fault.SpecsFault.{SpecsFault}
 use Rattle.drv_system.specs.Facts.{Facts, read_of}
@@ -29,6 +29,7 @@ use Rattle.std.proofs.Common.{◌≡◌, ◌∙◌, ◌++◌, ◌∷◌, Bool, E
 use Rattle.std.proofs.Common.{refl, subst}
 use Rattle.std.proofs.Common.{suc, sym, true, zero, ℕ}
 use Rattle.std.proofs.lemmas.Bool.{false≢true}
+use Rattle.std.proofs.lemmas.List.{length-map}
 use Rattle.std.specs.Prelude.{nat_le}
 
 -- For first_fault_is_refusal (src/laws.rt): a check, wherever it ends after a fault, finds none exactly where the driver loads the files,
@@ -36,7 +37,7 @@ use Rattle.std.specs.Prelude.{nat_le}
 -- Names: `F` is what is known of the outside. `prefixes` is where files are searched for. `c` is a check before a step, `c'` at the end,
 -- and `d` or `c''` after the step. `file` is the open file, and `pieces` its pieces. `from` is where a file is included. `levels` is how
 -- deep files may still be within one another, and `left` how many may still be read. `known` is what the driver makes of a step. `missing`
--- and `may` say what is done with a file that isn't there. `names` is the files of the call. `limit` says whether a check ends, which
+-- says what is done with a file that isn't there. `names` is the files of the call. `limit` says whether a check ends, which
 -- `alike` says that faults alone decide. `faults_of` is the faults of findings, in order. `pieces_checked`, `file_checked` and `all_called`
 -- are the steps of a check (specs/Checks). `Follows` and `Loads` say that a check ends as the driver does (Agreeing). `including` and
 -- `all_carried` are the
@@ -48,7 +49,8 @@ IsByFaults limit = (c d : Checking) → faults_of c.findings ≡ faults_of d.fin
 
 -- It is so where their number decides.
 pub by_number : (most : ℕ) → IsByFaults (is_full most)
-by_number most c d same = ap (λ faults. nat_le most (length faults)) same
+by_number most c d same =
+    ap (nat_le most) (sym (length-map c.findings (λ found. found.fault)) ∙ ap length same ∙ length-map d.findings (λ found. found.fault))
 
 module _ (F : Facts) (prefixes : Prefixes) (limit : Limit) (alike : IsByFaults limit) where
   -- what follows a step: nothing after a fault, and else the rest
@@ -129,7 +131,7 @@ module _ (F : Facts) (prefixes : Prefixes) (limit : Limit) (alike : IsByFaults l
   -- Too deep: both note the same fault.
   opens_none : Opens zero
   unfolding including
-  opens_none c goes c' from may missing name alike is =
+  opens_none c goes c' from missing name is =
       subst (λ x. Follows (faults_of c.findings) x (Is (Err IncludeTooDeep))) (same_in is) ([], noted_faults c from IncludeTooDeep)
 
   -- What the check makes of an included file's text.
@@ -151,38 +153,25 @@ module _ (F : Facts) (prefixes : Prefixes) (limit : Limit) (alike : IsByFaults l
       (carried_alike (including F prefixes levels) read.0 (directives_of text) (record { set = c.set; files = left }) read.2)
       (checks (record c {
         files = left;
-        sources = c.sources ++ record {
-          name = path;
-          text = text;
-          from = from;
-          again = was_read c.sources
-              path;
-        } ∷ [];
+        sources = c.sources ++ record { name = path; text = text; from = from } ∷ [];
       }) c'
       (record (open_file (length c.sources) text) { again = was_read c.sources path }) (open_file (length c.sources) text).pieces read.0
       read.1
       (alike (record c {
         files = left;
-        sources = c.sources ++ record {
-          name = path;
-          text = text;
-          from = from;
-          again = was_read c.sources
-              path;
-        } ∷ [];
+        sources = c.sources ++ record { name = path; text = text; from = from } ∷ [];
       }) c refl ∙ goes)
       (begins F prefixes limit levels
       (record c {
         files = left;
-        sources = c.sources ++ record { name = path; text = text; from = from; again = was_read c.sources path } ∷
-            [];
+        sources = c.sources ++ record { name = path; text = text; from = from } ∷ [];
       })
       (record (open_file (length c.sources) text) { again = was_read c.sources path }) ∙ is))
 
-  module _ (levels left : ℕ) (checks : Checks levels) (c c' : Checking) (from : Option Spot) (may : Bool) (name : List ℕ)
+  module _ (levels left : ℕ) (checks : Checks levels) (c c' : Checking) (from : Option Spot) (missing : IfMissing) (name : List ℕ)
       (well : limit c ≡ false) where
     abbrev texts : Known (List ℕ) → Known (List ℕ × Result (List ℕ) SpecsFault)
-    texts known = known >>= λ path. asked (read_of F path) >>= λ answer. Is (path, read_text may path answer)
+    texts known = known >>= λ path. asked (read_of F path) >>= λ answer. Is (path, text_read missing path answer)
 
     abbrev goes : Known (List ℕ × Result (List ℕ) SpecsFault) → Known Checking
     goes known =
@@ -190,41 +179,34 @@ module _ (F : Facts) (prefixes : Prefixes) (limit : Limit) (alike : IsByFaults l
         >>= λ next. entered (file_checked F prefixes limit levels) next.0 next.1
 
     -- By what the system answered for its path.
-    by_answer : (missing : _) → ((path : List ℕ) (answer : ReadAnswer) → text_read missing path answer ≡ read_text may path answer)
-        → (path : List ℕ) (answer : Option ReadAnswer) → goes (asked answer >>= λ a. Is (path, read_text may path a)) ≡ Is c'
+    by_answer : (path : List ℕ) (answer : Option ReadAnswer) → goes (asked answer >>= λ a. Is (path, text_read missing path a)) ≡ Is c'
         → Follows (faults_of c.findings) c' (then_by (asked answer >>= λ a. Is (text_read missing path a))
         (λ t. all_carried (including F prefixes levels) (record { set = c.set; files = left }) (directives_of t)))
-    by_answer missing alike path None is = absurd cc
-    by_answer missing alike path (Some answer) is =
-        subst (λ r. Follows (faults_of c.findings) c' (then_by (Is r)
-        (λ t. all_carried (including F prefixes levels) (record { set = c.set; files = left }) (directives_of t))))
-        (sym (alike path answer))
-        (by_result levels left checks c c' from path (read_text may path answer) well is)
+    by_answer path None is = absurd cc
+    by_answer path (Some answer) is = by_result levels left checks c c' from path (text_read missing path answer) well is
 
     -- By whether its path is known.
-    by_path : (missing : _) → ((path : List ℕ) (answer : ReadAnswer) → text_read missing path answer ≡ read_text may path answer)
-        → (known : Known (List ℕ)) → goes (texts known) ≡ Is c'
+    by_path : (known : Known (List ℕ)) → goes (texts known) ≡ Is c'
         → Follows (faults_of c.findings) c' (then_by (known >>= λ path. asked (read_of F path) >>= λ a. Is (text_read missing path a))
         (λ t. all_carried (including F prefixes levels) (record { set = c.set; files = left }) (directives_of t)))
-    by_path missing alike Unasked is = absurd cc
-    by_path missing alike (Is path) is = by_answer missing alike path (read_of F path) is
+    by_path Unasked is = absurd cc
+    by_path (Is path) is = by_answer path (read_of F path) is
 
   -- By how many files may still be read.
-  by_files : (levels : ℕ) → Checks levels → (n : ℕ) (c c' : Checking) (from : Option Spot) (may : Bool) (missing : _) (name : List ℕ)
-      → ((path : List ℕ) (answer : ReadAnswer) → text_read missing path answer ≡ read_text may path answer) → limit c ≡ false
-      → (opened_of F prefixes n c from (record { may_miss = may; file = name })
+  by_files : (levels : ℕ) → Checks levels → (n : ℕ) (c c' : Checking) (from : Option Spot) (missing : IfMissing) (name : List ℕ)
+      → limit c ≡ false
+      → (opened_of F prefixes n c from (record { if_missing = missing; file = name })
       >>= λ next. entered (file_checked F prefixes limit levels) next.0 next.1) ≡ Is c'
       → Follows (faults_of c.findings) c' (file_carried F prefixes (including F prefixes levels) c.set n missing name)
-  by_files levels checks zero c c' from may missing name alike goes is =
+  by_files levels checks zero c c' from missing name goes is =
       subst (λ x. Follows (faults_of c.findings) x (Is (Err TooManyIncludes))) (same_in is) ([], noted_faults c from TooManyIncludes)
-  by_files levels checks (suc left) c c' from may missing name alike goes is =
-      by_path levels left checks c c' from may name goes missing alike (file_found F prefixes name) is
+  by_files levels checks (suc left) c c' from missing name goes is =
+      by_path levels left checks c c' from missing name goes (file_found F prefixes name) is
 
   -- So one more level agrees, where the levels below do.
   opens_some : (levels : ℕ) → Checks levels → Opens (suc levels)
   unfolding including
-  opens_some levels checks c goes c' from may missing name alike is =
-      by_files levels checks c.files c c' from may missing name alike goes is
+  opens_some levels checks c goes c' from missing name is = by_files levels checks c.files c c' from missing name goes is
 
   -- And all levels agree.
   all_open : (levels : ℕ) → Opens levels
@@ -239,9 +221,8 @@ module _ (F : Facts) (prefixes : Prefixes) (limit : Limit) (alike : IsByFaults l
   unfolding file_loaded
   one_loads c c' name goes is =
       loads_set F prefixes (faults_of c.findings) c' _
-      (all_open most_levels (record c { files = most_files }) (alike (record c { files = most_files }) c refl
-      ∙ goes) c' None false refusing.0 name
-      (answers_alike refusing.0 false (λ path text. refl) (λ path. refl) (λ path. refl) (λ path. refl)) is)
+      (all_open most_levels (record c { files = most_files }) (alike (record c { files = most_files }) c refl ∙ goes) c' None Refuse name
+      is)
 
   -- After a fault the call ends, as the driver does with its refusal.
   pub loading_ends : (c c' c'' : Checking) (known : Known (Result Set SpecsFault)) (next : Set → Known (Result Set SpecsFault))

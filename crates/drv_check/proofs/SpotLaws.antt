@@ -1,16 +1,14 @@
-use Rattle.drv_check.specs.Origins.{agree, byte_at, last_spots, spot_at, spots_after, text_spots}
+use Rattle.drv_check.specs.Origins.{agree, byte_at, is_byte, spot_at}
 use Rattle.drv_check.specs.declared.findings.Source.{Source}
 use Rattle.drv_check.specs.declared.findings.Spot.{Spot}
-use Rattle.drv_check.specs.declared.loading_order.LoadedPiece.{LoadedPiece}
-use Rattle.drv_place.specs.BytesAt.{is_byte}
 use Rattle.std.proofs.Common.{◌≡◌, ◌∙◌, ◌&&◌, ◌+◌, ◌-◌, ◌∷◌, Bool, List, None, Option, Some, [], ap, arith, drop, false, if◌then◌else◌}
 use Rattle.std.proofs.Common.{length, refl, subst, suc, true, zero, ℕ}
 use Rattle.std.proofs.lemmas.Bool.Decides.{nat_tests}
-use Rattle.std.specs.Prelude.{nat_lt, reverse, slice_get}
+use Rattle.std.specs.Prelude.{nat_lt, slice_get}
 
 -- Where a byte of a text has a spot, a file has the byte there. For `spots_have_bytes` (src/laws.rt).
 -- Names: A spot is a place in a file. `sources` is the files that were read. `spots` is the spots of a text's last bytes, and `spot` one of
--- them. `text` is the text, and `head` what precedes its colon. `n`, `i` and `k` are places. `a`, `b` and `t` are values of tests, and `b`
+-- them. `text` is the text. `n`, `i` and `k` are places. `a`, `b` and `t` are values of tests, and `b`
 -- is a byte in `is_there`. `byte_at sources spot` is the byte at a spot. `agree sources spots text`: the files have these bytes there.
 -- `spot_at` is the spot of the byte at a place (specs/Origins).
 
@@ -54,7 +52,7 @@ dropped (suc k) (b ∷ text) i =
     dropped k text i ∙ ap (slice_get (b ∷ text)) more
 
 -- The spots are those of the last bytes, so the place counts from where these begin.
-placed : (sources : List Source) (spots : List Spot) (text : List ℕ) (n : ℕ) (spot : Spot)
+pub placed : (sources : List Source) (spots : List Spot) (text : List ℕ) (n : ℕ) (spot : Spot)
     → agree sources spots (drop (length text - length spots) text) ≡ true → spot_at spots (length text) n ≡ Some spot
     → byte_at sources spot ≡ slice_get text n
 placed sources spots text n spot is = by (nat_lt n before) refl
@@ -71,25 +69,9 @@ placed sources spots text n spot is = by (nat_lt n before) refl
         byte_there sources spots (drop before text) (n - before) spot is has
         ∙ dropped before text (n - before) ∙ ap (slice_get text) whole
 
--- Where the files don't agree, no byte has a spot.
-nothing : (text : List ℕ) (n : ℕ) (spot : Spot) → spot_at [] (length text) n ≡ Some spot → ⊥
-nothing text n spot has = by (nat_lt n (length text - 0)) has
-  where
-    -- Plan: `by` goes by both answers of `nat_lt n (length text - 0)`.
-    by : (t : Bool) → (if t then None else slice_get [] (n - (length text - 0))) ≡ Some spot → ⊥
-    by true has = cc
-    by false has = cc
-
--- So the law holds for the spots of a head's text.
-pub spot_has_byte : (sources : List Source) (loaded : List LoadedPiece) (head text : List ℕ) (n : ℕ) (spot : Spot)
-    → spot_at (text_spots sources loaded head text) (length text) n ≡ Some spot → byte_at sources spot ≡ slice_get text n
-spot_has_byte sources loaded head text n spot = by (agree sources spots (drop (length text - length spots) text)) refl
-  where
-    -- Plan: `spots` is the spots before they are compared; `by` goes by whether the files agree with the text.
-    spots : List Spot
-    spots = last_spots (spots_after head (reverse loaded)) text
-
-    by : (t : Bool) → agree sources spots (drop (length text - length spots) text) ≡ t
-        → spot_at (if t then spots else []) (length text) n ≡ Some spot → byte_at sources spot ≡ slice_get text n
-    by true is has = placed sources spots text n spot is has
-    by false is has = absurd (nothing text n spot has)
+-- If a file has the byte at the first spot, then the spots agree with the bytes exactly if the others do.
+pub agree_next : (sources : List Source) (spot : Spot) (spots spots' : List Spot) (byte : ℕ) (bytes bytes' : List ℕ)
+    → spots ≡ spot ∷ spots' → bytes ≡ byte ∷ bytes' → is_byte (byte_at sources spot) byte ≡ true
+    → agree sources spots bytes ≡ agree sources spots' bytes'
+agree_next sources spot spots spots' byte bytes bytes' cut cut' is =
+    ap (λ ss. agree sources ss bytes) cut ∙ ap (λ bs. agree sources (spot ∷ spots') bs) cut' ∙ rw is refl

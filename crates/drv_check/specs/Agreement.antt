@@ -1,30 +1,18 @@
-use Rattle.drv_check.specs.declared.findings.Finding.{Finding}
-use Rattle.drv_check.specs.declared.findings.Note.TheVariants.{Fault, Warned}
-use Rattle.drv_check.specs.declared.findings.Note.{Note}
+use Rattle.drv_check.specs.declared.findings.Fault.{Fault}
 use Rattle.drv_search.specs.declared.prefixes.Prefixes.{Prefixes}
 use Rattle.drv_specs.specs.Loading.{file_loaded, then_by}
 use Rattle.drv_specs.specs.Sets.{Set}
 use Rattle.drv_specs.specs.declared.fault.SpecsFault.{SpecsFault}
 use Rattle.drv_system.specs.Facts.{Facts}
 use Rattle.drv_system.specs.Known.{Is, Known, Unasked}
-use Rattle.std.specs.List.{flat_map}
-use Rattle.std.specs.Prelude.{◌≡◌, Err, List, [], ◌∷◌, Ok, Result, ℕ}
+use Rattle.std.specs.Prelude.{◌≡◌, Err, List, [], ◌∷◌, Ok, Result, map, ℕ}
 
 -- How a check and the driver agree on spec files (GCC manual, "Spec Files").
 -- For the laws of src/laws.rt.
 
--- the fault of a note, if it is one
-abbrev pub fault_in : Note → List SpecsFault
-fault_in (Fault fault) = fault ∷ []
-fault_in (Warned warning) = []
-
--- the fault of a finding, if it is one
-abbrev pub fault_of : Finding → List SpecsFault
-fault_of finding = fault_in finding.note
-
--- the faults that were found, in their order
-abbrev pub faults_of : List Finding → List SpecsFault
-faults_of findings = flat_map fault_of findings
+-- the faults that were found, in their order, without their places
+abbrev pub faults_of : List Fault → List SpecsFault
+faults_of = map (λ found. found.fault)
 
 -- files loaded by the driver, each over what the earlier ones made, up to the first refusal
 abbrev pub all_loaded : Facts → Prefixes → Set → List (List ℕ) → Known (Result Set SpecsFault)

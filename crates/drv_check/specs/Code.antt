@@ -1,3 +1,2 @@
--- How the code reads and keeps what it checks. No public contract rests on these.
-pub mod OwnTrees
+-- How the code reads what it checks. No public contract rests on these.
 pub mod Recovering

@@ -1,34 +1,28 @@
-use Rattle.drv_check.specs.Points.{front_length}
+use Rattle.drv_check.specs.Points.{directive_in}
 use Rattle.drv_check.specs.declared.pieces.Piece.{Piece}
-use Rattle.drv_specs.specs.Blanks.{is_blank}
-use Rattle.drv_specs.specs.Directives.{is_colon}
+use Rattle.drv_specs.specs.Directives.{Bad, Directive, Include, Pair, Rename, Text}
 use Rattle.drv_specs.specs.Sets.{begins_with_at}
-use Rattle.drv_words.specs.Bytes.{asterisk, percent}
 use Rattle.std.specs.Cmp.Lexicographic.{pointwise}
-use Rattle.std.specs.List.{ends_with, list_any, position}
-use Rattle.std.specs.Prelude.{◌==◌, ◌&&◌, ◌||◌, Bool, List, [], ◌∷◌, None, Option, Some, drop, false, if◌then◌else◌, nat_eq, not, take, ℕ}
+use Rattle.std.specs.List.{ends_with, list_any}
+use Rattle.std.specs.Prelude.{◌&&◌, ◌||◌, Bool, List, None, Option, Some, false, nat_eq, not, ℕ}
 
 -- A pair that is never used, since of those that fit a file or a language the last counts (this project's profile: last_text of drv_plan).
 -- For clauses of src/hidden_pair.rt.
 
--- the key of a pair, before the colon
+-- the key of a directive, if it is a pair, such as .c or @c
+abbrev pub key_of : Option Directive → Option (List ℕ)
+key_of None = None
+key_of (Some (Text name body)) = None
+key_of (Some (Pair key body)) = Some key
+key_of (Some (Rename old new)) = None
+key_of (Some (Include missing file)) = None
+key_of (Some (Bad n)) = None
 
--- the key by the place of its colon; a name (after *) and a directive (after %) are no keys
-abbrev pub key_before : Option ℕ → List ℕ → Option (List ℕ)
-key_before None line = None
-key_before (Some at) [] = None
-key_before (Some at) (b ∷ line) = if b == asterisk || b == percent then None else Some (take at (b ∷ line))
-
--- the key of a piece that is a pair, such as .c or @c
+-- the key of a piece that is a pair
 abbrev pub key_in : List ℕ → Option (List ℕ)
-key_in text = key_before (position is_colon (drop (front_length is_blank text) text)) (drop (front_length is_blank text) text)
+key_in text = key_of (directive_in text)
 
 -- whether a later piece hides it
-
--- whether a key is there and is this one
-abbrev pub is_key : List ℕ → Option (List ℕ) → Bool
-is_key key None = false
-is_key key (Some other) = pointwise nat_eq key other
 
 -- whether a suffix fits each name that another one fits: it ends that one. The key of a language is no suffix.
 abbrev pub ends_key : List ℕ → List ℕ → Bool

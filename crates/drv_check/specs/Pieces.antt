@@ -1,14 +1,15 @@
-use Rattle.drv_check.specs.Warnings.{is_keyword, name_precedes}
 use Rattle.drv_check.specs.declared.pieces.LineKind.TheVariants as kind
 use Rattle.drv_check.specs.declared.pieces.LineKind.{LineKind}
 use Rattle.drv_check.specs.declared.pieces.Piece.{Piece}
 use Rattle.drv_specs.specs.Blanks.{is_blank}
 use Rattle.drv_specs.specs.Directives.{Alone, Passed, Start, WithBody, is_colon, start_of}
 use Rattle.drv_specs.specs.Lines.{is_empty_line, lines_of, without_front, words_of}
+use Rattle.drv_specs.specs.Sets.{is_name}
 use Rattle.drv_words.specs.Bytes.{asterisk, at_sign, newline, period}
+use Rattle.std.specs.Cmp.Lexicographic.{pointwise}
 use Rattle.std.specs.List.{position}
 use Rattle.std.specs.Prelude.{◌+◌, ◌==◌, ◌&&◌, ◌||◌, Bool, List, [], ◌∷◌, ◌++◌, None, Option, Some, false, if◌then◌else◌}
-use Rattle.std.specs.Prelude.{is_some, length, not, true, ℕ}
+use Rattle.std.specs.Prelude.{codes, is_some, length, nat_eq, not, take, true, ℕ}
 
 -- The pieces of a settled text that are directives (GCC manual, "Spec Files"): the line of one that begins with %, and the line of a name
 -- or key with the lines of its body. Below a line that is no directive a check reads on at the next one that is (this project's profile).
@@ -60,6 +61,17 @@ lacks_colon line = not (is_some (position is_colon (without_front is_blank line)
 abbrev pub first_lacks_colon : List (List ℕ) → Bool
 first_lacks_colon [] = false
 first_lacks_colon (line ∷ lines) = lacks_colon line
+
+-- whether what precedes a colon is a name that a directive may have
+abbrev pub name_precedes : Option ℕ → List ℕ → Bool
+name_precedes None line = false
+name_precedes (Some at) line = is_name (take at line)
+
+-- whether a line's first word is that of a directive of %
+abbrev pub is_keyword : List (List ℕ) → Bool
+is_keyword [] = false
+is_keyword (word ∷ words) =
+    pointwise nat_eq word (codes "%rename") || pointwise nat_eq word (codes "%include") || pointwise nat_eq word (codes "%include_noerr")
 
 -- whether a byte begins the head of a directive with a body: *NAME:, .SUFFIX: or @LANGUAGE:
 abbrev pub is_head_byte : ℕ → Bool

@@ -1,17 +1,15 @@
 //! Branches of a choice that no line reaches.
 
-ghost use Rattle.drv_check.specs.Branches.{asks_all, covers, is_covered, is_default, is_unreachable, mark_if};
-ghost use Rattle.drv_check.specs.Branches.{names_all, unreached};
-ghost use Rattle.drv_check.specs.Branches.{beyond, branch_in, branches_of, here, listed_marks, test_at, test_in};
-ghost use Rattle.drv_check.specs.Branches.{tests_of};
+ghost use Rattle.drv_check.specs.Branches.{asks_all, covers, is_covered, is_default, is_unreachable, names_all};
+ghost use Rattle.drv_check.specs.Branches.{test_at};
 ghost use Rattle.drv_syntax.specs.Parsed.{tree_of};
 ghost use Rattle.drv_syntax.specs.Tokens.{tokens_of};
 ghost use Rattle.std.specs.List.{list_all};
-ghost use Rattle.std.specs.Prelude.{◌≡◌, ◌<◌, ◌^◌, ◌+◌, ◌++◌, [], IfOk, OnOk, length};
+ghost use Rattle.std.specs.Prelude.{◌≡◌, ◌<◌, length};
 
 use crate::findings::Warning;
 use crate::warning::Mark;
-use drv_syntax::{SpecTree, TestKind, Token, TokenKind};
+use drv_syntax::{SpecTree, TestKind, TokenKind};
 use std::alloc::{AllocError, Global};
 use std::marker::Model;
 
@@ -30,17 +28,6 @@ impl<'a> Model for Ask<'a> {
     ghost Value = { Label };
 
     ghost view = { λ ask. part_label ask.word.now ask.starred ask.negated ask.asks };
-}
-
-/// A branch of a choice.
-#[derive(Clone, Copy, Debug)]
-pub(crate) struct Branch {
-    /// Where it begins, in bytes from the start of the text.
-    pub(crate) start: u32,
-    /// The place of the first part inside it.
-    pub(crate) inside: usize,
-    /// The place of the first part after it.
-    pub(crate) end: usize,
 }
 
 /// Whether the first pattern names each switch that the second one names.
@@ -77,13 +64,6 @@ fn covers(first: &Ask<'_>, second: &Ask<'_>) -> bool
     }
 }
 
-/// The place before which parts are inside another one, after the part at this place.
-fn beyond(next: usize, place: usize, token: Token) -> usize
-    ensures { result ≡ beyond next place token }
-{
-    if place < next { next } else { token.next }
-}
-
 /// The test at this place of a tree.
 fn test_at(tree: &SpecTree, place: usize) -> Ask<'_>
     requires { place < length (tokens_of (tree_of tree.now)) }
@@ -97,102 +77,27 @@ fn test_at(tree: &SpecTree, place: usize) -> Ask<'_>
     }
 }
 
-/// Adds the part at this place, if it is a test and inside no other part.
-fn push_outer_test<'a>(
-    tests: &mut Vec<Ask<'a>>,
-    tree: &'a SpecTree,
-    next: usize,
-    place: usize,
-    token: Token,
-) -> Result<(), AllocError>
-    requires { place < length (tokens_of (tree_of tree.now)) }
-    ensures { OnOk result
-        (tests.new.items ≡ tests.old.items
-        ++ here (test_in (tree_of tree.now)) next place token) }
-{
-    if place < next {
-        return Ok(());
-    }
-    match token.kind {
-        TokenKind::Test => {
-            tests.push(test_at(tree, place))?;
-            Ok(())
-        }
-        _ => Ok(()),
-    }
-}
-
-/// The tests of a branch.
-#[tactic(auto, using(crate::proofs::Unreached::tests_next))]
+/// The tests of a branch, from its first part on: those of its parts that are inside no other one.
 fn tests_of<'a>(
     alloc: Global,
     tree: &'a SpecTree,
-    branch: Branch,
-) -> Result<Vec<Ask<'a>>, AllocError>
-    ensures { IfOk result (λ tests. tests.items ≡ tests_of (tree_of tree.now) branch) }
-{
+    inside: usize,
+    end: usize,
+) -> Result<Vec<Ask<'a>>, AllocError> {
     let tokens = tree.tokens();
     let mut tests = Vec::new(alloc);
-    let mut next = branch.inside;
-    let mut place = branch.inside;
-    while place < branch.end && place < tokens.len() {
+    let mut next = inside;
+    for place in inside..end {
+        if place < next || place >= tokens.len() {
+            continue;
+        }
         let token = tokens[place];
-        push_outer_test(&mut tests, tree, next, place, token)?;
-        next = beyond(next, place, token);
-        place += 1;
+        next = token.next;
+        if let TokenKind::Test = token.kind {
+            tests.push(test_at(tree, place))?;
+        }
     }
     Ok(tests)
-}
-
-/// Adds the part at this place, if it is a branch and inside no other part.
-fn push_branch(
-    branches: &mut Vec<Branch>,
-    next: usize,
-    place: usize,
-    token: Token,
-) -> Result<(), AllocError>
-    requires { place < 2 ^ 63 }
-    ensures { OnOk result
-        (branches.new.items ≡ branches.old.items ++ here branch_in next place token) }
-{
-    if place < next {
-        return Ok(());
-    }
-    match token.kind {
-        TokenKind::Alternative => {
-            branches.push(Branch {
-                start: token.start,
-                inside: place + 1,
-                end: token.next,
-            })?;
-            Ok(())
-        }
-        _ => Ok(()),
-    }
-}
-
-/// The branches of a part, the first part inside which has this place.
-#[tactic(auto, using(crate::proofs::Unreached::branches_next))]
-fn branches_of(
-    alloc: Global,
-    tree: &SpecTree,
-    end: usize,
-    inside: usize,
-) -> Result<Vec<Branch>, AllocError>
-    ensures { IfOk result
-        (λ branches. branches.items ≡ branches_of (tree_of tree.now) end inside) }
-{
-    let tokens = tree.tokens();
-    let mut branches = Vec::new(alloc);
-    let mut next = inside;
-    let mut place = inside;
-    while place < end && place < tokens.len() {
-        let token = tokens[place];
-        push_branch(&mut branches, next, place, token)?;
-        next = beyond(next, place, token);
-        place += 1;
-    }
-    Ok(branches)
 }
 
 /// Whether one of these tests covers this one.
@@ -223,68 +128,51 @@ fn is_unreachable(earlier: &[Ask<'_>], tests: &[Ask<'_>]) -> bool
     !is_default(tests) && are_covered(earlier, tests)
 }
 
-/// Adds the warning of a branch that no line reaches.
-fn push_mark(
-    marks: &mut Vec<Mark>,
-    start: usize,
-    branch: Branch,
-    unreachable: bool,
-) -> Result<(), AllocError>
-    requires { start < 2 ^ 63 }
-    ensures { OnOk result
-        (marks.new.items ≡ marks.old.items ++ mark_if (start + branch.start) unreachable) }
-{
-    if unreachable {
-        marks.push(Mark {
-            at: start + branch.start as usize,
-            warning: Warning::Unreachable,
-        })?;
-    }
-    Ok(())
-}
-
-/// Adds the warnings of these branches of a choice.
-#[tactic(auto, using(crate::proofs::Unreached::marks_next))]
+/// Adds the warnings of the branches of the part at this place.
 fn push_branches(
     alloc: Global,
     marks: &mut Vec<Mark>,
     tree: &SpecTree,
     start: usize,
-    branches: &[Branch],
-) -> Result<(), AllocError>
-    requires { start < 2 ^ 63 }
-    ensures { OnOk result
-        (marks.new.items ≡ marks.old.items
-        ++ listed_marks (tree_of tree.now) start [] branches.now) }
-{
+    place: usize,
+    end: usize,
+) -> Result<(), AllocError> {
+    let tokens = tree.tokens();
     let mut earlier = Vec::new(alloc);
-    for &branch in branches {
-        let mut tests = tests_of(alloc, tree, branch)?;
-        let unreachable = is_unreachable(earlier.as_slice(), tests.as_slice());
-        push_mark(marks, start, branch, unreachable)?;
-        earlier.append(&mut tests)?;
+    let mut next = place;
+    for place in place..end {
+        if place < next || place >= tokens.len() {
+            continue;
+        }
+        let token = tokens[place];
+        next = token.next;
+        if let TokenKind::Alternative = token.kind {
+            let mut tests = tests_of(alloc, tree, place.saturating_add(1), token.next)?;
+            if is_unreachable(earlier.as_slice(), tests.as_slice()) {
+                marks.push(Mark::of_token(start, token, Warning::Unreachable))?;
+            }
+            earlier.append(&mut tests)?;
+        }
     }
     Ok(())
 }
 
 /// Adds the warnings of the choices of a tree, whose text begins at this byte of the piece.
-#[tactic(auto, using(crate::proofs::Unreached::choices_next, crate::proofs::Unreached::choices_done))]
 pub(crate) fn push_choices(
     alloc: Global,
     marks: &mut Vec<Mark>,
     tree: &SpecTree,
     start: usize,
-) -> Result<(), AllocError>
-    requires { start < 2 ^ 63 }
-    ensures { OnOk result
-        (marks.new.items ≡ marks.old.items ++ unreached start (tree_of tree.now)) }
-{
-    let tokens = tree.tokens();
-    let mut place = 0;
-    while place < tokens.len() {
-        let branches = branches_of(alloc, tree, tokens[place].next, place + 1)?;
-        push_branches(alloc, marks, tree, start, branches.as_slice())?;
-        place += 1;
+) -> Result<(), AllocError> {
+    for (place, token) in tree.tokens().iter().enumerate() {
+        push_branches(
+            alloc,
+            marks,
+            tree,
+            start,
+            place.saturating_add(1),
+            token.next,
+        )?;
     }
     Ok(())
 }

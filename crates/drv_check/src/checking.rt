@@ -2,7 +2,7 @@
 
 // In clauses: `Extends F G` says that G has every answer of F. `Asked` says that a call only asked,
 // and that the table has the answers.
-ghost use Rattle.drv_check.specs.Checked.{based, checked, checked_over, faults_alone};
+ghost use Rattle.drv_check.specs.Checked.{checked, checked_over};
 ghost use Rattle.drv_check.specs.Checks.{all_called, called, file_checked, is_full, most_faults};
 ghost use Rattle.drv_check.specs.Origins.{sources_found, sources_of};
 ghost use Rattle.drv_system.specs.Asking.{Asks, Extends};
@@ -11,15 +11,13 @@ ghost use Rattle.drv_system.specs.Facts.{Facts};
 ghost use Rattle.drv_system.specs.Known.{Is};
 ghost use Rattle.std.specs.Prelude.{◌≡◌, IfOk};
 
-use crate::findings::{
-    Checking, Findings, MOST_FAULTS, MOST_FILES, Source, empty_check, is_fault, is_full,
-};
-use crate::including::Inclusion;
+use crate::findings::{Checking, MOST_FAULTS, MOST_FILES, Source, is_full, unchecked_over};
 use crate::judging::judge;
-use crate::opening::{FilePiece, Nesting, OpenFile, Search, open};
+use crate::known_names::Names;
+use crate::opening::{FilePiece, Inclusion, Nesting, OpenFile, Search, Telling, open};
 use crate::stepping::step;
-use crate::unused_text::Names;
 use drv_search::Prefixes;
+use drv_specs::{IfMissing, builtin};
 use drv_system::{FactTable, Outside, System};
 use drv_words::{Listing, Word};
 use std::alloc::{AllocError, Global};
@@ -69,7 +67,7 @@ fn check_called<S: System>(
 {
     checking.files = MOST_FILES;
     let inclusion = Inclusion {
-        may_miss: false,
+        if_missing: IfMissing::Refuse,
         file: name.clone()?,
     };
     let nesting = Nesting {
@@ -104,43 +102,6 @@ pub(crate) fn check_all<S: System>(
     Ok(())
 }
 
-/// Takes what is surely not meant out of what was found.
-#[tactic(auto, using(crate::proofs::FaultsAlone::fault_stays, crate::proofs::FaultsAlone::warning_goes))]
-fn faults_alone(alloc: Global, checking: Checking) -> Result<Checking, AllocError>
-    ensures { IfOk result (λ kept. kept ≡ faults_alone checking) }
-{
-    let mut findings = Findings::new(alloc);
-    for finding in checking.findings.into_vec() {
-        if is_fault(&finding.note) {
-            findings.push(finding)?;
-        }
-    }
-    Ok(Checking {
-        whose: checking.whose,
-        set: checking.set,
-        files: checking.files,
-        sources: checking.sources,
-        findings,
-    })
-}
-
-/// Checks the files that are loaded first, and keeps their faults alone.
-#[tactic(auto, using(drv_system::proofs::AskedCalls::asked_further))]
-fn check_base<S: System>(
-    search: &Search<'_>,
-    whose: Names,
-    over: &[Word],
-    outside: &mut Outside<'_, S>,
-) -> Result<Checking, AllocError>
-    ensures asks { Asked S.events outside.old outside.new }
-    ensures checks { (F : Facts) → Extends outside.new.facts.now F
-        → IfOk result (λ checking. based F search.now.prefixes.now whose over.now ≡ Is checking) }
-{
-    let mut checking = empty_check(search.alloc, whose)?;
-    check_all(search, &mut checking, over, outside)?;
-    faults_alone(search.alloc, checking)
-}
-
 /// Files to be checked, and for whom.
 #[derive(Clone, Copy)]
 pub struct FileCheck<'a> {
@@ -155,19 +116,31 @@ pub struct FileCheck<'a> {
 /// Checks files over the built-in set and over those that are loaded first.
 #[tactic(auto, using(drv_system::proofs::AskedCalls::asked_further))]
 fn check_over<S: System>(
-    search: &Search<'_>,
+    alloc: Global,
+    prefixes: &Prefixes,
     files: &FileCheck<'_>,
     outside: &mut Outside<'_, S>,
 ) -> Result<Checking, AllocError>
     ensures asks { Asked S.events outside.old outside.new }
     ensures checks { (F : Facts) → Extends outside.new.facts.now F
-        → IfOk result (λ checking. checked_over F search.now.prefixes.now
+        → IfOk result (λ checking. checked_over F prefixes.now
         files.now.whose files.now.over.now files.now.names.now ≡ Is checking) }
 {
-    let mut checking = check_base(search, files.whose, files.over, outside)?;
-    let first = checking.sources.len();
-    check_all(search, &mut checking, files.names, outside)?;
-    judge(search.alloc, files.whose, &mut checking, first)?;
+    let set = builtin(alloc)?;
+    let mut checking = unchecked_over(alloc, files.whose, set);
+    let first = Search {
+        alloc,
+        prefixes,
+        telling: Telling::Faults,
+    };
+    check_all(&first, &mut checking, files.over, outside)?;
+    let search = Search {
+        alloc,
+        prefixes,
+        telling: Telling::Warnings,
+    };
+    check_all(&search, &mut checking, files.names, outside)?;
+    judge(alloc, &mut checking)?;
     Ok(checking)
 }
 
@@ -192,11 +165,7 @@ pub fn check_files<S: System>(
         ≡ Is checking) }
 {
     let prefixes = Prefixes::new(alloc, &[], sys, facts)?;
-    let search = Search {
-        alloc,
-        prefixes: &prefixes,
-    };
-    check_over(&search, check, &mut Outside { sys, facts })
+    check_over(alloc, &prefixes, check, &mut Outside { sys, facts })
 }
 
 /// The files that a line loads into the built-in set, along prefixes that were found.
@@ -209,7 +178,8 @@ fn sources_found<S: System>(
     ensures opens { (F : Facts) → Extends outside.new.facts.now F
         → IfOk result (λ sources. sources_found F search.now.prefixes.now names.now ≡ Is sources) }
 {
-    let mut checking = empty_check(search.alloc, Names::Driver)?;
+    let set = builtin(search.alloc)?;
+    let mut checking = unchecked_over(search.alloc, Names::Driver, set);
     check_all(search, &mut checking, names, outside)?;
     Ok(checking.sources)
 }
@@ -235,6 +205,7 @@ pub fn sources_of<S: System>(
     let search = Search {
         alloc,
         prefixes: &found,
+        telling: Telling::Faults,
     };
     sources_found(&search, names, &mut Outside { sys, facts })
 }

@@ -5,37 +5,16 @@ ghost use Rattle.drv_system.specs.Asking.{Asks};
 ghost use Rattle.drv_system.specs.Code.Asked.{Asked};
 
 use crate::checking::check_all;
-use crate::findings::{Checking, Findings, MOST_FILES, Source, Spot, is_fault};
-use crate::opening::Search;
+use crate::findings::{Source, Spot, unchecked_over};
+use crate::known_names::Names;
+use crate::opening::{Search, Telling};
 use crate::spots::place_in;
 use crate::told::push_place;
-use crate::unused_text::Names;
 use drv_search::Prefixes;
 use drv_specs::SpecSet;
 use drv_system::{FactTable, Outside, System};
 use drv_words::{Listing, Word};
 use std::alloc::{AllocError, Global};
-
-/// A check of nothing yet, over a set. The call allocates nothing.
-fn unchecked_over(alloc: Global, set: SpecSet) -> Checking {
-    Checking {
-        whose: Names::Driver,
-        set,
-        files: MOST_FILES,
-        sources: Listing::new(alloc),
-        findings: Findings::new(alloc),
-    }
-}
-
-/// The place of the first fault that was found, which is the driver's refusal.
-fn first_fault(checking: &Checking) -> Option<Spot> {
-    for finding in checking.findings.as_slice() {
-        if is_fault(&finding.note) {
-            return finding.spot;
-        }
-    }
-    None
-}
 
 /// The note of a place, if it is in a file.
 fn note_at(alloc: Global, sources: &[Source], spot: Option<Spot>) -> Result<Word, AllocError> {
@@ -59,13 +38,14 @@ fn note_along<S: System>(
 ) -> Result<Word, AllocError>
     ensures { Asked S.events outside.old outside.new }
 {
-    let mut checking = unchecked_over(search.alloc, set);
+    let mut checking = unchecked_over(search.alloc, Names::Driver, set);
     check_all(search, &mut checking, names, outside)?;
-    note_at(
-        search.alloc,
-        checking.sources.as_slice(),
-        first_fault(&checking),
-    )
+    // The first fault is the driver's refusal.
+    let spot = match checking.findings.faults() {
+        [first, ..] => first.spot,
+        [] => None,
+    };
+    note_at(search.alloc, checking.sources.as_slice(), spot)
 }
 
 /// Spec files that a line names.
@@ -95,6 +75,7 @@ pub fn fault_note<S: System>(
     let search = Search {
         alloc,
         prefixes: &prefixes,
+        telling: Telling::Faults,
     };
     note_along(&search, set, files.names, &mut Outside { sys, facts })
 }

@@ -1,15 +1,15 @@
 //! What a check finds, and in which files.
 
-ghost use Rattle.drv_check.specs.Agreement.{faults_of};
-ghost use Rattle.drv_check.specs.Checked.{is_fault};
-ghost use Rattle.drv_check.specs.Checks.{empty_check, is_full, noted, was_read};
-ghost use Rattle.std.specs.Prelude.{◌≡◌, ◌∷◌, ◌++◌, [], IfOk, OnOk, length};
+ghost use Rattle.drv_check.specs.Checks.{is_full, unchecked_over};
+ghost use Rattle.std.specs.Prelude.{◌≡◌, ◌∷◌, ◌++◌, [], OnOk};
 
-use crate::unused_text::Names;
-use drv_specs::{SpecSet, SpecsFault, builtin};
+use crate::known_names::Names;
+use drv_specs::{SpecSet, SpecsFault};
 use drv_words::{Listing, Word};
 use std::alloc::{AllocError, Global};
 use std::marker::Model;
+use std::mem;
+use std::vec::IntoIter;
 
 /// A byte of a source.
 #[derive(Clone, Copy, Debug)]
@@ -29,15 +29,6 @@ pub struct Source {
     pub text: Word,
     /// What includes it; nothing where the call names it.
     pub from: Option<Spot>,
-    /// Whether it was read before, by another directive or name.
-    pub again: bool,
-}
-
-/// Whether one of these sources has a path.
-pub(crate) fn was_read(sources: &[Source], path: &[u8]) -> bool
-    ensures { result ≡ was_read sources.now path.now }
-{
-    sources.iter().any(|source| path == source.name.as_bytes())
 }
 
 /// What is legal and surely not meant.
@@ -98,29 +89,68 @@ pub struct Finding {
 }
 
 /// Whether it is a fault.
-pub fn is_fault(note: &Note) -> bool
-    ensures { result ≡ is_fault note.now }
-{
+pub fn is_fault(note: &Note) -> bool {
     matches!(note, Note::Fault(_))
 }
 
-/// What was found, in its order, and how many faults it has. Contracts see what was found.
+/// A fault that was found.
+#[derive(Debug, Drop)]
+pub struct Fault {
+    /// Where; a fault with a file of the call itself is nowhere.
+    pub spot: Option<Spot>,
+    /// What.
+    pub fault: SpecsFault,
+}
+
+/// A warning that was found, or one that the end of the check decides on.
+#[derive(Debug, Drop)]
+pub(crate) struct Warned {
+    /// How many faults were found before it.
+    pub(crate) faults: usize,
+    /// Where.
+    pub(crate) spot: Spot,
+    /// What.
+    pub(crate) warning: Warning,
+    /// The name on which it depends: of a text that isn't there, or that no text names.
+    pub(crate) name: Option<Word>,
+}
+
+/// What was found. Contracts see the faults, in their order.
 #[derive(Drop)]
 pub struct Findings {
-    all: Listing<Finding>,
-    faults: usize,
+    faults: Listing<Fault>,
+    warnings: Vec<Warned>,
+    /// The warnings that the end decides on.
+    later: Vec<Warned>,
+    /// The names that texts name.
+    named: Vec<Word>,
 }
 
 impl Model for Findings {
-    ghost use Rattle.drv_check.specs.Agreement.{faults_of};
-    ghost use Rattle.drv_check.specs.declared.findings.Finding.{Finding};
-    ghost use Rattle.std.specs.Prelude.{◌≡◌, List, length};
+    ghost use Rattle.drv_check.specs.declared.findings.Fault.{Fault};
+    ghost use Rattle.std.specs.Prelude.{List};
 
-    ghost Value = { List Finding };
+    ghost Value = { List Fault };
 
-    ghost view = { λ f. f.all };
+    ghost view = { λ f. f.faults };
+}
 
-    ghost invariant = { λ f. f.faults ≡ length (faults_of f.all) };
+/// Adds the next faults, so many.
+fn push_faults(
+    all: &mut Vec<Finding>,
+    faults: &mut IntoIter<Fault>,
+    count: usize,
+) -> Result<(), AllocError> {
+    for _ in 0..count {
+        let Some(found) = faults.next() else {
+            return Ok(());
+        };
+        all.push(Finding {
+            spot: found.spot,
+            note: Note::Fault(found.fault),
+        })?;
+    }
+    Ok(())
 }
 
 impl Findings {
@@ -129,46 +159,98 @@ impl Findings {
         ensures { result ≡ [] }
     {
         Findings {
-            all: Listing::new(alloc),
-            faults: 0,
+            faults: Listing::new(alloc),
+            warnings: Vec::new(alloc),
+            later: Vec::new(alloc),
+            named: Vec::new(alloc),
         }
     }
 
-    /// Adds one thing that was found.
-    pub(crate) fn push(&mut self, finding: Finding) -> Result<(), AllocError>
-        ensures { OnOk result (self.new ≡ self.old ++ finding ∷ []) }
+    /// The faults.
+    pub(crate) fn faults(&self) -> &[Fault]
+        ensures { result.now ≡ self.now }
     {
-        if is_fault(&finding.note) {
-            let Some(faults) = self.faults.checked_add(1) else {
-                return Err(AllocError);
-            };
-            self.all.push(finding)?;
-            self.faults = faults;
-            return Ok(());
-        }
-        self.all.push(finding)?;
+        self.faults.as_slice()
+    }
+
+    /// Adds a fault.
+    pub(crate) fn push_fault(
+        &mut self,
+        spot: Option<Spot>,
+        fault: SpecsFault,
+    ) -> Result<(), AllocError>
+        ensures { OnOk result (self.new ≡ self.old ++ record { spot = spot; fault = fault } ∷ []) }
+    {
+        self.faults.push(Fault { spot, fault })?;
         Ok(())
     }
 
-    /// What was found.
-    pub fn as_slice(&self) -> &[Finding]
-        ensures { result.now ≡ self.now }
+    /// Adds what is surely not meant.
+    pub(crate) fn push_warning(&mut self, spot: Spot, warning: Warning) -> Result<(), AllocError>
+        ensures { OnOk result (self.new ≡ self.old) }
     {
-        self.all.as_slice()
+        self.warnings.push(Warned {
+            faults: self.faults.len(),
+            spot,
+            warning,
+            name: None,
+        })?;
+        Ok(())
     }
 
-    /// What was found, by itself.
-    pub fn into_vec(self) -> Vec<Finding>
-        ensures { result.items ≡ self }
+    /// Keeps a warning that the end decides on.
+    pub(crate) fn push_later(
+        &mut self,
+        spot: Spot,
+        warning: Warning,
+        name: Option<Word>,
+    ) -> Result<(), AllocError>
+        ensures { OnOk result (self.new ≡ self.old) }
     {
-        self.all.into_vec()
+        self.later.push(Warned {
+            faults: self.faults.len(),
+            spot,
+            warning,
+            name,
+        })?;
+        Ok(())
     }
 
-    /// The number of faults.
-    fn faults(&self) -> usize
-        ensures { result ≡ length (faults_of self.now) }
+    /// Takes out the warnings that the end decides on.
+    pub(crate) fn take_later(&mut self, alloc: Global) -> Vec<Warned>
+        ensures { self.new ≡ self.old }
     {
-        self.faults
+        mem::replace(&mut self.later, Vec::new(alloc))
+    }
+
+    /// Adds names that texts name.
+    pub(crate) fn add_named(&mut self, mut names: Vec<Word>) -> Result<(), AllocError>
+        ensures { OnOk result (self.new ≡ self.old) }
+    {
+        self.named.append(&mut names)?;
+        Ok(())
+    }
+
+    /// Whether a text names this one.
+    pub(crate) fn is_named(&self, name: &[u8]) -> bool {
+        self.named.iter().any(|other| name == other.as_bytes())
+    }
+
+    /// What was found, in its order.
+    pub fn into_vec(self, alloc: Global) -> Result<Vec<Finding>, AllocError> {
+        let mut all = Vec::new(alloc);
+        let mut passed = 0;
+        let mut faults = self.faults.into_vec().into_iter();
+        for warned in self.warnings {
+            push_faults(&mut all, &mut faults, warned.faults.saturating_sub(passed))?;
+            passed = warned.faults;
+            all.push(Finding {
+                spot: Some(warned.spot),
+                note: Note::Warned(warned.warning),
+            })?;
+        }
+        push_faults(&mut all, &mut faults, usize::MAX)?;
+        Ok(all)
     }
 }
 
@@ -198,30 +280,18 @@ pub const MOST_FAULTS: usize = 100;
 pub fn is_full(checking: &Checking, most: usize) -> bool
     ensures { result ≡ is_full most checking.now }
 {
-    most <= checking.findings.faults()
+    most <= checking.findings.faults().len()
 }
 
-/// A check of nothing yet, over the built-in set.
-pub(crate) fn empty_check(alloc: Global, whose: Names) -> Result<Checking, AllocError>
-    ensures { IfOk result (λ checking. checking ≡ empty_check whose) }
+/// A check of nothing yet, over a set. The call allocates nothing.
+pub(crate) fn unchecked_over(alloc: Global, whose: Names, set: SpecSet) -> Checking
+    ensures { result ≡ unchecked_over whose set }
 {
-    Ok(Checking {
+    Checking {
         whose,
-        set: builtin(alloc)?,
+        set,
         files: MOST_FILES,
         sources: Listing::new(alloc),
         findings: Findings::new(alloc),
-    })
-}
-
-/// Adds one thing that was found.
-pub(crate) fn add_note(
-    checking: &mut Checking,
-    spot: Option<Spot>,
-    note: Note,
-) -> Result<(), AllocError>
-    ensures { OnOk result (checking.new ≡ noted checking.old spot note) }
-{
-    checking.findings.push(Finding { spot, note })?;
-    Ok(())
+    }
 }

@@ -5,20 +5,16 @@ ghost use Rattle.std.specs.List.{list_any};
 ghost use Rattle.std.specs.Option.{option_map};
 ghost use Rattle.std.specs.Prelude.{◌≡◌};
 
-use crate::bytes::blanks_before;
 use crate::pieces::Piece;
-use crate::pointing::colon_in;
-use drv_specs::begins_with_at;
+use drv_specs::{Directive, begins_with_at, first_directive};
 
 /// The key of a pair that a piece puts.
 pub(crate) fn key_in(text: &[u8]) -> Option<&[u8]>
     ensures { option_map (λ key. key.now) result ≡ key_in text.now }
 {
-    let line = &text[blanks_before(text)..];
-    let at = colon_in(line)?;
-    match line {
-        [] | [b'*' | b'%', ..] => None,
-        _ => Some(&line[..at]),
+    match first_directive(text) {
+        Some(Directive::Pair { key, .. }) => Some(key),
+        _ => None,
     }
 }
 

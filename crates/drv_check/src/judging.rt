@@ -1,149 +1,136 @@
-//! What spec files show once all of them are loaded that is surely not meant.
+//! What is surely not meant, told as the pieces are loaded or at the end.
 
-ghost use Rattle.drv_check.specs.Checks.{finding_of};
-ghost use Rattle.drv_check.specs.Whole.{file_judged, judged, pair_marks, source_judged};
-ghost use Rattle.drv_check.specs.Whole.{sources_judged, whole_marks};
-ghost use Rattle.std.specs.Prelude.{◌≡◌, ◌++◌, IfOk, OnOk, drop, map};
+ghost use Rattle.std.specs.Prelude.{◌≡◌, OnOk};
 
-use crate::bytes::blanks_before;
-use crate::findings::{Checking, Findings, MOST_FAULTS, Source, Warning, is_full};
-use crate::hidden_pair::{is_hidden, key_in};
-use crate::opening::{FilePiece, OpenFile, open_file};
-use crate::stepping::push_warnings;
-use crate::token_warning::push_own;
-use crate::unused_text::{Names, Whole, names_worked, push_unused};
-use crate::warning::Mark;
+use crate::findings::{Checking, Findings, MOST_FAULTS, Warned, Warning, is_full};
+use crate::opening::{FilePiece, Search, Telling};
+use crate::pieces::Piece;
+use crate::pointing::{has_body, own_start};
+use crate::stepping::spot_in;
+use crate::token_warning::names_in;
+use crate::warning::{Mark, later_marks, marks_of};
+use drv_specs::bytes::following;
+use drv_syntax::{SpecTree, SyntaxFault, parse};
 use std::alloc::{AllocError, Global};
 
-/// Adds the warning of a pair, if a later one hides it.
-fn push_pair(marks: &mut Vec<Mark>, hidden: bool, text: &[u8]) -> Result<(), AllocError>
-    ensures { OnOk result (marks.new.items ≡ marks.old.items ++ pair_marks hidden text.now) }
-{
-    if hidden {
-        marks.push(Mark {
-            at: blanks_before(text),
-            warning: Warning::HiddenPair,
-        })?;
+/// The tree of the text that a piece gives, if it has one.
+fn own_tree(alloc: Global, text: &[u8]) -> Result<Option<SpecTree>, AllocError> {
+    if !has_body(text) {
+        return Ok(None);
     }
-    Ok(())
+    match parse(alloc, following(text, own_start(text))) {
+        Ok(tree) => Ok(Some(tree)),
+        Err(SyntaxFault::Memory) => Err(AllocError),
+        Err(_) => Ok(None),
+    }
 }
 
-/// What the whole of the files shows of a piece, which a later one of its file may hide.
-fn whole_marks(
-    alloc: Global,
-    whole: &Whole<'_>,
-    hidden: bool,
-    text: &[u8],
-) -> Result<Vec<Mark>, AllocError>
-    ensures { IfOk result
-        (λ marks. marks.items
-        ≡ whole_marks whole.now.whose whole.now.set.now whole.now.worked.now hidden text.now) }
-{
-    let mut marks = Vec::new(alloc);
-    push_pair(&mut marks, hidden, text)?;
-    push_unused(&mut marks, whole, text)?;
-    push_own(alloc, &mut marks, whole, text)?;
-    Ok(marks)
-}
-
-/// Adds what the whole of the files shows of a piece.
-fn judge_piece(
+/// Adds the names of texts that a tree names, if there is one.
+fn add_names(
     alloc: Global,
     findings: &mut Findings,
-    whole: &Whole<'_>,
+    tree: &Option<SpecTree>,
+) -> Result<(), AllocError>
+    ensures { OnOk result (findings.new ≡ findings.old) }
+{
+    match tree {
+        Some(tree) => findings.add_named(names_in(alloc, tree)?),
+        None => Ok(()),
+    }
+}
+
+/// Adds what is surely not meant in a piece.
+fn push_all(
+    findings: &mut Findings,
     here: &FilePiece<'_>,
-    hidden: bool,
+    marks: Vec<Mark>,
 ) -> Result<(), AllocError>
-    ensures { OnOk result
-        (findings.new ≡ findings.old
-        ++ map (finding_of here.now.file.now here.now.piece.now)
-        (whole_marks whole.now.whose whole.now.set.now whole.now.worked.now hidden
-        here.now.piece.now.text)) }
+    ensures { OnOk result (findings.new ≡ findings.old) }
 {
-    let marks = whole_marks(alloc, whole, hidden, here.piece.text.as_bytes())?;
-    push_warnings(findings, here.file, here.piece, marks.as_slice())
-}
-
-/// Adds what the whole of the files shows of one.
-#[tactic(auto, using(crate::proofs::Judged::pieces_next))]
-fn judge_file(
-    alloc: Global,
-    findings: &mut Findings,
-    whole: &Whole<'_>,
-    file: &OpenFile,
-) -> Result<(), AllocError>
-    ensures { OnOk result (findings.new ≡ findings.old
-        ++ file_judged whole.now.whose whole.now.set.now whole.now.worked.now file.now) }
-{
-    let mut left = file.pieces.as_slice();
-    while let [piece, later @ ..] = left {
-        let hidden = is_hidden(key_in(piece.text.as_bytes()), later);
-        judge_piece(alloc, findings, whole, &FilePiece { file, piece }, hidden)?;
-        left = later;
+    for mark in marks {
+        findings.push_warning(spot_in(here.file, here.piece, mark.at), mark.warning)?;
     }
     Ok(())
 }
 
-/// Adds what the whole of the files shows of the source with this number, if it wasn't read before.
-fn judge_source(
-    alloc: Global,
+/// Keeps what the end of the check decides on of a piece.
+fn keep_all(
     findings: &mut Findings,
-    whole: &Whole<'_>,
-    number: usize,
-    source: &Source,
+    here: &FilePiece<'_>,
+    marks: Vec<Mark>,
 ) -> Result<(), AllocError>
-    ensures { OnOk result (findings.new ≡ findings.old
-        ++ source_judged whole.now.whose whole.now.set.now whole.now.worked.now number source.now) }
+    ensures { OnOk result (findings.new ≡ findings.old) }
 {
-    if source.again {
+    for mark in marks {
+        let spot = spot_in(here.file, here.piece, mark.at);
+        findings.push_later(spot, mark.warning, mark.name)?;
+    }
+    Ok(())
+}
+
+/// The pieces of its file that follow one.
+fn later_pieces<'a>(here: &FilePiece<'a>) -> &'a [Piece] {
+    let pieces = here.file.pieces.as_slice();
+    for (place, piece) in pieces.iter().enumerate() {
+        if piece.number > here.piece.number {
+            return &pieces[place..];
+        }
+    }
+    &[]
+}
+
+/// Notes the texts that a piece names and what is surely not meant in it, before it is loaded. Of a
+/// file that was read before all is known.
+pub(crate) fn warn(
+    search: &Search<'_>,
+    checking: &mut Checking,
+    here: &FilePiece<'_>,
+) -> Result<(), AllocError>
+    ensures { OnOk result (checking.new ≡ checking.old) }
+{
+    if here.file.again {
         return Ok(());
     }
-    let file = open_file(alloc, number, source.text.as_bytes())?;
-    judge_file(alloc, findings, whole, &file)
-}
-
-/// Adds what the whole of the files shows of the sources from this place on.
-#[tactic(auto, using(crate::proofs::Judged::sources_next))]
-fn judge_sources(
-    alloc: Global,
-    findings: &mut Findings,
-    whole: &Whole<'_>,
-    first: usize,
-    sources: &[Source],
-) -> Result<(), AllocError>
-    ensures { OnOk result
-        (findings.new
-        ≡ findings.old
-        ++ sources_judged whole.now.whose whole.now.set.now whole.now.worked.now first
-        (drop first sources.now)) }
-{
-    let mut number = first;
-    while number < sources.len() {
-        judge_source(alloc, findings, whole, number, &sources[number])?;
-        number += 1;
+    let alloc = search.alloc;
+    let text = here.piece.text.as_bytes();
+    let tree = own_tree(alloc, text)?;
+    add_names(alloc, &mut checking.findings, &tree)?;
+    match search.telling {
+        Telling::Faults => Ok(()),
+        Telling::Warnings => {
+            let marks = marks_of(alloc, checking.whose, &checking.set, text)?;
+            push_all(&mut checking.findings, here, marks)?;
+            let later = later_marks(alloc, checking.whose, text, &tree, later_pieces(here))?;
+            keep_all(&mut checking.findings, here, later)
+        }
     }
-    Ok(())
 }
 
-/// Adds what the whole of the files shows of those from this place among the sources on, unless the
-/// check ended before.
-pub(crate) fn judge(
-    alloc: Global,
-    whose: Names,
-    checking: &mut Checking,
-    first: usize,
-) -> Result<(), AllocError>
-    ensures { OnOk result (checking.new ≡ judged whose first checking.old) }
+/// Whether a warning holds once all files are loaded.
+fn holds(checking: &Checking, warned: &Warned) -> bool {
+    match &warned.name {
+        None => true,
+        Some(name) => {
+            let is_there = checking.set.text(name.as_bytes()).is_some();
+            match warned.warning {
+                Warning::UnknownText => !is_there,
+                _ => is_there && !checking.findings.is_named(name.as_bytes()),
+            }
+        }
+    }
+}
+
+/// Adds the warnings that hold at the end, unless the check ended before.
+pub(crate) fn judge(alloc: Global, checking: &mut Checking) -> Result<(), AllocError>
+    ensures { OnOk result (checking.new ≡ checking.old) }
 {
     if is_full(checking, MOST_FAULTS) {
         return Ok(());
     }
-    let worked = names_worked(alloc, checking.sources.as_slice())?;
-    let whole = Whole {
-        whose,
-        set: &checking.set,
-        worked: worked.as_slice(),
-    };
-    let sources = checking.sources.as_slice();
-    judge_sources(alloc, &mut checking.findings, &whole, first, sources)
+    for warned in checking.findings.take_later(alloc) {
+        if holds(checking, &warned) {
+            checking.findings.push_warning(warned.spot, warned.warning)?;
+        }
+    }
+    Ok(())
 }

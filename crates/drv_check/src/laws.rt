@@ -4,14 +4,13 @@ ghost use Rattle.drv_check.specs.Agreement.{Agrees, all_loaded, faults_of};
 ghost use Rattle.drv_check.specs.Branches.{covers, names_all};
 ghost use Rattle.drv_check.specs.Checked.{checked};
 ghost use Rattle.drv_check.specs.Coverage.{is_true, pattern_of};
-ghost use Rattle.drv_check.specs.LoadingOrder.{loaded_pieces};
 ghost use Rattle.drv_check.specs.Numbers.{AreRead};
-ghost use Rattle.drv_check.specs.Origins.{byte_at, spot_at, text_spots};
+ghost use Rattle.drv_check.specs.Origins.{agree, byte_at, spot_at};
 ghost use Rattle.drv_check.specs.Pieces.{pieces_of};
 ghost use Rattle.drv_check.specs.declared.findings.Checking.{Checking};
 ghost use Rattle.drv_check.specs.declared.findings.Source.{Source};
 ghost use Rattle.drv_check.specs.declared.findings.Spot.{Spot};
-ghost use Rattle.drv_check.specs.declared.unused_text.Names.{Names};
+ghost use Rattle.drv_check.specs.declared.known_names.Names.{Names};
 ghost use Rattle.drv_match.specs.Matching.{is_named};
 ghost use Rattle.drv_search.specs.Search.{prefixes_of};
 ghost use Rattle.drv_search.specs.declared.prefixes.Prefixes.{Prefixes};
@@ -22,7 +21,7 @@ ghost use Rattle.drv_syntax.specs.Labels.{Label};
 ghost use Rattle.drv_syntax.specs.declared.token.TestKind.TheVariants as asking;
 ghost use Rattle.drv_system.specs.Facts.{Facts};
 ghost use Rattle.drv_system.specs.Known.{Is};
-ghost use Rattle.std.specs.Prelude.{◌≡◌, ◌++◌, Bool, List, [], Some, length, slice_get, true, ℕ};
+ghost use Rattle.std.specs.Prelude.{◌≡◌, ◌++◌, ◌-◌, Bool, List, [], Some, drop, length, slice_get, true, ℕ};
 
 /// The law that the pieces of what is left of a text are its directives, one by one: each piece,
 /// read alone, is that directive, and the number of a line that is none is the piece's. It takes
@@ -56,11 +55,11 @@ pub fn covered_tests_are_true()
         → names_all first second ≡ true }
 {}
 
-/// The law that a file has each byte of a text that has a spot, at that spot. It takes and gives
-/// nothing.
-#[tactic(auto, using(crate::proofs::SpotLaws::spot_has_byte))]
+/// The law that a file has each byte of a text that has a spot, at that spot, where files have the
+/// text's last bytes at its spots. It takes and gives nothing.
+#[tactic(auto, using(crate::proofs::SpotLaws::placed))]
 pub fn spots_have_bytes()
-    ensures { (sources : List Source) (head text : List ℕ) (n : ℕ) (spot : Spot)
-        → spot_at (text_spots sources (loaded_pieces sources) head text) (length text) n ≡ Some spot
-        → byte_at sources spot ≡ slice_get text n }
+    ensures { (sources : List Source) (spots : List Spot) (text : List ℕ) (n : ℕ) (spot : Spot)
+        → agree sources spots (drop (length text - length spots) text) ≡ true
+        → spot_at spots (length text) n ≡ Some spot → byte_at sources spot ≡ slice_get text n }
 {}

@@ -2,20 +2,19 @@
 #![tactic(auto)]
 
 // Spec files: their directives, what they include, and where in them each byte of a text is.
-mod bytes;
 mod findings;
-mod including;
+mod known_names;
 mod loading_order;
 mod opening;
 mod origins;
-mod own_text;
 mod pieces;
 mod pointing;
 mod spots;
 
 pub use findings::{
-    Checking, Finding, Findings, MOST_FAULTS, Note, Source, Spot, Warning, is_fault, is_full,
+    Checking, Fault, Finding, Findings, MOST_FAULTS, Note, Source, Spot, Warning, is_fault, is_full,
 };
+pub use known_names::Names;
 pub use loading_order::LoadedFiles;
 pub use origins::{spot_at, spots_of};
 pub use pieces::{Piece, pieces_of};
@@ -31,12 +30,10 @@ mod lost_marks;
 mod never_true;
 mod stepping;
 mod token_warning;
-mod unused_text;
 mod warning;
 
 pub use checking::{FileCheck, check_files, sources_of};
 pub use fault_notes::{SpecFiles, fault_note};
-pub use unused_text::Names;
 
 // What is printed of that.
 mod escaping;

@@ -2,29 +2,39 @@
 
 // In clauses: `Extends F G` says that G has every answer of F. `Asked` says that a call only asked,
 // and that the table has the answers.
-ghost use Rattle.drv_check.specs.Checks.{by_text, found_text, open_file, opened};
-ghost use Rattle.drv_check.specs.Includes.{read_text};
+ghost use Rattle.drv_check.specs.Checks.{by_text, found_text, open_file, opened, was_read};
+ghost use Rattle.drv_check.specs.Includes.{inclusion_in};
+ghost use Rattle.drv_specs.specs.Loading.{text_read};
 ghost use Rattle.drv_system.specs.Asking.{Extends};
 ghost use Rattle.drv_system.specs.Code.Asked.{Asked};
 ghost use Rattle.drv_system.specs.Facts.{Facts};
 ghost use Rattle.drv_system.specs.Known.{Is};
 ghost use Rattle.std.specs.Prelude.{◌≡◌, ◌<◌, IfOk, IfSome};
 
-use crate::findings::{Checking, Note, Source, Spot, add_note, was_read};
-use crate::including::Inclusion;
+use crate::findings::{Checking, Source, Spot};
 use crate::pieces::{Piece, checked_pieces};
-use drv_place::{Places, settle};
+use drv_place::settle;
 use drv_search::{Prefixes, find_file};
-use drv_specs::SpecsFault;
+use drv_specs::{Directive, IfMissing, SpecsFault, first_directive};
 use drv_system::{Outside, ReadAnswer, System};
 use drv_words::{Listing, Word};
 use std::alloc::{AllocError, Global};
 
-/// How files are found: along prefixes, with memory of an allocator.
+/// What is told of files.
+#[derive(Clone, Copy, Debug)]
+pub(crate) enum Telling {
+    /// Their faults alone.
+    Faults,
+    /// Also what is surely not meant.
+    Warnings,
+}
+
+/// How files are found, along prefixes, and what is told of them.
 #[derive(Clone, Copy)]
 pub(crate) struct Search<'a> {
     pub(crate) alloc: Global,
     pub(crate) prefixes: &'a Prefixes,
+    pub(crate) telling: Telling,
 }
 
 /// Where a file is opened.
@@ -34,6 +44,15 @@ pub(crate) struct Nesting {
     pub(crate) from: Option<Spot>,
     /// How many more files may be nested.
     pub(crate) levels: usize,
+}
+
+/// The file that a piece includes.
+#[derive(Debug, Drop)]
+pub(crate) struct Inclusion {
+    /// What becomes of it where the file is missing.
+    pub(crate) if_missing: IfMissing,
+    /// Its name.
+    pub(crate) file: Word,
 }
 
 /// A piece of an open file.
@@ -53,7 +72,7 @@ pub(crate) struct OpenFile {
     /// The size of its text.
     pub(crate) size: usize,
     /// Where each byte is in that text that is left of it.
-    pub(crate) places: Places,
+    pub(crate) places: Listing<usize>,
     /// Its directives.
     pub(crate) pieces: Listing<Piece>,
 }
@@ -73,20 +92,34 @@ pub(crate) fn open_file(alloc: Global, number: usize, text: &[u8]) -> Result<Ope
     })
 }
 
+/// The file that a piece includes, if it is such a directive.
+pub(crate) fn inclusion_in(alloc: Global, text: &[u8]) -> Result<Option<Inclusion>, AllocError>
+    ensures { IfOk result (λ inclusion. inclusion ≡ inclusion_in text.now) }
+{
+    match first_directive(text) {
+        Some(Directive::Include { if_missing, file }) => Ok(Some(Inclusion {
+            if_missing,
+            file: Word::from_bytes(alloc, file)?,
+        })),
+        _ => Ok(None),
+    }
+}
+
 /// The text that an answer gives.
-fn read_text(
+fn text_read(
     alloc: Global,
-    may_miss: bool,
+    if_missing: IfMissing,
     path: &Word,
     answer: &ReadAnswer,
 ) -> Result<Result<Word, SpecsFault>, AllocError>
-    ensures { IfOk result
-        (λ text. text ≡ read_text may_miss path.now answer.now) }
+    ensures { IfOk result (λ text. text ≡ text_read if_missing path.now answer.now) }
 {
     match answer {
         ReadAnswer::Read(text) => Ok(Ok(text.clone()?)),
-        ReadAnswer::Missing if may_miss => Ok(Ok(Word::empty(alloc))),
-        ReadAnswer::Missing => Ok(Err(SpecsFault::NoSuchFile(path.clone()?))),
+        ReadAnswer::Missing => match if_missing {
+            IfMissing::PassOver => Ok(Ok(Word::empty(alloc))),
+            IfMissing::Refuse => Ok(Err(SpecsFault::NoSuchFile(path.clone()?))),
+        },
         ReadAnswer::Failed | ReadAnswer::TooLarge => {
             Ok(Err(SpecsFault::Unreadable(path.clone()?)))
         }
@@ -109,8 +142,15 @@ fn find_text<S: System>(
     let path = find_file(alloc, prefixes, &inclusion.file, outside.sys, outside.facts)?;
     outside.facts.read(outside.sys, &path)?;
     let answer = outside.facts.read_answer(&path);
-    let text = read_text(alloc, inclusion.may_miss, &path, answer)?;
+    let text = text_read(alloc, inclusion.if_missing, &path, answer)?;
     Ok((path, text))
+}
+
+/// Whether one of these sources has a path.
+fn was_read(sources: &[Source], path: &[u8]) -> bool
+    ensures { result ≡ was_read sources.now path.now }
+{
+    sources.iter().any(|source| path == source.name.as_bytes())
 }
 
 /// Adds a file with this text to the sources, or why it has none.
@@ -132,12 +172,11 @@ fn take_text(
                 name: path,
                 text,
                 from,
-                again,
             })?;
             Ok(Some(file))
         }
         Err(fault) => {
-            add_note(checking, from, Note::Fault(fault))?;
+            checking.findings.push_fault(from, fault)?;
             Ok(None)
         }
     }
@@ -160,11 +199,15 @@ pub(crate) fn open<S: System>(
 {
     let from = nesting.from;
     if nesting.levels == 0 {
-        add_note(checking, from, Note::Fault(SpecsFault::IncludeTooDeep))?;
+        checking
+            .findings
+            .push_fault(from, SpecsFault::IncludeTooDeep)?;
         return Ok(None);
     }
     if checking.files == 0 {
-        add_note(checking, from, Note::Fault(SpecsFault::TooManyIncludes))?;
+        checking
+            .findings
+            .push_fault(from, SpecsFault::TooManyIncludes)?;
         return Ok(None);
     }
     checking.files -= 1;

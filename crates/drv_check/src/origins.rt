@@ -1,115 +1,48 @@
 //! Where in files the bytes of a set's texts are.
 
-ghost use Rattle.drv_check.specs.LoadingOrder.{loaded_pieces};
-ghost use Rattle.drv_check.specs.Origins.{agree, byte_at, if_agreed, last_spots, old_head, own_spots, puts_head};
-ghost use Rattle.drv_check.specs.Origins.{spot_at, spots_after, text_spots};
-ghost use Rattle.drv_place.specs.BytesAt.{is_byte};
-ghost use Rattle.drv_words.specs.Bytes.{asterisk};
-ghost use Rattle.std.specs.Cmp.Lexicographic.{pointwise};
-ghost use Rattle.std.specs.Prelude.{◌≡◌, ◌∷◌, ◌++◌, IfOk, OnOk, nat_eq, reverse};
+ghost use Rattle.drv_check.specs.Origins.{agree, byte_at, is_byte, spot_at};
+ghost use Rattle.std.specs.Prelude.{◌≡◌, ◌-◌, IfOk, drop, length, true};
 
 use crate::findings::{Source, Spot};
-use crate::loading_order::{LoadedFiles, LoadedPiece, Renaming};
+use crate::loading_order::{LoadedFiles, LoadedPiece};
 use drv_place::after_first;
 use drv_words::Word;
 use std::alloc::{AllocError, Global};
 
-/// Whether a directive puts the text of this head, or adds to it.
-fn puts_head(head: &[u8], piece: &LoadedPiece) -> bool
-    ensures { result ≡ puts_head head.now piece.now }
-{
-    match &piece.head {
-        Some(other) => head == other.as_bytes(),
+/// Whether a word is there and is this one.
+fn is_head(word: &Option<Word>, head: &Word) -> bool {
+    match word {
+        Some(word) => word == head,
         None => false,
     }
 }
 
-/// The head `*NAME`.
-fn name_head(alloc: Global, name: &Word) -> Result<Word, AllocError>
-    ensures { IfOk result (λ head. head ≡ asterisk ∷ name.now) }
-{
-    let mut head = Word::from_bytes(alloc, b"*")?;
-    head.extend_from_slice(name.as_bytes())?;
-    Ok(head)
-}
-
-/// Whether this is the head `*NAME`.
-fn is_name_head(head: &[u8], name: &[u8]) -> bool
-    ensures { result ≡ pointwise nat_eq head.now (asterisk ∷ name.now) }
-{
-    match head {
-        [b'*', rest @ ..] => rest == name,
-        _ => false,
-    }
-}
-
-/// The head before a renaming of a text that has this one after it.
-fn old_head(alloc: Global, head: Word, renaming: &Option<Renaming>) -> Result<Word, AllocError>
-    ensures { IfOk result (λ old. old ≡ old_head head renaming.now) }
-{
-    match renaming {
-        Some(renaming) if is_name_head(head.as_bytes(), renaming.new.as_bytes()) => {
-            name_head(alloc, &renaming.old)
-        }
-        _ => Ok(head),
-    }
-}
-
-/// Adds the spots of the text that a directive gives, the last one first.
-#[tactic(auto, using(crate::proofs::TextOrigins::spots_all, crate::proofs::TextOrigins::spot_next, crate::proofs::TextOrigins::spots_done))]
-fn push_own(spots: &mut Vec<Spot>, piece: &LoadedPiece) -> Result<(), AllocError>
-    ensures { OnOk result (spots.new.items ≡ spots.old.items ++ reverse (own_spots piece.now)) }
-{
-    let places = piece.places.lend();
-    let mut left = places.len();
-    while left > 0 {
-        left -= 1;
-        spots.push(Spot {
-            source: piece.spot.source,
-            at: places.get_or(left, 0),
-        })?;
-    }
-    Ok(())
-}
-
-/// The spots of a head's text after directives, the last one first.
-#[tactic(auto, using(crate::proofs::TextOrigins::text_put, crate::proofs::TextOrigins::text_grows, crate::proofs::TextOrigins::piece_next))]
-fn latest_spots(
-    alloc: Global,
-    head: &[u8],
-    pieces: &[LoadedPiece],
-    size: usize,
-) -> Result<Vec<Spot>, AllocError>
-    ensures { IfOk result
-        (λ spots. reverse spots.items ≡ spots_after head.now (reverse pieces.now)) }
-{
-    let mut spots = Vec::with_capacity(alloc, size)?;
-    let mut head = Word::from_bytes(alloc, head)?;
-    let mut left = pieces;
-    while let Some((piece, earlier)) = left.split_last() {
-        if puts_head(head.as_bytes(), piece) {
-            push_own(&mut spots, piece)?;
-            if !piece.adds {
-                return Ok(spots);
-            }
-        } else {
-            head = old_head(alloc, head, &piece.renaming)?;
-        }
-        left = earlier;
-    }
-    Ok(spots)
-}
-
-/// The spots of a head's text after directives. The text has mostly this size.
+/// The spots of a head's text after directives: the last one that gives it the text counts, with
+/// those after it that add to it, and before a `%rename` it has another head.
 fn spots_after(
     alloc: Global,
     head: &[u8],
     pieces: &[LoadedPiece],
-    size: usize,
-) -> Result<Vec<Spot>, AllocError>
-    ensures { IfOk result (λ spots. spots.items ≡ spots_after head.now (reverse pieces.now)) }
-{
-    let mut spots = latest_spots(alloc, head, pieces, size)?;
+) -> Result<Vec<Spot>, AllocError> {
+    let mut spots = Vec::new(alloc);
+    let mut head = Word::from_bytes(alloc, head)?;
+    for piece in pieces.iter().rev() {
+        if is_head(&piece.head, &head) {
+            for &at in piece.places.as_slice().iter().rev() {
+                spots.push(Spot {
+                    source: piece.spot.source,
+                    at,
+                })?;
+            }
+            if !piece.adds {
+                break;
+            }
+        } else if let Some(renaming) = &piece.renaming {
+            if renaming.new == head {
+                head = renaming.old.clone()?;
+            }
+        }
+    }
     spots.reverse();
     Ok(spots)
 }
@@ -135,7 +68,7 @@ fn is_byte(found: Option<u8>, byte: u8) -> bool
 }
 
 /// Whether files have the bytes of a text at these spots.
-#[tactic(auto, using(crate::proofs::TextOrigins::agree_next))]
+#[tactic(auto, using(crate::proofs::SpotLaws::agree_next))]
 fn agree(sources: &[Source], spots: &[Spot], text: &[u8]) -> bool
     ensures { result ≡ agree sources.now spots.now text.now }
 {
@@ -156,7 +89,8 @@ fn agree(sources: &[Source], spots: &[Spot], text: &[u8]) -> bool
 
 /// These spots of a text's last bytes, if files have those bytes there.
 fn if_agreed<'a>(sources: &[Source], text: &[u8], spots: &'a [Spot]) -> &'a [Spot]
-    ensures { result.now ≡ if_agreed sources.now text.now spots.now }
+    ensures { agree sources.now result.now (drop (length text.now - length result.now) text.now)
+        ≡ true }
 {
     let last = after_first(text, text.len().saturating_sub(spots.len()));
     if agree(sources, spots, last) {
@@ -166,40 +100,20 @@ fn if_agreed<'a>(sources: &[Source], text: &[u8], spots: &'a [Spot]) -> &'a [Spo
     }
 }
 
-/// As many of the last spots as a text has bytes.
-fn last_spots<'a>(spots: &'a [Spot], text: &[u8]) -> &'a [Spot]
-    ensures { result.now ≡ last_spots spots.now text.now }
-{
-    after_first(spots, spots.len().saturating_sub(text.len()))
-}
-
-/// The spots of the last bytes of a head's text, which are those of files.
-fn text_spots(
-    alloc: Global,
-    sources: &[Source],
-    pieces: &[LoadedPiece],
-    head: &[u8],
-    text: &[u8],
-) -> Result<Vec<Spot>, AllocError>
-    ensures { IfOk result
-        (λ spots. spots.items ≡ text_spots sources.now pieces.now head.now text.now) }
-{
-    let all = spots_after(alloc, head, pieces, text.len())?;
-    let spots = if_agreed(sources, text, last_spots(all.as_slice(), text));
-    Vec::from_slice(alloc, spots)
-}
-
-/// The spots of the last bytes of a head's text, which are those of files that are loaded.
+/// The spots of the last bytes of a head's text: the files that are loaded have these bytes there.
 pub fn spots_of(
     alloc: Global,
     files: &LoadedFiles<'_>,
     head: &[u8],
     text: &[u8],
 ) -> Result<Vec<Spot>, AllocError>
-    ensures { IfOk result (λ spots. spots.items
-        ≡ text_spots files.now (loaded_pieces files.now) head.now text.now) }
+    ensures { IfOk result (λ spots. agree files.now spots.items
+        (drop (length text.now - length spots.items) text.now) ≡ true) }
 {
-    text_spots(alloc, files.sources(), files.pieces(), head, text)
+    let all = spots_after(alloc, head, files.pieces())?;
+    // At most as many as the text has bytes, the last ones.
+    let last = after_first(all.as_slice(), all.len().saturating_sub(text.len()));
+    Vec::from_slice(alloc, if_agreed(files.sources(), text, last))
 }
 
 /// The spot of the byte at this place of a text of this size, whose last bytes have these spots.

@@ -2,15 +2,15 @@
 
 ghost use Rattle.drv_check.specs.Code.Recovering.{recovers};
 ghost use Rattle.drv_check.specs.Pieces.{alone_at, begins_head, begun_after, checked_pieces, ended_by};
-ghost use Rattle.drv_check.specs.Pieces.{first_lacks_colon, goes_on_at, is_cut, is_head_byte, lacks_colon, line_kind};
-ghost use Rattle.drv_check.specs.Pieces.{longer, opened_by, piece_of, pieces_cut, pieces_of};
-ghost use Rattle.drv_specs.specs.Lines.{lines_of};
+ghost use Rattle.drv_check.specs.Pieces.{first_lacks_colon, goes_on_at, is_cut, is_head_byte, is_keyword, lacks_colon};
+ghost use Rattle.drv_check.specs.Pieces.{line_kind, longer, name_precedes, opened_by, piece_of, pieces_cut, pieces_of};
+ghost use Rattle.drv_specs.specs.Lines.{lines_of, words_of};
 ghost use Rattle.std.specs.Prelude.{◌≡◌, ◌++◌, IfOk, OnOk};
 
 use crate::pointing::colon_in;
-use crate::warning::{begins_keyword, name_precedes};
 use drv_specs::bytes::{is_empty_line, without_blanks};
-use drv_specs::lines::cut_line;
+use drv_specs::is_name;
+use drv_specs::lines::{cut_line, next_word};
 use drv_words::{Listing, Word};
 use std::alloc::{AllocError, Global};
 
@@ -118,6 +118,31 @@ fn first_lacks_colon(text: &[u8]) -> bool
     lacks_colon(line)
 }
 
+/// Whether what precedes a place is a name.
+fn name_precedes(at: Option<usize>, line: &[u8]) -> bool
+    ensures { result ≡ name_precedes at line.now }
+{
+    match at {
+        Some(at) if at <= line.len() => is_name(&line[..at]),
+        Some(_) => is_name(line),
+        None => false,
+    }
+}
+
+/// Whether a line would begin a directive of one line.
+fn begins_keyword(line: &[u8]) -> bool
+    ensures { result ≡ is_keyword (words_of line.now) }
+{
+    match next_word(line) {
+        Some((word, _)) => {
+            word == b"%rename".as_slice()
+                || word == b"%include".as_slice()
+                || word == b"%include_noerr".as_slice()
+        }
+        None => false,
+    }
+}
+
 /// Whether a byte begins the head of a directive with a body.
 fn is_head_byte(byte: u8) -> bool
     ensures { result ≡ is_head_byte byte }
@@ -140,6 +165,12 @@ fn goes_on_at(line: &[u8]) -> bool
     ensures { result ≡ goes_on_at line.now }
 {
     begins_head(without_blanks(line)) || begins_keyword(line)
+}
+
+/// Whether a line of a body would begin a text or a directive of one line, were the line before it
+/// empty.
+pub(crate) fn begins_directive(line: &[u8]) -> bool {
+    goes_on_at(line) && matches!(without_blanks(line), [b'*' | b'%', ..])
 }
 
 /// Whether a line ends the piece above it, as that is no directive.

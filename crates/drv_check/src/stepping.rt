@@ -2,28 +2,24 @@
 
 // In clauses: `Extends F G` says that G has every answer of F. `Asked` says that a call only asked,
 // and that the table has the answers.
-ghost use Rattle.drv_check.specs.Checks.{changed, faulty, finding_of, new_marks, spot_in, step};
-ghost use Rattle.drv_check.specs.Checks.{warned};
-ghost use Rattle.drv_check.specs.Checks.{with_number};
-ghost use Rattle.drv_check.specs.Warnings.{marks_of};
+ghost use Rattle.drv_check.specs.Checks.{changed, faulty, spot_in, step, with_number};
 ghost use Rattle.drv_specs.specs.Loading.{loaded};
 ghost use Rattle.drv_system.specs.Asking.{Extends};
 ghost use Rattle.drv_system.specs.Code.Asked.{Asked};
 ghost use Rattle.drv_system.specs.Facts.{Facts};
 ghost use Rattle.drv_system.specs.Known.{Is};
-ghost use Rattle.std.specs.Prelude.{◌≡◌, ◌<◌, ◌++◌, IfOk, IfSome, OnOk, map, Some};
+ghost use Rattle.std.specs.Prelude.{◌≡◌, ◌<◌, IfOk, IfSome, OnOk, Some};
 
-use crate::bytes::blanks_before;
-use crate::findings::{Checking, Finding, Findings, Note, Spot, add_note};
-use crate::including::inclusion_in;
-use crate::opening::{FilePiece, Nesting, OpenFile, Search, open};
+use crate::findings::{Checking, Spot};
+use crate::judging::warn;
+use crate::opening::{FilePiece, Nesting, OpenFile, Search, inclusion_in, open};
 use crate::pieces::Piece;
-use crate::pointing::point;
-use crate::warning::{Mark, marks_of};
+use crate::pointing::{blanks_before, point};
+use drv_place::{after_first, item_or};
 use drv_search::Prefixes;
 use drv_specs::SpecsFault;
 use drv_system::{Outside, System};
-use std::alloc::{AllocError, Global};
+use std::alloc::AllocError;
 
 /// A fault with this number, if it is of a line.
 fn with_number(number: usize, fault: SpecsFault) -> SpecsFault
@@ -39,10 +35,10 @@ fn with_number(number: usize, fault: SpecsFault) -> SpecsFault
 pub(crate) fn spot_in(file: &OpenFile, piece: &Piece, at: usize) -> Spot
     ensures { Some result ≡ spot_in file.now piece.now at }
 {
-    let places = file.places.lend().after(piece.start);
+    let places = after_first(file.places.as_slice(), piece.start);
     Spot {
         source: file.number,
-        at: places.get_or(at, file.size),
+        at: item_or(places, at, file.size),
     }
 }
 
@@ -55,71 +51,14 @@ fn note_fault(
 ) -> Result<(), AllocError>
     ensures { OnOk result (checking.new ≡ faulty checking.old file.now piece.now fault) }
 {
-    let places = file.places.lend().after(piece.start);
-    let at = point(
-        &checking.set,
-        piece.text.as_bytes(),
-        &places,
-        file.size,
-        &fault,
-    );
+    let places = after_first(file.places.as_slice(), piece.start);
+    let text = piece.text.as_bytes();
     let spot = Spot {
         source: file.number,
-        at,
+        at: point(&checking.set, text, places, file.size, &fault),
     };
-    add_note(
-        checking,
-        Some(spot),
-        Note::Fault(with_number(piece.number, fault)),
-    )
-}
-
-/// Adds the warnings of a piece.
-pub(crate) fn push_warnings(
-    findings: &mut Findings,
-    file: &OpenFile,
-    piece: &Piece,
-    marks: &[Mark],
-) -> Result<(), AllocError>
-    ensures { OnOk result
-        (findings.new ≡ findings.old ++ map (finding_of file.now piece.now) marks.now) }
-{
-    for mark in marks {
-        findings.push(Finding {
-            spot: Some(spot_in(file, piece, mark.at)),
-            note: Note::Warned(mark.warning),
-        })?;
-    }
-    Ok(())
-}
-
-/// What is told of a piece that is surely not meant.
-fn new_marks(
-    alloc: Global,
-    checking: &Checking,
-    file: &OpenFile,
-    piece: &Piece,
-) -> Result<Vec<Mark>, AllocError>
-    ensures { IfOk result (λ marks. marks.items
-        ≡ new_marks file.now.again (marks_of checking.now.whose checking.now.set piece.now.text)) }
-{
-    if file.again {
-        return Ok(Vec::new(alloc));
-    }
-    marks_of(alloc, checking.whose, &checking.set, piece.text.as_bytes())
-}
-
-/// Adds what is surely not meant in a piece.
-fn warn(
-    alloc: Global,
-    checking: &mut Checking,
-    file: &OpenFile,
-    piece: &Piece,
-) -> Result<(), AllocError>
-    ensures { OnOk result (checking.new ≡ warned checking.old file.now piece.now) }
-{
-    let marks = new_marks(alloc, checking, file, piece)?;
-    push_warnings(&mut checking.findings, file, piece, marks.as_slice())
+    let fault = with_number(piece.number, fault);
+    checking.findings.push_fault(Some(spot), fault)
 }
 
 /// Loads a piece as a text by itself, or adds its fault.
@@ -172,7 +111,7 @@ pub(crate) fn step<S: System>(
             open(search, checking, nesting, &inclusion, outside)
         }
         None => {
-            warn(search.alloc, checking, here.file, here.piece)?;
+            warn(search, checking, here)?;
             change(checking, here.file, here.piece, search.prefixes, outside)?;
             Ok(None)
         }

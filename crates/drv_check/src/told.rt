@@ -24,6 +24,8 @@ pub struct Told {
     pub place: Option<Place>,
     /// Whether it is an error, and no warning.
     pub is_error: bool,
+    /// The name of the warning, if it is one.
+    pub name: Option<Word>,
     /// What it is.
     pub message: Word,
     /// Its line up to the place, as far as it is shown.

@@ -28,6 +28,11 @@ fn put_told(out: &mut Pretty, told: &Told) -> Result<(), AllocError> {
     }
     out.token(Token::Key("kind"))?;
     out.token(Token::String(kind_text(told.is_error)))?;
+    out.token(Token::Key("warning"))?;
+    match &told.name {
+        Some(name) => put_word(out, name)?,
+        None => out.token(Token::Null)?,
+    }
     out.token(Token::Key("message"))?;
     put_word(out, &told.message)?;
     out.token(Token::Key("included_from"))?;

@@ -1,4 +1,2 @@
 mod Marking
 mod Newlines
-mod PlaceRuns
-mod Plain

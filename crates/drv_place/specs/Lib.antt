@@ -1,4 +1,2 @@
-pub mod BytesAt
-pub mod Code
 pub mod LinePlaces
 pub mod Settling

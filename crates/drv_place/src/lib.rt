@@ -2,11 +2,9 @@
 #![tactic(auto)]
 
 mod lines;
-mod places;
 mod settling;
 mod slices;
 
 pub use lines::{line_after, line_before, line_number};
-pub use places::{LentPlaces, Places};
 pub use settling::{Settled, settle};
-pub use slices::{after_first, first_of};
+pub use slices::{after_first, first_of, item_or};

@@ -1,14 +1,10 @@
 //! What is left of a spec file's text, and where its bytes are in the file.
 
-ghost use Rattle.drv_place.specs.Code.Plain.{are_apart};
 ghost use Rattle.drv_place.specs.Settling.{marked_from, marked_onto, nothing, places_of};
-ghost use Rattle.drv_specs.specs.Lines.{is_kept, settle};
-ghost use Rattle.std.specs.List.{list_all};
-ghost use Rattle.std.specs.Prelude.{◌≡◌, IfOk, IsTrue, OnOk, Some, false, map, slice_get, true};
+ghost use Rattle.drv_specs.specs.Lines.{settle};
+ghost use Rattle.std.specs.Prelude.{◌≡◌, IfOk, OnOk, Some, map, slice_get};
 
-use crate::places::Places;
-use bstr::ByteSlice;
-use drv_words::Word;
+use drv_words::{Listing, Word};
 use std::alloc::{AllocError, Global};
 
 /// What is left of a spec file's text: its bytes, and the place of each of them in the file.
@@ -17,7 +13,7 @@ pub struct Settled {
     /// The bytes.
     pub text: Word,
     /// The place of each in the file, counted from 0.
-    pub places: Places,
+    pub places: Listing<usize>,
 }
 
 /// Takes one more byte, which is at this place of the file.
@@ -45,43 +41,11 @@ fn settle_onto(
     Ok(())
 }
 
-/// Whether no line of a text goes on after a backslash.
-#[tactic(auto, using(crate::proofs::Plain::byte_next, crate::proofs::Plain::joined_there))]
-fn are_apart(text: &[u8]) -> bool
-    ensures { result ≡ are_apart false text.now }
-{
-    let mut continues = false;
-    for &byte in text {
-        if continues && byte == b'\n' {
-            return false;
-        }
-        continues = byte == b'\\';
-    }
-    true
-}
-
-/// Whether a text has no carriage return, and no line that goes on: then each byte is left.
-#[tactic(auto, using(crate::proofs::Plain::none_returns))]
-fn is_plain(text: &[u8]) -> bool
-    ensures returns { IsTrue result → list_all is_kept text.now ≡ true }
-    ensures apart { IsTrue result → are_apart false text.now ≡ true }
-{
-    if text.find_byte(b'\r').is_some() {
-        return false;
-    }
-    are_apart(text)
-}
-
-/// The bytes that are left of a text, and the place of each. Most texts are plain, and are copied.
-#[tactic(auto, using(crate::proofs::Plain::plain_bytes, crate::proofs::Plain::plain_places))]
-fn settle_all(alloc: Global, text: &[u8]) -> Result<(Vec<u8>, Places), AllocError>
+/// The bytes that are left of a text, and the place of each.
+fn settle_all(alloc: Global, text: &[u8]) -> Result<(Vec<u8>, Vec<usize>), AllocError>
     ensures bytes { IfOk result (λ left. left.0.items ≡ (marked_from nothing 0 text.now).bytes) }
-    ensures places { IfOk result (λ left. left.1 ≡ (marked_from nothing 0 text.now).places) }
+    ensures places { IfOk result (λ left. left.1.items ≡ (marked_from nothing 0 text.now).places) }
 {
-    if is_plain(text) {
-        let bytes = Vec::from_slice(alloc, text)?;
-        return Ok((bytes, Places::run(alloc, text.len())));
-    }
     let mut bytes = Vec::with_capacity(alloc, text.len())?;
     let mut places = Vec::with_capacity(alloc, text.len())?;
     let mut place = 0;
@@ -89,7 +53,7 @@ fn settle_all(alloc: Global, text: &[u8]) -> Result<(Vec<u8>, Places), AllocErro
         settle_onto(&mut bytes, &mut places, place, byte)?;
         place += 1;
     }
-    Ok((bytes, Places::from_vec(places)))
+    Ok((bytes, places))
 }
 
 /// What is left of a spec file's text, without carriage returns and without each pair of a
@@ -104,6 +68,6 @@ pub fn settle(alloc: Global, text: &[u8]) -> Result<Settled, AllocError>
     let (bytes, places) = settle_all(alloc, text)?;
     Ok(Settled {
         text: Word::from_vec(bytes),
-        places,
+        places: Listing::from_vec(places),
     })
 }

@@ -1,6 +1,6 @@
-//! The first items of a list, and what follows them.
+//! The first items of a list, what follows them, and one of them.
 
-ghost use Rattle.std.specs.Prelude.{◌≡◌, ◌≤◌, drop, length, take};
+ghost use Rattle.std.specs.Prelude.{◌≡◌, ◌≤◌, drop, get_or, length, take};
 
 /// The first items of a list: so many, or all that there are.
 pub fn first_of<T>(items: &[T], count: usize) -> &[T]
@@ -23,4 +23,11 @@ pub fn after_first<T>(items: &[T], count: usize) -> &[T]
     } else {
         &[]
     }
+}
+
+/// The number with this index in a list, or another one where there is none.
+pub fn item_or(numbers: &[usize], index: usize, other: usize) -> usize
+    ensures { result ≡ get_or numbers.now index other }
+{
+    numbers.get(index).copied().unwrap_or(other)
 }

@@ -4,7 +4,7 @@ use crate::colouring::Style;
 use crate::outcome::Outcome;
 use crate::printing::Printer;
 use crate::selecting::Selection;
-use crate::warning_names::{is_name_of, warning_text};
+use crate::warning_names::{is_name_of, warning_name, warning_text};
 use drv_check::{
     Checking, FileCheck, Finding, Findings, MOST_FAULTS, Note, Place, Report, Source, Spot, Told,
     Warning, check_files, is_fault, is_full, place_in, push_back, push_front, report_json,
@@ -60,12 +60,21 @@ fn fill(told: &mut Told, sources: &[Source], source: &Source, at: usize) -> Resu
     Ok(())
 }
 
+/// The name of a warning.
+fn name_of(alloc: Global, note: &Note) -> Result<Option<Word>, AllocError> {
+    match note {
+        Note::Fault(_) => Ok(None),
+        Note::Warned(warning) => Ok(Some(Word::from_bytes(alloc, warning_name(*warning))?)),
+    }
+}
+
 /// What a check prints of one finding.
 fn told_of(alloc: Global, sources: &[Source], finding: Finding) -> Result<Told, AllocError> {
     let spot = finding.spot;
     let mut told = Told {
         place: None,
         is_error: is_fault(&finding.note),
+        name: name_of(alloc, &finding.note)?,
         message: note_text(alloc, finding.note)?,
         before: Word::empty(alloc),
         after: Word::empty(alloc),
@@ -101,7 +110,7 @@ fn shown_findings(
     findings: Findings,
 ) -> Result<Vec<Finding>, AllocError> {
     let mut shown = Vec::new(alloc);
-    for finding in findings.into_vec() {
+    for finding in findings.into_vec(alloc)? {
         if is_on(selection, &finding.note) {
             shown.push(finding)?;
         }

@@ -5,7 +5,7 @@ use drv_words::Word;
 use std::alloc::{AllocError, Global};
 
 /// The name of a warning.
-fn warning_name(warning: Warning) -> &'static [u8] {
+pub fn warning_name(warning: Warning) -> &'static [u8] {
     match warning {
         Warning::AppendToNothing => b"append-to-nothing",
         Warning::DirectiveInBody => b"directive-in-body",

@@ -1,4 +1,4 @@
-use Rattle.drv_check.proofs.FaultsAlone.{over_checked}
+use Rattle.drv_check.proofs.CheckedWhole.{over_checked}
 use Rattle.drv_check.proofs.checking.check_over.Goals as goal
 use Rattle.drv_system.proofs.AskedCalls.{extends_before}
 
@@ -7,8 +7,7 @@ use Rattle.drv_system.proofs.AskedCalls.{extends_before}
 
 pub returns-clause-checks : goal.returns-clause-checks
 returns-clause-checks g c F e =
-    over_checked F c.args.search.now.prefixes.now c.args.files.now.over.now c.args.files.now.whose c.args.files.now.names.now
-    c.in_ok-checking.checking c.check_all.new.checking
-    c.judge.new.checking
-    c.len-first.result (c.in_ok-checking.ensures.checks F (extends_before c.check_all.ensures.asks e)) c.len-first.ensures
-    (c.in_ok-check_all.ensures.checks F e) c.in_ok-judge.ensures
+    over_checked F c.args.prefixes.now c.args.files.now.whose c.args.files.now.over.now c.args.files.now.names.now c.in_ok-set.set
+    c.unchecked_over-checking.result c.check_all.new.checking c.check_all-2.new.checking c.judge.new.checking c.in_ok-set.ensures
+    c.unchecked_over-checking.ensures (c.in_ok-check_all.ensures.checks F (extends_before c.check_all-2.ensures.asks e))
+    (c.in_ok-check_all-2.ensures.checks F e) c.in_ok-judge.ensures

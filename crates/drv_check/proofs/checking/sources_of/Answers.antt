@@ -1,4 +1,4 @@
-use Rattle.drv_check.proofs.TextOrigins.{opens_sources}
+use Rattle.drv_check.proofs.CheckedWhole.{opens_sources}
 use Rattle.drv_check.proofs.checking.sources_of.Goals as goal
 use Rattle.drv_system.proofs.AskedCalls.{extends_before}
 use Rattle.drv_system.proofs.Asking.{asks_then}
