@@ -1,19 +1,19 @@
-//! What the steps of a run are answered, by answers that are given ahead.
+//! What the steps of a run are answered.
 
 ghost use Rattle.drv_words.specs.Stepping.{fits, fits_start, is_child, is_new};
 ghost use Rattle.drv_words.specs.declared.steps.RunEvent.{RunEvent};
-ghost use Rattle.std.specs.Prelude.{◌≡◌, IfSome, List, true};
+ghost use Rattle.std.specs.Prelude.{◌≡◌, IsTrue, List, true};
 
 use drv_words::{
     Answer, ClaimAnswer, NotStarted, Place, RemoveAnswer, RunEvent, StartAnswer, Step, WaitAnswer,
 };
 
-/// An answer that a step at a place gets, if it is one of that step's kind.
+/// How a command ends, or why it isn't started.
 #[derive(Clone, Copy, Debug)]
-pub struct Given {
-    /// Where the step is made.
+pub struct Failure {
+    /// Where in the plan the command is.
     pub place: Place,
-    /// What it is answered.
+    /// The answer to its wait or its start.
     pub answer: Answer,
 }
 
@@ -65,29 +65,29 @@ fn well(events: &[RunEvent], step: Step) -> Answer
     }
 }
 
-/// The place of a step that an answer of this kind answers. No answer but this program's own starts a
-/// child.
-fn place_for(step: Step, answer: Answer) -> Option<Place>
-    ensures { (events : List RunEvent) → IfSome result (λ place. fits events step answer ≡ true) }
-{
-    match (step, answer) {
-        (Step::Claim(place), Answer::Claim(_)) => Some(place),
-        (Step::Start { place, .. }, Answer::Start(StartAnswer::NotStarted(_))) => Some(place),
-        (Step::Wait { place, .. }, Answer::Wait(_)) => Some(place),
-        (Step::Remove(place), Answer::Remove(_)) => Some(place),
-        _ => None,
+impl Failure {
+    /// Whether it answers a step. No child is started by it.
+    fn answers(self, step: Step) -> bool
+        ensures { IsTrue result → (events : List RunEvent) → fits events step self.answer ≡ true }
+    {
+        match (step, self.answer) {
+            (Step::Start { place, .. }, Answer::Start(StartAnswer::NotStarted(_))) => {
+                place == self.place
+            }
+            (Step::Wait { place, .. }, Answer::Wait(_)) => place == self.place,
+            _ => false,
+        }
     }
 }
 
-/// What a step is answered after these events: by the first answer that is given for its place and
-/// of its kind, or else that all is well.
-pub(crate) fn answer_to(given: &[Given], events: &[RunEvent], step: Step) -> Answer
+/// What a step is answered after these events: by the first failure of its command, or else that
+/// all is well.
+pub(crate) fn answer_to(failures: &[Failure], events: &[RunEvent], step: Step) -> Answer
     ensures { fits events.now step result ≡ true }
 {
-    for one in given {
-        match place_for(step, one.answer) {
-            Some(place) if place == one.place => return one.answer,
-            _ => {}
+    for failure in failures {
+        if failure.answers(step) {
+            return failure.answer;
         }
     }
     well(events, step)

@@ -1,13 +1,12 @@
-//! What a plan's run leaves behind, over answers that are given ahead.
+//! What a plan's run leaves behind, where its commands end as they are told.
 #![tactic(auto)]
 
 mod answers;
-mod leaving;
+mod failures;
 mod places;
 mod running;
-mod telling;
-mod worded;
+mod story;
 
-pub use answers::Given;
+pub use answers::Failure;
+pub use failures::{FailureFault, failure_of};
 pub use running::story_over;
-pub use worded::{GivenFault, given_of};
