@@ -1,34 +1,22 @@
 //! An answer about the plan of a line, by what its run noted.
 
-use crate::files::Files;
-use crate::report::Report;
-use crate::texts::Texts;
+use crate::texts::Known;
 use drv_args::Line;
-use drv_check::Source;
+use drv_check::{LoadedFiles, Source};
 use drv_machine::Trace;
 use drv_specs::SpecSet;
-use drv_words::{Plan, Word};
-use json::Pretty;
+use drv_words::{Job, Plan, Word};
 use std::alloc::{AllocError, Global};
 
 /// What is asked.
-#[derive(Clone, Copy)]
-pub enum Asked<'a> {
+#[derive(Drop)]
+pub enum Asked {
     /// Where each word of the commands is from.
     Words,
-    /// What became of each switch of the line.
-    Switches,
     /// Where a word is from, and which tests chose it.
-    Of(&'a [u8]),
+    Of(Word),
     /// Which tests kept a word away.
-    Not(&'a [u8]),
-}
-
-/// What is asked, and the form of the answer.
-#[derive(Clone, Copy)]
-pub struct Question<'a> {
-    pub asked: Asked<'a>,
-    pub report: Report,
+    Not(Word),
 }
 
 /// A line and its plan, with what its run noted.
@@ -44,100 +32,54 @@ pub struct Explained<'a> {
 }
 
 /// What is explained, and the texts that it was made of.
-#[derive(Clone, Copy)]
-pub(crate) struct View<'v, 'a> {
+#[derive(Drop)]
+pub(crate) struct View<'a> {
     pub(crate) alloc: Global,
-    pub(crate) explained: &'v Explained<'v>,
-    pub(crate) files: &'v Files<'v>,
-    pub(crate) texts: &'v Texts<'a>,
+    pub(crate) explained: Explained<'a>,
+    pub(crate) files: LoadedFiles<'a>,
+    pub(crate) known: Vec<Known<'a>>,
+    /// For each trace the places of its texts among those that are known, that which was run first.
+    pub(crate) numbers: Vec<Vec<usize>>,
 }
 
-impl<'v, 'a> View<'v, 'a> {
-    /// What the run of the text of a job, or of the link after them, noted.
-    pub(crate) fn trace(&self, place: usize) -> Option<&'v Trace> {
+impl<'a> View<'a> {
+    /// The job at a place: the link is behind those of the sources.
+    pub(crate) fn job(&self, place: usize) -> Option<&'a Job> {
+        match self.explained.plan.jobs.as_slice().get(place) {
+            Some(job) => Some(job),
+            None => self.explained.plan.link.as_ref(),
+        }
+    }
+
+    /// What the run of the text of a job, or of the link behind them, noted.
+    pub(crate) fn trace(&self, place: usize) -> Option<&'a Trace> {
         match self.explained.traces.get(place) {
             Some(Some(trace)) => Some(trace),
             Some(None) | None => None,
         }
     }
 
-    /// The answer as lines.
-    fn lines(&self, asked: Asked<'_>) -> Result<Vec<u8>, AllocError> {
-        match asked {
-            Asked::Words => self.words_text(None),
-            Asked::Switches => self.switches_text(None),
-            Asked::Of(word) => self.words_text(Some(word)),
-            Asked::Not(word) => self.away_text(word),
-        }
+    /// The place among the known texts of a number of a trace.
+    pub(crate) fn place(&self, trace: usize, number: usize) -> Option<usize> {
+        self.numbers.get(trace)?.get(number).copied()
     }
 
-    /// The answer as JSON, and a newline at its end.
-    fn json(&self, asked: Asked<'_>) -> Result<Vec<u8>, AllocError> {
-        let mut out = Pretty::new(self.alloc);
-        match asked {
-            Asked::Words => self.put_commands(&mut out, None)?,
-            Asked::Switches => self.put_switches(&mut out)?,
-            Asked::Of(word) => self.put_commands(&mut out, Some(word))?,
-            Asked::Not(word) => self.put_away(&mut out, word)?,
-        }
-        let mut text = out.into_inner();
-        text.push(b'\n')?;
-        Ok(text)
+    /// The text of a number of a trace.
+    pub(crate) fn text(&self, trace: usize, number: usize) -> Option<&Known<'a>> {
+        self.known.get(self.place(trace, number)?)
     }
-}
-
-/// The texts that an answer is about: for a word that was kept away those too that were not run.
-fn texts_of<'a>(
-    alloc: Global,
-    asked: Asked<'_>,
-    explained: &Explained<'a>,
-    files: &Files<'_>,
-) -> Result<Texts<'a>, AllocError> {
-    let mut texts = Texts::new(alloc, explained, files)?;
-    if matches!(asked, Asked::Not(_)) {
-        texts.add_named(alloc, explained, files)?;
-    }
-    Ok(texts)
-}
-
-/// The answer with these texts of these files.
-fn answer_with<'v>(
-    alloc: Global,
-    question: Question<'_>,
-    explained: &'v Explained<'v>,
-    files: &'v Files<'v>,
-    texts: &'v Texts<'_>,
-) -> Result<Word, AllocError> {
-    let view = View {
-        alloc,
-        explained,
-        files,
-        texts,
-    };
-    let text = match question.report {
-        Report::Lines => view.lines(question.asked)?,
-        Report::Json => view.json(question.asked)?,
-    };
-    Ok(Word::from_vec(text))
-}
-
-/// The answer with these files.
-fn answer_by<'a>(
-    alloc: Global,
-    question: Question<'_>,
-    explained: &'a Explained<'a>,
-    files: &'a Files<'a>,
-) -> Result<Word, AllocError> {
-    let texts = texts_of(alloc, question.asked, explained, files)?;
-    answer_with(alloc, question, explained, files, &texts)
 }
 
 /// The answer about a line and its plan. Words of a file that `%@` makes have no origin.
-pub fn answer(
-    alloc: Global,
-    question: Question<'_>,
-    explained: &Explained<'_>,
-) -> Result<Word, AllocError> {
-    let files = Files::new(alloc, explained.sources)?;
-    answer_by(alloc, question, explained, &files)
+pub fn answer(alloc: Global, asked: &Asked, explained: &Explained<'_>) -> Result<Word, AllocError> {
+    let mut view = View::new(alloc, *explained)?;
+    let text = match asked {
+        Asked::Words => view.words_text(None)?,
+        Asked::Of(word) => view.words_text(Some(word))?,
+        Asked::Not(word) => {
+            view.add_unrun()?;
+            view.away_text(word)?
+        }
+    };
+    Ok(Word::from_vec(text))
 }

@@ -1,56 +1,48 @@
 //! What kept a word away.
 
 use crate::answering::View;
-use crate::parts::{around, earlier, list_end, part_extent};
-use crate::reasons::Reason;
-use crate::texts::{Known, Naming, Part};
-use crate::words::{push_part, push_reasons};
+use crate::parts::{around, earlier, is_break, list_end, part_extent};
+use crate::texts::{Known, Naming};
 use drv_machine::{Taken, Trace};
 use drv_syntax::{SpecTree, TokenKind};
+use drv_words::Word;
 use std::alloc::AllocError;
 
-/// A place where a word is written, and which was not reached.
-#[derive(Drop)]
-pub(crate) struct Away<'a> {
-    pub(crate) part: Part<'a>,
-    /// The tests that kept it away; none where nothing is linked.
-    pub(crate) reasons: Vec<Reason<'a>>,
-}
-
-/// Whether an item ends a word.
+/// Whether the item at a place ends a word, in a list that ends at a place.
 fn is_end(text: &SpecTree, at: usize, end: usize) -> bool {
     match text.tokens().get(at) {
-        Some(token) => {
-            at >= end
-                || matches!(
-                    token.kind,
-                    TokenKind::Blank | TokenKind::Newline | TokenKind::Pipe
-                )
-        }
+        Some(token) => at >= end || is_break(token.kind),
         None => true,
     }
 }
 
+/// Whether the item before a place is a byte of the same word.
+fn is_inside(text: &SpecTree, at: usize) -> bool {
+    let tokens = text.tokens();
+    let Some(before) = at.checked_sub(1) else {
+        return false;
+    };
+    let is_plain = match tokens.get(before) {
+        Some(token) => matches!(token.kind, TokenKind::Plain | TokenKind::Escape),
+        None => false,
+    };
+    is_plain && around(tokens, before) == around(tokens, at)
+}
+
 /// Whether a word begins with the plain bytes at a place, as far as a text has them.
 fn has_word(text: &SpecTree, at: usize, word: &[u8]) -> bool {
-    let tokens = text.tokens();
-    let end = list_end(tokens, at);
-    if at > 0 && around(tokens, at - 1) == around(tokens, at) {
-        if let Some(before) = tokens.get(at - 1) {
-            if matches!(before.kind, TokenKind::Plain | TokenKind::Escape) {
-                return false;
-            }
-        }
+    if is_inside(text, at) {
+        return false;
     }
+    let end = list_end(text.tokens(), at);
     let bytes = text.plain_bytes(at, end);
-    let after = at.saturating_add(bytes.len());
-    if is_end(text, after, end) {
+    if is_end(text, at.saturating_add(bytes.len()), end) {
         return bytes == word;
     }
     bytes.len() > 1 && word.starts_with(bytes)
 }
 
-/// Whether an alternative of a text was taken.
+/// What was taken of an alternative of a text, if it was.
 fn taken_at(trace: &Trace, text: usize, alternative: usize) -> Option<Taken> {
     let taken = trace.taken.as_slice().iter().find(|taken| taken.text == text
         && taken.alternative == alternative)?;
@@ -59,10 +51,9 @@ fn taken_at(trace: &Trace, text: usize, alternative: usize) -> Option<Taken> {
 
 /// The outermost alternative around a place that was not taken.
 fn untaken(trace: &Trace, number: usize, text: &SpecTree, at: usize) -> Option<usize> {
-    let tokens = text.tokens();
-    for (place, token) in tokens.iter().enumerate() {
+    for (place, token) in text.tokens().iter().enumerate() {
         if place >= at {
-            break;
+            return None;
         }
         let is_around = at < token.next && matches!(token.kind, TokenKind::Alternative);
         if is_around && taken_at(trace, number, place).is_none() {
@@ -72,125 +63,100 @@ fn untaken(trace: &Trace, number: usize, text: &SpecTree, at: usize) -> Option<u
     None
 }
 
-impl<'v, 'a> View<'v, 'a> {
+impl<'a> View<'a> {
     /// Adds why an alternative was not taken: a true test of an earlier one, or its own tests.
     fn push_untaken(
         &self,
-        reasons: &mut Vec<Reason<'v>>,
-        place: usize,
+        text: &mut Vec<u8>,
+        trace: &Trace,
         number: usize,
+        known: &Known<'a>,
         alternative: usize,
     ) -> Result<(), AllocError> {
-        let Some(text) = self.texts.get(place, number) else {
-            return Ok(());
-        };
-        let Some(trace) = self.trace(place) else {
-            return Ok(());
-        };
-        let before = earlier(self.alloc, text.tree.tokens(), alternative)?;
-        for at in before.as_slice() {
-            if let Some(taken) = taken_at(trace, number, *at) {
-                return self.push_tests(reasons, text, *at, Some(taken.test));
+        for at in earlier(self.alloc, known.tree.tokens(), alternative)? {
+            if let Some(taken) = taken_at(trace, number, at) {
+                return self.push_tests(text, b"  since ", known, at, Some(taken.test));
             }
         }
-        self.push_tests(reasons, text, alternative, None)
+        self.push_tests(text, b"  since ", known, alternative, None)
     }
 
-    /// Adds why the item at a place of a text was not reached where that was run.
-    fn push_unreached(
+    /// Why an item of a text was not reached where that was first run.
+    fn unreached(&self, item: Naming) -> Result<Vec<u8>, AllocError> {
+        let mut why = Vec::new(self.alloc);
+        for (place, numbers) in self.numbers.iter().enumerate() {
+            for (number, text) in numbers.iter().enumerate() {
+                if *text == item.text
+                    && why.is_empty()
+                    && let Some(trace) = self.trace(place)
+                    && let Some(known) = self.known.get(*text)
+                    && let Some(untaken) = untaken(trace, number, known.tree, item.token)
+                {
+                    self.push_untaken(&mut why, trace, number, known, untaken)?;
+                }
+            }
+        }
+        Ok(why)
+    }
+
+    /// An item, or for one of a text that was not run the item of one that was which leads to it.
+    fn leading(&self, item: Naming) -> Naming {
+        let mut item = item;
+        for _ in 0..self.known.len() {
+            if let Some(known) = self.known.get(item.text)
+                && let Some(from) = known.from
+            {
+                item = from;
+            }
+        }
+        item
+    }
+
+    /// Whether a text was run.
+    fn is_run(&self, text: usize) -> bool {
+        self.numbers
+            .iter()
+            .any(|numbers| numbers.iter().any(|number| *number == text))
+    }
+
+    /// Adds an item that was not reached, with the tests that kept it away.
+    fn push_away(
         &self,
-        reasons: &mut Vec<Reason<'v>>,
-        text: usize,
-        at: usize,
+        text: &mut Vec<u8>,
+        known: &Known<'a>,
+        item: Naming,
     ) -> Result<(), AllocError> {
-        for (place, trace) in self.explained.traces.iter().enumerate() {
-            let Some(trace) = trace else {
-                continue;
-            };
-            for number in 0..=trace.texts.len() {
-                if self.texts.place(place, number) != Some(text) {
-                    continue;
-                }
-                let Some(known) = self.texts.known.get(text) else {
-                    continue;
-                };
-                if let Some(alternative) = untaken(trace, number, known.tree, at) {
-                    if reasons.is_empty() {
-                        self.push_untaken(reasons, place, number, alternative)?;
-                    }
-                }
-            }
+        let leading = self.leading(item);
+        let mut why = self.unreached(leading)?;
+        if why.is_empty() && !self.is_run(leading.text) {
+            why.extend_from_slice(b"  since nothing is linked\n")?;
         }
-        Ok(())
-    }
-
-    /// Why an item of a text was not reached. For a text that was not run it is why that was not.
-    fn unreached(&self, text: usize, at: usize) -> Result<Vec<Reason<'v>>, AllocError> {
-        let mut reasons = Vec::new(self.alloc);
-        let mut item = Naming { text, token: at };
-        for _ in 0..=self.texts.known.len() {
-            match self.texts.known.get(item.text) {
-                Some(
-                    Known {
-                        from: Some(from),
-                        ..
-                    },
-                ) => item = *from,
-                Some(_) | None => break,
-            }
+        if why.is_empty() {
+            return Ok(());
         }
-        self.push_unreached(&mut reasons, item.text, item.token)?;
-        Ok(reasons)
-    }
-
-    /// Whether a text is that of a link that there is not.
-    fn is_unlinked(&self, text: usize) -> bool {
-        let mut item = text;
-        for _ in 0..=self.texts.known.len() {
-            match self.texts.known.get(item) {
-                Some(
-                    Known {
-                        from: Some(from),
-                        ..
-                    },
-                ) => item = from.text,
-                Some(_) | None => break,
-            }
-        }
-        !self.texts.is_run(item)
-    }
-
-    /// The places where a word is written and which were not reached.
-    pub(crate) fn away(&self, word: &[u8]) -> Result<Vec<Away<'v>>, AllocError> {
-        let mut all = Vec::new(self.alloc);
-        for (place, text) in self.texts.known.iter().enumerate() {
-            for (at, token) in text.tree.tokens().iter().enumerate() {
-                if !matches!(token.kind, TokenKind::Plain) || !has_word(text.tree, at, word) {
-                    continue;
-                }
-                let reasons = self.unreached(place, at)?;
-                if !reasons.is_empty() || self.is_unlinked(place) {
-                    let part = text.part(self.files, part_extent(text.tree, at));
-                    all.push(Away { part, reasons })?;
-                }
-            }
-        }
-        Ok(all)
+        self.push_part(
+            text,
+            known,
+            part_extent(self.alloc, known.tree, item.token)?,
+        )?;
+        text.push(b'\n')?;
+        text.extend_from_slice(why.as_slice())
     }
 
     /// The places where a word is written and which were not reached, each with the tests that kept it
-    /// away; and what became of the switch that it is.
-    pub(crate) fn away_text(&self, word: &[u8]) -> Result<Vec<u8>, AllocError> {
+    /// away; and what kept the switch away that it is.
+    pub(crate) fn away_text(&self, word: &Word) -> Result<Vec<u8>, AllocError> {
         let mut text = Vec::new(self.alloc);
-        for away in self.away(word)?.as_slice() {
-            push_part(&mut text, &away.part)?;
-            text.push(b'\n')?;
-            if away.reasons.is_empty() {
-                text.extend_from_slice(b"  since nothing is linked\n")?;
+        for (place, known) in self.known.iter().enumerate() {
+            for (token, item) in known.tree.tokens().iter().enumerate() {
+                if matches!(item.kind, TokenKind::Plain)
+                    && has_word(known.tree, token, word.as_bytes())
+                {
+                    self.push_away(&mut text, known, Naming { text: place, token })?;
+                }
             }
-            push_reasons(&mut text, b"  ", away.reasons.as_slice())?;
         }
-        text.extend_from_slice(self.switches_text(Some(word))?.as_slice())?;
+        self.push_fates(&mut text, word)?;
         if text.is_empty() {
             text.extend_from_slice(b"no test kept it away\n")?;
         }

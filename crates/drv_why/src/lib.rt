@@ -1,18 +1,12 @@
-//! Where the words of a plan are from, what kept a word away, and what became of the switches of its line.
+//! Where the words of a plan are from, and what kept a word away.
 #![tactic(auto)]
 
 mod answering;
-mod cancelling;
 mod causes;
-mod files;
-mod json_form;
+mod fates;
 mod kept_away;
 mod parts;
-mod reasons;
-mod report;
-mod switches;
 mod texts;
 mod words;
 
-pub use answering::{Asked, Explained, Question, answer};
-pub use report::Report;
+pub use answering::{Asked, Explained, answer};

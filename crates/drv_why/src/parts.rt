@@ -23,35 +23,54 @@ fn is_simple(kind: TokenKind) -> bool {
 }
 
 /// Whether an item ends a word.
-fn is_break(kind: TokenKind) -> bool {
+pub(crate) fn is_break(kind: TokenKind) -> bool {
     matches!(
         kind,
         TokenKind::Blank | TokenKind::Newline | TokenKind::Pipe
     )
 }
 
+/// Whether the item at a place is a test.
+pub(crate) fn is_test(tokens: &[Token], at: usize) -> bool {
+    match tokens.get(at) {
+        Some(token) => matches!(token.kind, TokenKind::Test),
+        None => false,
+    }
+}
+
 /// The innermost part that a place is in.
 pub(crate) fn around(tokens: &[Token], at: usize) -> Option<usize> {
-    let mut around = None;
-    for (place, token) in tokens.iter().enumerate() {
-        if place >= at {
-            break;
-        }
-        if at < token.next {
-            around = Some(place);
-        }
-    }
-    around
+    tokens.get(..at)?.iter().rposition(|token| at < token.next)
 }
 
 /// Where the list ends that a place is in.
 pub(crate) fn list_end(tokens: &[Token], at: usize) -> usize {
-    if let Some(outer) = around(tokens, at) {
-        if let Some(token) = tokens.get(outer) {
-            return token.next;
-        }
+    if let Some(outer) = around(tokens, at)
+        && let Some(token) = tokens.get(outer)
+    {
+        return token.next;
     }
     tokens.len()
+}
+
+/// The items of a list from one place up to another, without what is inside them.
+pub(crate) fn items(
+    alloc: Global,
+    tokens: &[Token],
+    from: usize,
+    end: usize,
+) -> Result<Vec<usize>, AllocError> {
+    let mut items = Vec::new(alloc);
+    let mut next = from;
+    for at in from..end {
+        if at == next
+            && let Some(token) = tokens.get(at)
+        {
+            items.push(at)?;
+            next = token.next;
+        }
+    }
+    Ok(items)
 }
 
 /// The alternatives of the same braces before one.
@@ -60,137 +79,70 @@ pub(crate) fn earlier(
     tokens: &[Token],
     alternative: usize,
 ) -> Result<Vec<usize>, AllocError> {
-    let mut places = Vec::new(alloc);
-    let Some(braces) = around(tokens, alternative) else {
-        return Ok(places);
-    };
-    let mut next = braces.saturating_add(1);
-    for place in next..tokens.len() {
-        if place >= alternative {
-            break;
-        }
-        if place >= next {
-            places.push(place)?;
-            next = tokens[place].next;
-        }
+    match around(tokens, alternative) {
+        Some(braces) => items(alloc, tokens, braces.saturating_add(1), alternative),
+        None => Ok(Vec::new(alloc)),
     }
-    Ok(places)
 }
 
-/// The place after the tests from a place on.
-pub(crate) fn after_tests(tokens: &[Token], from: usize) -> usize {
-    let mut next = from;
-    for place in from..tokens.len() {
-        if place < next {
-            continue;
+/// The place behind the tests of an alternative.
+fn after_tests(tokens: &[Token], alternative: usize) -> usize {
+    let mut next = alternative.saturating_add(1);
+    for at in next..tokens.len() {
+        if at == next && is_test(tokens, at) {
+            next = tokens[at].next;
         }
-        if !matches!(tokens[place].kind, TokenKind::Test) {
-            break;
-        }
-        next = tokens[place].next;
     }
     next
 }
 
 /// Where in a list that begins at a place the part begins that an item is in.
-fn begun(tokens: &[Token], first: usize, at: usize) -> usize {
+fn begun(alloc: Global, tokens: &[Token], first: usize, at: usize) -> Result<usize, AllocError> {
     let mut start = first;
-    let mut next = first;
-    for place in first..tokens.len() {
-        if place >= at {
-            break;
-        }
-        if place < next {
-            continue;
-        }
-        next = tokens[place].next;
-        if !is_simple(tokens[place].kind) {
-            start = next;
+    for item in items(alloc, tokens, first, at)? {
+        if let Some(token) = tokens.get(item)
+            && !is_simple(token.kind)
+        {
+            start = token.next;
         }
     }
-    start
+    Ok(start)
 }
 
 /// The braces of an alternative, where they have no other one.
 fn braces_of(tokens: &[Token], alternative: usize) -> Option<usize> {
     let outer = around(tokens, alternative)?;
-    let braces = tokens.get(outer)?;
-    let only = tokens.get(alternative)?;
-    if alternative == outer.saturating_add(1) && only.next == braces.next {
-        return Some(outer);
-    }
-    None
+    let is_only = alternative == outer.saturating_add(1)
+        && tokens.get(alternative)?.next == tokens.get(outer)?.next;
+    if is_only { Some(outer) } else { None }
 }
 
-/// Whether an alternative begins with the item at a place, and none of its tests has a star.
-fn begins(text: &SpecTree, alternative: usize, at: usize) -> bool {
-    let tokens = text.tokens();
-    let first = after_tests(tokens, alternative.saturating_add(1));
-    for place in alternative..tokens.len() {
-        if place >= first {
-            break;
-        }
-        if text.is_starred(place) {
-            return false;
-        }
-    }
-    at <= first
+/// Whether none of the tests of an alternative has a star.
+fn is_plain(text: &SpecTree, alternative: usize, first: usize) -> bool {
+    (alternative..first.min(text.tokens().len())).all(|place| !text.is_starred(place))
 }
 
 /// The item that begins the part that an item is in. What an alternative begins with belongs to that,
 /// or to its braces where they have no other one; but not where a test has a star.
-pub(crate) fn part_of(text: &SpecTree, at: usize) -> usize {
+pub(crate) fn part_of(alloc: Global, text: &SpecTree, at: usize) -> Result<usize, AllocError> {
     let tokens = text.tokens();
     let mut at = at;
     for _ in 0..tokens.len() {
         let Some(outer) = around(tokens, at) else {
-            return begun(tokens, 0, at);
+            return begun(alloc, tokens, 0, at);
         };
-        let first = after_tests(tokens, outer.saturating_add(1));
-        let start = begun(tokens, first, at);
-        let is_test = match tokens.get(at) {
-            Some(token) => matches!(token.kind, TokenKind::Test),
-            None => false,
-        };
-        if !is_test && !begins(text, outer, start) {
-            return start;
+        let first = after_tests(tokens, outer);
+        let start = begun(alloc, tokens, first, at)?;
+        let begins = start <= first && is_plain(text, outer, first);
+        if !begins && !is_test(tokens, at) {
+            return Ok(start);
         }
         match braces_of(tokens, outer) {
             Some(braces) => at = braces,
-            None => return outer,
+            None => return Ok(outer),
         }
     }
-    at
-}
-
-/// The bytes of the part that an item begins.
-pub(crate) fn part_extent(text: &SpecTree, start: usize) -> Extent {
-    let tokens = text.tokens();
-    let Some(first) = tokens.get(start) else {
-        return Extent { start: 0, end: 0 };
-    };
-    let from = first.start as usize;
-    let mut end = first.end as usize;
-    let mut next = start;
-    let last = list_end(tokens, start);
-    for place in start..tokens.len() {
-        if place >= last {
-            break;
-        }
-        if place < next {
-            continue;
-        }
-        let token = tokens[place];
-        if is_break(token.kind) {
-            break;
-        }
-        end = token.end as usize;
-        next = token.next;
-        if !is_simple(token.kind) {
-            break;
-        }
-    }
-    Extent { start: from, end }
+    Ok(at)
 }
 
 /// The bytes of one item.
@@ -202,4 +154,27 @@ pub(crate) fn own_extent(text: &SpecTree, at: usize) -> Extent {
         },
         None => Extent { start: 0, end: 0 },
     }
+}
+
+/// The bytes of the part that an item begins.
+pub(crate) fn part_extent(
+    alloc: Global,
+    text: &SpecTree,
+    start: usize,
+) -> Result<Extent, AllocError> {
+    let tokens = text.tokens();
+    let mut extent = own_extent(text, start);
+    for item in items(alloc, tokens, start, list_end(tokens, start))? {
+        let Some(token) = tokens.get(item) else {
+            break;
+        };
+        if is_break(token.kind) {
+            break;
+        }
+        extent.end = token.end as usize;
+        if !is_simple(token.kind) {
+            break;
+        }
+    }
+    Ok(extent)
 }

@@ -1,32 +1,35 @@
 //! The texts that a plan was made of.
 
-use crate::answering::Explained;
-use crate::files::{Files, Place};
+use crate::answering::{Explained, View};
 use crate::parts::Extent;
 use drv_args::Input;
-use drv_check::{Spot, spot_at, spots_of};
-use drv_machine::Trace;
+use drv_check::{LoadedFiles, Source, Spot, place_in, spot_at, spots_of};
+use drv_place::line_after;
 use drv_plan::{Chosen, PlanFault, language};
 use drv_specs::SpecSet;
 use drv_syntax::{SpecTree, TokenKind};
 use drv_words::Word;
+use itoa::Buffer;
 use std::alloc::{AllocError, Global};
 
 /// The name of the link's text.
 const LINK_COMMAND: &[u8] = b"link_command";
 
+/// The most bytes of a part that are shown.
+const MOST_SHOWN: usize = 40;
+
 /// A text.
 #[derive(Drop)]
 pub(crate) struct Known<'a> {
     /// What precedes the colon where a file puts it, as `*cc1` or `.c`.
-    pub(crate) head: Word,
+    head: Word,
     pub(crate) tree: &'a SpecTree,
     spots: Vec<Spot>,
     /// Where another one names it, if it was not run.
     pub(crate) from: Option<Naming>,
 }
 
-/// An item that names a text.
+/// An item of a text.
 #[derive(Clone, Copy)]
 pub(crate) struct Naming {
     /// The place of its text among those that are known.
@@ -34,27 +37,10 @@ pub(crate) struct Naming {
     pub(crate) token: usize,
 }
 
-/// What is shown of a text.
-#[derive(Clone, Copy)]
-pub(crate) struct Part<'a> {
-    /// As it is written.
-    pub(crate) written: &'a [u8],
-    pub(crate) head: &'a Word,
-    /// Where it is, if a file put it.
-    pub(crate) place: Option<Place<'a>>,
-}
-
-/// The texts that a plan was made of.
-#[derive(Drop)]
-pub(crate) struct Texts<'a> {
-    pub(crate) known: Vec<Known<'a>>,
-    /// For each trace the places of its texts among them, that which was run first.
-    numbers: Vec<Vec<usize>>,
-}
-
-/// The head `*NAME`.
-pub(crate) fn name_head(alloc: Global, name: &[u8]) -> Result<Word, AllocError> {
-    let mut head = Word::from_bytes(alloc, b"*")?;
+/// A name after a mark.
+fn head_of(alloc: Global, mark: u8, name: &[u8]) -> Result<Word, AllocError> {
+    let mut head = Word::empty(alloc);
+    head.push(mark)?;
     head.extend_from_slice(name)?;
     Ok(head)
 }
@@ -79,202 +65,169 @@ fn chosen_head(
     chosen: &Chosen<'_>,
 ) -> Result<Word, AllocError> {
     if let Some(language) = chosen.name {
-        let mut head = Word::from_bytes(alloc, b"@")?;
-        head.extend_from_slice(language)?;
-        return Ok(head);
+        return head_of(alloc, b'@', language);
     }
-    if let Input::File { name, .. } = input {
-        if let Some(key) = suffix_key(set, name.as_bytes()) {
-            return key.clone();
-        }
+    if let Input::File { name, .. } = input
+        && let Some(key) = suffix_key(set, name.as_bytes())
+    {
+        return key.clone();
     }
     Ok(Word::empty(alloc))
 }
 
-impl<'a> Texts<'a> {
+impl<'a> View<'a> {
     /// The place of a text among those that are known.
-    fn number_of(
-        &mut self,
-        alloc: Global,
-        head: Word,
-        tree: &'a SpecTree,
-        files: &Files<'_>,
-    ) -> Result<usize, AllocError> {
-        for (place, known) in self.known.iter().enumerate() {
-            if known.head.as_bytes() == head.as_bytes() {
-                return Ok(place);
-            }
+    fn number_of(&mut self, head: Word, tree: &'a SpecTree) -> Result<usize, AllocError> {
+        if let Some(place) = self.known.iter().position(|known| known.head == head) {
+            return Ok(place);
         }
-        let spots = spots_of(alloc, &files.loaded, head.as_bytes(), tree.text())?;
         let place = self.known.len();
         self.known.push(Known {
+            spots: spots_of(self.alloc, &self.files, head.as_bytes(), tree.text())?,
             head,
             tree,
-            spots,
             from: None,
         })?;
         Ok(place)
     }
 
-    /// Adds the texts that those which are known name, and the link's.
-    pub(crate) fn add_named(
-        &mut self,
-        alloc: Global,
-        explained: &Explained<'a>,
-        files: &Files<'_>,
-    ) -> Result<(), AllocError> {
-        if let Some(tree) = explained.set.tree(LINK_COMMAND) {
-            let head = name_head(alloc, LINK_COMMAND)?;
-            self.number_of(alloc, head, tree, files)?;
-        }
-        for place in 0..usize::MAX {
-            if place >= self.known.len() {
-                break;
+    /// The place of a named text, if there is one of this name.
+    fn named(&mut self, name: &[u8]) -> Result<Option<usize>, AllocError> {
+        match self.explained.set.tree(name) {
+            Some(tree) => {
+                let head = head_of(self.alloc, b'*', name)?;
+                Ok(Some(self.number_of(head, tree)?))
             }
-            self.add_named_of(alloc, explained, files, place)?;
+            None => Ok(None),
         }
-        Ok(())
     }
 
-    /// Adds the texts that one names.
-    fn add_named_of(
-        &mut self,
-        alloc: Global,
-        explained: &Explained<'a>,
-        files: &Files<'_>,
-        text: usize,
-    ) -> Result<(), AllocError> {
-        let Some(known) = self.known.get(text) else {
-            return Ok(());
-        };
-        let tree = known.tree;
-        for (token, part) in tree.tokens().iter().enumerate() {
-            if !matches!(part.kind, TokenKind::NamedText | TokenKind::BuiltinText) {
-                continue;
-            }
-            let Some(named) = explained.set.tree(tree.word(token)) else {
-                continue;
-            };
-            let head = name_head(alloc, tree.word(token))?;
-            let count = self.known.len();
-            let place = self.number_of(alloc, head, named, files)?;
-            if place == count {
-                if let Some(known) = self.known.get_mut(place) {
-                    known.from = Some(Naming { text, token });
-                }
-            }
-        }
-        Ok(())
-    }
-
-    /// Adds the text that was run of the input at a place, or of the link.
-    fn add_run(
-        &mut self,
-        alloc: Global,
-        explained: &Explained<'a>,
-        files: &Files<'_>,
-        job: usize,
-    ) -> Result<Option<usize>, AllocError> {
-        let set = explained.set;
-        let Some(job) = explained.plan.jobs.as_slice().get(job) else {
-            let Some(tree) = set.tree(LINK_COMMAND) else {
-                return Ok(None);
-            };
-            let head = name_head(alloc, LINK_COMMAND)?;
-            return Ok(Some(self.number_of(alloc, head, tree, files)?));
-        };
-        let Some(source) = job.source else {
+    /// The place of the text that was run for an input of the line.
+    fn chosen(&mut self, source: usize) -> Result<Option<usize>, AllocError> {
+        let Some(input) = self.explained.line.inputs.as_slice().get(source) else {
             return Ok(None);
         };
-        let Some(input) = explained.line.inputs.as_slice().get(source) else {
-            return Ok(None);
-        };
-        match language(alloc, input, set) {
+        match language(self.alloc, input, self.explained.set) {
             Ok(Some(chosen)) => {
-                let head = chosen_head(alloc, set, input, &chosen)?;
-                Ok(Some(self.number_of(alloc, head, chosen.tree, files)?))
+                let head = chosen_head(self.alloc, self.explained.set, input, &chosen)?;
+                Ok(Some(self.number_of(head, chosen.tree)?))
             }
             Err(PlanFault::Memory) => Err(AllocError),
             Ok(None) | Err(_) => Ok(None),
         }
     }
 
-    /// Adds the texts of a trace.
-    fn add_trace(
-        &mut self,
-        alloc: Global,
-        explained: &Explained<'a>,
-        files: &Files<'_>,
-        job: usize,
-        trace: &Trace,
-    ) -> Result<(), AllocError> {
-        let mut numbers = Vec::new(alloc);
-        if let Some(number) = self.add_run(alloc, explained, files, job)? {
+    /// The place of the text that was run for a job, or for the link behind them.
+    fn run_first(&mut self, job: usize) -> Result<Option<usize>, AllocError> {
+        match self.explained.plan.jobs.as_slice().get(job) {
+            Some(job) => match job.source {
+                Some(source) => self.chosen(source),
+                None => Ok(None),
+            },
+            None => self.named(LINK_COMMAND),
+        }
+    }
+
+    /// The places of the texts of a trace.
+    fn run_texts(&mut self, place: usize) -> Result<Vec<usize>, AllocError> {
+        let mut numbers = Vec::new(self.alloc);
+        if let Some(trace) = self.trace(place)
+            && let Some(number) = self.run_first(place)?
+        {
             numbers.push(number)?;
             for name in trace.texts.as_slice() {
-                if let Some(tree) = explained.set.tree(name.as_bytes()) {
-                    let head = name_head(alloc, name.as_bytes())?;
-                    let number = self.number_of(alloc, head, tree, files)?;
+                if let Some(number) = self.named(name.as_bytes())? {
                     numbers.push(number)?;
                 }
             }
         }
-        self.numbers.push(numbers)?;
+        Ok(numbers)
+    }
+
+    /// Adds the texts that one names.
+    fn add_named_by(&mut self, text: usize) -> Result<(), AllocError> {
+        let Some(known) = self.known.get(text) else {
+            return Ok(());
+        };
+        let tree = known.tree;
+        for (token, item) in tree.tokens().iter().enumerate() {
+            if !matches!(item.kind, TokenKind::NamedText | TokenKind::BuiltinText) {
+                continue;
+            }
+            let count = self.known.len();
+            if let Some(place) = self.named(tree.word(token))?
+                && place == count
+                && let Some(named) = self.known.get_mut(place)
+            {
+                named.from = Some(Naming { text, token });
+            }
+        }
         Ok(())
     }
 
-    /// Those of the traces.
-    pub(crate) fn new(
-        alloc: Global,
-        explained: &Explained<'a>,
-        files: &Files<'_>,
-    ) -> Result<Texts<'a>, AllocError> {
-        let mut texts = Texts {
+    /// Adds the link's text, and those that the known ones name.
+    pub(crate) fn add_unrun(&mut self) -> Result<(), AllocError> {
+        self.named(LINK_COMMAND)?;
+        for place in 0..usize::MAX {
+            if place >= self.known.len() {
+                break;
+            }
+            self.add_named_by(place)?;
+        }
+        Ok(())
+    }
+
+    /// What is explained, with its texts.
+    pub(crate) fn new(alloc: Global, explained: Explained<'a>) -> Result<View<'a>, AllocError> {
+        let mut view = View {
+            alloc,
+            explained,
+            files: LoadedFiles::new(alloc, explained.sources)?,
             known: Vec::new(alloc),
             numbers: Vec::new(alloc),
         };
-        for (job, trace) in explained.traces.iter().enumerate() {
-            match trace {
-                Some(trace) => texts.add_trace(alloc, explained, files, job, trace)?,
-                None => texts.numbers.push(Vec::new(alloc))?,
-            }
+        for place in 0..explained.traces.len() {
+            let numbers = view.run_texts(place)?;
+            view.numbers.push(numbers)?;
         }
-        Ok(texts)
+        Ok(view)
     }
 
-    /// The place among those that are known of the text of a number of a trace.
-    pub(crate) fn place(&self, trace: usize, number: usize) -> Option<usize> {
-        let numbers = self.numbers.get(trace)?;
-        numbers.get(number).copied()
+    /// Adds the place of a byte, by its line and its column (GNU coding standards, "Formatting Error
+    /// Messages").
+    fn push_place(&self, text: &mut Vec<u8>, source: &Source, at: usize) -> Result<(), AllocError> {
+        let place = place_in(source, at)?;
+        text.extend_from_slice(b" at ")?;
+        text.extend_from_slice(place.file.as_bytes())?;
+        for number in [place.line, place.column] {
+            text.push(b':')?;
+            text.extend_from_slice(Buffer::new().format(number).as_bytes())?;
+        }
+        Ok(())
     }
 
-    /// Whether a text that is known was run.
-    pub(crate) fn is_run(&self, place: usize) -> bool {
-        self.numbers
-            .iter()
-            .any(|numbers| numbers.iter().any(|number| *number == place))
-    }
-
-    /// The text of a number of a trace.
-    pub(crate) fn get(&self, trace: usize, number: usize) -> Option<&Known<'a>> {
-        self.known.get(self.place(trace, number)?)
-    }
-}
-
-impl<'a> Known<'a> {
-    /// What is shown of its bytes.
-    pub(crate) fn part<'v>(&'v self, files: &'v Files<'v>, extent: Extent) -> Part<'v> {
-        let tree: &'v SpecTree = self.tree;
-        let bytes = tree.text();
+    /// Adds bytes of a text as they are written, as far as they are shown, its head, and where they
+    /// are, if a file put them.
+    pub(crate) fn push_part(
+        &self,
+        text: &mut Vec<u8>,
+        known: &Known<'a>,
+        extent: Extent,
+    ) -> Result<(), AllocError> {
+        let bytes = known.tree.text();
         let written = bytes.get(extent.start..extent.end).unwrap_or(&[]);
-        let place = match spot_at(self.spots.as_slice(), bytes.len(), extent.start) {
-            Some(spot) => files.place(spot),
-            None => None,
-        };
-        Part {
-            written,
-            head: &self.head,
-            place,
+        let front = line_after(written.get(..MOST_SHOWN).unwrap_or(written), 0);
+        text.extend_from_slice(front)?;
+        if front.len() < written.len() {
+            text.extend_from_slice(b"..")?;
         }
+        text.extend_from_slice(b" of ")?;
+        text.extend_from_slice(known.head.as_bytes())?;
+        if let Some(spot) = spot_at(known.spots.as_slice(), bytes.len(), extent.start)
+            && let Some(source) = self.explained.sources.get(spot.source)
+        {
+            self.push_place(text, source, spot.at)?;
+        }
+        Ok(())
     }
 }

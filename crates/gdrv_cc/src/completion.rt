@@ -72,7 +72,7 @@ _gdrv_specs() {
     elif [[ ${COMP_WORDS[1]} == diff && $current == -* ]]; then
         _gdrv_words '-- --full --help' "$current"
     elif [[ ${COMP_WORDS[1]} == why && $current == -* ]]; then
-        _gdrv_words '-- --help --json --not= --of= --switches' "$current"
+        _gdrv_words '-- --help --not= --of=' "$current"
     elif [[ ${COMP_WORDS[1]} == plan && $current == -* ]]; then
         _gdrv_words '-- --help --json --sh' "$current"
     else

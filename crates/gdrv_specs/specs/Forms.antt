@@ -11,7 +11,7 @@ use Rattle.json.specs.Tree.{json_tokens}
 use Rattle.std.specs.Prelude.{List, [], ◌∷◌, ◌++◌, ℕ}
 
 -- A plan in each of its forms: as -### prints it, as JSON with a newline at its end, or as a script of the shell.
--- For clauses of src/forms.rt and src/planning.rt. A new form is also a word of src/calling.rt.
+-- For clauses of src/forms.rt and src/planning.rt. A new form is also an option of src/options.rt.
 abbrev pub form_text : Form → Plan → List ℕ
 form_text Lines plan = lines_text (lines_of plan)
 form_text Json plan = pretty (json_tokens (plan_json plan)) ++ newline ∷ []

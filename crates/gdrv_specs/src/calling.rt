@@ -1,16 +1,13 @@
 //! What a call of the program asks for.
 
 use crate::command_line::{CommandLine, Program, command_of};
-use crate::differing::{Comparison, Side, side_of};
-use crate::explaining::{Scope, View};
+use crate::differing::{Comparison, side_of};
 use crate::forms::Form;
 use crate::help::Question;
-use crate::options::{Choice, Tool, near_tool, tool_named};
-use crate::requesting::{Chosen, Request, request_of};
-use crate::selecting::{Selection, selection_of};
-use drv_forms::Detail;
-use drv_why::Report;
-use drv_words::{Listing, Word, copy_words};
+use crate::options::{Tool, near_tool, tool_named};
+use crate::requesting::{Request, path_of, request_of};
+use drv_why::Asked;
+use drv_words::{Listing, Word};
 use std::alloc::{AllocError, Global};
 
 /// What a call asks for.
@@ -19,24 +16,15 @@ pub enum Call {
     /// What the program says of itself.
     Ask(Question),
     /// The plan of a command, in a form.
-    Plan {
-        form: Form,
-        command: CommandLine,
-    },
-    /// The run of a command, where these words give some answers ahead.
-    After {
-        given: Listing<Word>,
-        command: CommandLine,
-    },
+    Plan(Form, CommandLine),
+    /// The run of a command, in which these commands fail, as `PLACE=ANSWER`.
+    After(Listing<Word>, CommandLine),
     /// What differs between the plans of a command with one spec file and with another.
     Differ(Comparison),
     /// What is found in spec files.
-    Check(Selection),
-    /// Where the words of a command's plan are from, or what becomes of its switches.
-    Why {
-        view: View,
-        command: CommandLine,
-    },
+    Check(Request),
+    /// Where the words of a command's plan are from, or what kept one away.
+    Why(Asked, CommandLine),
 }
 
 /// Why a call asks for nothing.
@@ -59,8 +47,6 @@ pub enum CallFault {
     },
     /// No word follows this option, which is the last word.
     MissingArgument(&'static [u8]),
-    /// There are more answers than 1000.
-    TooManyAnswers,
     /// `diff` takes the paths of two spec files, and then nothing, or `--` and a command.
     NotTwoFiles,
     /// `check` takes the path of one file or more.
@@ -84,9 +70,6 @@ impl From<AllocError> for CallFault {
     }
 }
 
-/// The most answers that a call gives ahead.
-const MOST_ANSWERS: usize = 1000;
-
 /// The command of a tool that takes no file.
 fn command_alone(
     rt: &HostRuntime,
@@ -103,47 +86,6 @@ fn command_alone(
     }
 }
 
-/// The form of a plan that options ask for: the last one counts.
-fn form_of(chosen: &[Chosen]) -> Form {
-    let mut form = Form::Lines;
-    for option in chosen {
-        match option.choice {
-            Choice::Json => form = Form::Json,
-            Choice::Script => form = Form::Script,
-            _ => {}
-        }
-    }
-    form
-}
-
-/// The plan that a call asks for.
-fn plan_asked(rt: &HostRuntime, request: &Request) -> Result<Call, CallFault> {
-    let command = command_alone(rt, Tool::Plan, request)?;
-    let form = form_of(request.chosen.as_slice());
-    Ok(Call::Plan { form, command })
-}
-
-/// The answers that options give.
-fn answers_of(alloc: Global, chosen: &[Chosen]) -> Result<Listing<Word>, AllocError> {
-    let mut given = Listing::new(alloc);
-    for option in chosen {
-        if matches!(option.choice, Choice::Fail) {
-            given.push(option.argument.clone()?)?;
-        }
-    }
-    Ok(given)
-}
-
-/// The run that a call asks for.
-fn run_asked(rt: &HostRuntime, request: &Request) -> Result<Call, CallFault> {
-    let given = answers_of(rt.alloc(), request.chosen.as_slice())?;
-    if given.len() > MOST_ANSWERS {
-        return Err(CallFault::TooManyAnswers);
-    }
-    let command = command_alone(rt, Tool::After, request)?;
-    Ok(Call::After { given, command })
-}
-
 /// The command that prints all texts.
 fn dumping_command(alloc: Global) -> Result<CommandLine, AllocError> {
     let mut words = Listing::new(alloc);
@@ -156,28 +98,11 @@ fn dumping_command(alloc: Global) -> Result<CommandLine, AllocError> {
 }
 
 /// The command of a comparison: without one it is of the texts.
-fn command_compared(
-    rt: &HostRuntime,
-    command: &Option<Listing<Word>>,
-) -> Result<CommandLine, CallFault> {
-    match command {
+fn command_compared(rt: &HostRuntime, request: &Request) -> Result<CommandLine, CallFault> {
+    match &request.command {
         Some(words) => command_of(rt, words.as_slice()),
         None => Ok(dumping_command(rt.alloc())?),
     }
-}
-
-/// How much is printed of what differs.
-fn detail_of(chosen: &[Chosen]) -> Detail {
-    let full = chosen
-        .iter()
-        .any(|option| matches!(option.choice, Choice::Full));
-    if full { Detail::Lines } else { Detail::Words }
-}
-
-/// One side of a comparison: its command with this spec file.
-fn side_asked(rt: &HostRuntime, request: &Request, path: &Word) -> Result<Side, CallFault> {
-    let command = command_compared(rt, &request.command)?;
-    Ok(side_of(rt.alloc(), path, command)?)
 }
 
 /// The comparison that a call asks for.
@@ -185,106 +110,69 @@ fn difference_asked(rt: &HostRuntime, request: &Request) -> Result<Call, CallFau
     let [first, second] = request.files.as_slice() else {
         return Err(CallFault::NotTwoFiles);
     };
-    let first = side_asked(rt, request, first)?;
-    let mut second = side_asked(rt, request, second)?;
+    let first = side_of(rt.alloc(), first, command_compared(rt, request)?)?;
+    let mut second = side_of(rt.alloc(), second, command_compared(rt, request)?)?;
     // Names of temporaries are no difference.
     second.command.seed = first.command.seed;
     Ok(Call::Differ(Comparison {
-        detail: detail_of(request.chosen.as_slice()),
+        detail: request.detail,
         first,
         second,
     }))
 }
 
-/// The files of a check: words behind `--` are files too.
-fn files_asked(alloc: Global, request: &Request) -> Result<Listing<Word>, AllocError> {
-    let mut files = copy_words(alloc, request.files.as_slice())?;
-    if let Some(words) = &request.command {
-        for word in words.as_slice() {
-            files.push(word.clone()?)?;
-        }
+/// Adds the paths of files.
+fn add_paths(alloc: Global, paths: &mut Listing<Word>, files: &[Word]) -> Result<(), AllocError> {
+    for file in files {
+        paths.push(path_of(alloc, file)?)?;
     }
-    Ok(files)
+    Ok(())
 }
 
-/// The check that a call asks for.
-fn check_asked(alloc: Global, request: &Request) -> Result<Call, CallFault> {
-    let files = files_asked(alloc, request)?;
+/// The check that a call asks for: words behind `--` are files too.
+fn check_asked(alloc: Global, request: Request) -> Result<Call, CallFault> {
+    let mut files = Listing::new(alloc);
+    add_paths(alloc, &mut files, request.files.as_slice())?;
+    if let Some(words) = &request.command {
+        add_paths(alloc, &mut files, words.as_slice())?;
+    }
     if files.is_empty() {
         return Err(CallFault::NoFiles);
     }
-    let selection = selection_of(alloc, request.chosen.as_slice(), files)?;
-    Ok(Call::Check(selection))
-}
-
-/// What an option asks about a command, if it asks that.
-fn scope_by(option: &Chosen) -> Result<Option<Scope>, AllocError> {
-    match option.choice {
-        Choice::Switches => Ok(Some(Scope::Switches)),
-        Choice::Of => Ok(Some(Scope::Of(option.argument.clone()?))),
-        Choice::Not => Ok(Some(Scope::Not(option.argument.clone()?))),
-        _ => Ok(None),
-    }
-}
-
-/// What options ask about a command: the last one counts.
-fn scope_of(chosen: &[Chosen]) -> Result<Scope, AllocError> {
-    let mut scope = Scope::Words;
-    for option in chosen {
-        if let Some(asked) = scope_by(option)? {
-            scope = asked;
-        }
-    }
-    Ok(scope)
-}
-
-/// The form of a report.
-fn report_of(chosen: &[Chosen]) -> Report {
-    let json = chosen
-        .iter()
-        .any(|option| matches!(option.choice, Choice::Json));
-    if json { Report::Json } else { Report::Lines }
-}
-
-/// What a call asks about a command.
-fn why_asked(rt: &HostRuntime, request: &Request) -> Result<Call, CallFault> {
-    let command = command_alone(rt, Tool::Why, request)?;
-    let chosen = request.chosen.as_slice();
-    let scope = scope_of(chosen)?;
-    let report = report_of(chosen);
-    Ok(Call::Why {
-        view: View { scope, report },
-        command,
-    })
+    Ok(Call::Check(Request { files, ..request }))
 }
 
 /// What a call of a tool with these words asks for.
 fn tool_asked(rt: &HostRuntime, tool: Tool, words: &[Word]) -> Result<Call, CallFault> {
     let request = request_of(rt.alloc(), tool, words)?;
-    if request.asks_help() {
+    if request.help {
         return Ok(Call::Ask(Question::Tool(tool)));
     }
     match tool {
-        Tool::Check => check_asked(rt.alloc(), &request),
-        Tool::Plan => plan_asked(rt, &request),
-        Tool::After => run_asked(rt, &request),
+        Tool::Check => check_asked(rt.alloc(), request),
         Tool::Diff => difference_asked(rt, &request),
-        Tool::Why => why_asked(rt, &request),
+        Tool::Plan => Ok(Call::Plan(request.form, command_alone(rt, tool, &request)?)),
+        Tool::After => {
+            let command = command_alone(rt, tool, &request)?;
+            Ok(Call::After(request.failures, command))
+        }
+        Tool::Why => {
+            let command = command_alone(rt, tool, &request)?;
+            Ok(Call::Why(request.asked, command))
+        }
     }
 }
 
 /// What the first word asks of the program itself.
 fn question_asked(alloc: Global, word: &Word) -> Result<Call, CallFault> {
-    let bytes = word.as_bytes();
-    if bytes == b"--help".as_slice() || bytes == b"-h".as_slice() {
-        return Ok(Call::Ask(Question::Help));
+    match word.as_bytes() {
+        b"--help" | b"-h" => Ok(Call::Ask(Question::Help)),
+        b"--version" => Ok(Call::Ask(Question::Version)),
+        other => Err(CallFault::UnknownTool {
+            word: word.clone()?,
+            near: near_tool(alloc, other)?,
+        }),
     }
-    if bytes == b"--version".as_slice() {
-        return Ok(Call::Ask(Question::Version));
-    }
-    let near = near_tool(alloc, bytes)?;
-    let word = word.clone()?;
-    Err(CallFault::UnknownTool { word, near })
 }
 
 /// What a call with these arguments asks for.

@@ -1,17 +1,16 @@
 //! Prints what is found in spec files.
 
 use crate::colouring::Style;
-use crate::outcome::Outcome;
+use crate::forms::Form;
 use crate::printing::Printer;
-use crate::selecting::Selection;
-use crate::warning_names::{is_name_of, warning_name, warning_text};
+use crate::requesting::Request;
+use crate::warning_names::{is_off_by, warning_name, warning_text};
 use drv_check::{
-    Checking, FileCheck, Finding, Findings, MOST_FAULTS, Note, Place, Report, Source, Spot, Told,
-    Warning, check_files, is_fault, is_full, place_in, push_back, push_front, report_json,
-    report_text,
+    FileCheck, Finding, MOST_FAULTS, Note, Place, Report, Source, Spot, Told, Warning, check_files,
+    is_fault, is_full, place_in, push_back, push_front, report_json, report_text,
 };
 use drv_place::{line_after, line_before};
-use drv_run::{Ending, Refusal, refusal_text};
+use drv_run::{Refusal, refusal_text};
 use drv_system::{FactTable, System};
 use drv_words::{Listing, Word};
 use std::alloc::{AllocError, Global};
@@ -80,42 +79,24 @@ fn told_of(alloc: Global, sources: &[Source], finding: Finding) -> Result<Told, 
         after: Word::empty(alloc),
         from: Listing::new(alloc),
     };
-    if let Some(spot) = spot {
-        if let Some(source) = sources.get(spot.source) {
-            fill(&mut told, sources, source, spot.at)?;
-        }
+    if let Some(spot) = spot
+        && let Some(source) = sources.get(spot.source)
+    {
+        fill(&mut told, sources, source, spot.at)?;
     }
     Ok(told)
 }
 
-/// Whether one of these names is that of a warning.
-fn is_named(warning: Warning, names: &[Word]) -> bool {
-    names
-        .iter()
-        .any(|name| is_name_of(name.as_bytes(), warning))
-}
-
 /// Whether a check prints this.
-fn is_on(selection: &Selection, note: &Note) -> bool {
+fn is_on(request: &Request, note: &Note) -> bool {
     match note {
         Note::Fault(_) => true,
-        Note::Warned(warning) => !is_named(*warning, selection.off.as_slice()),
-    }
-}
-
-/// The findings that are not switched off.
-fn shown_findings(
-    alloc: Global,
-    selection: &Selection,
-    findings: Findings,
-) -> Result<Vec<Finding>, AllocError> {
-    let mut shown = Vec::new(alloc);
-    for finding in findings.into_vec(alloc)? {
-        if is_on(selection, &finding.note) {
-            shown.push(finding)?;
+        Note::Warned(warning) => {
+            let off = request.off.as_slice();
+            !off.iter()
+                .any(|option| is_off_by(option.as_bytes(), *warning))
         }
     }
-    Ok(shown)
 }
 
 /// What a check prints of findings: of the first ones, as many as are printed.
@@ -126,68 +107,55 @@ fn all_told(
 ) -> Result<Listing<Told>, AllocError> {
     let mut all = Listing::new(alloc);
     for finding in findings {
-        if all.len() == MOST_TOLD {
-            return Ok(all);
+        if all.len() < MOST_TOLD {
+            all.push(told_of(alloc, sources, finding)?)?;
         }
-        all.push(told_of(alloc, sources, finding)?)?;
     }
     Ok(all)
 }
 
 /// The exit status for what a check finds.
-fn verdict(strict: bool, findings: &[Finding]) -> u8 {
+fn verdict(request: &Request, findings: &[Finding]) -> u8 {
     if findings.iter().any(|finding| is_fault(&finding.note)) {
         return 2;
     }
-    if strict && !findings.is_empty() { 1 } else { 0 }
-}
-
-/// Writes what was found to standard output, and answers the exit status.
-fn put_report<S: System>(
-    alloc: Global,
-    sys: &mut S,
-    printer: &Printer,
-    selection: &Selection,
-    checking: Checking,
-) -> Result<u8, AllocError> {
-    let ended = is_full(&checking, MOST_FAULTS);
-    let findings = shown_findings(alloc, selection, checking.findings)?;
-    let status = verdict(selection.strict, findings.as_slice());
-    let more = findings.len().saturating_sub(MOST_TOLD);
-    let report = Report {
-        told: all_told(alloc, checking.sources.as_slice(), findings)?,
-        unshown: if ended { None } else { Some(more) },
-    };
-    let (style, text) = if selection.json {
-        (Style::Plain, report_json(alloc, &report)?)
+    if request.strict && !findings.is_empty() {
+        1
     } else {
-        (Style::Findings, report_text(alloc, &report)?)
-    };
-    match printer.put(alloc, sys, style, &text)? {
-        0 => Ok(status),
-        failed => Ok(failed),
+        0
     }
 }
 
 /// Writes the faults of spec files to standard output and what is surely not meant, 100 of them at
 /// most, each with its place (GCC manual, "Spec Files"). It reads the files and those that they include, and does
-/// nothing else: it starts no program and makes, changes and removes no file.
+/// nothing else: it starts no program and makes, changes and removes no file. Answers the exit status.
 pub fn tell_check<S: System>(
     alloc: Global,
     sys: &mut S,
     printer: &Printer,
-    selection: &Selection,
-) -> Outcome {
+    request: &Request,
+) -> Result<u8, AllocError> {
     let check = FileCheck {
-        whose: selection.whose,
-        over: selection.over.as_slice(),
-        names: selection.files.as_slice(),
+        whose: request.whose,
+        over: request.over.as_slice(),
+        names: request.files.as_slice(),
     };
-    let Ok(checking) = check_files(alloc, &check, sys, &mut FactTable::new(alloc)) else {
-        return Outcome::Ended(Ending::OutOfMemory);
+    let checking = check_files(alloc, &check, sys, &mut FactTable::new(alloc))?;
+    let ended = is_full(&checking, MOST_FAULTS);
+    let mut findings = checking.findings.into_vec(alloc)?;
+    findings.retain(|finding| is_on(request, &finding.note));
+    let status = verdict(request, findings.as_slice());
+    let more = findings.len().saturating_sub(MOST_TOLD);
+    let report = Report {
+        told: all_told(alloc, checking.sources.as_slice(), findings)?,
+        unshown: if ended { None } else { Some(more) },
     };
-    match put_report(alloc, sys, printer, selection, checking) {
-        Ok(status) => Outcome::Ended(Ending::Done(status)),
-        Err(_) => Outcome::Ended(Ending::OutOfMemory),
+    let (style, text) = match request.form {
+        Form::Json => (Style::Plain, report_json(alloc, &report)?),
+        _ => (Style::Findings, report_text(alloc, &report)?),
+    };
+    match printer.put(alloc, sys, style, &text)? {
+        0 => Ok(status),
+        failed => Ok(failed),
     }
 }

@@ -33,28 +33,19 @@ pub struct CommandLine {
     pub seed: u32,
 }
 
-/// Whether a name is one of the machine's own compiler.
-fn is_of_machine(name: &[u8]) -> bool {
-    name == b"gcc".as_slice()
-        || name == b"cc".as_slice()
-        || name == b"gdrv-cc".as_slice()
-        || name == b"gdrv-gcc".as_slice()
-}
-
 /// Whether `gdrv-cc` knows by a name for what it is called. It refuses a compiler of C++ by that.
 fn says_front(name: &[u8]) -> bool {
-    name == b"c99".as_slice()
-        || name == b"c99-gdrv".as_slice()
-        || name.ends_with(b"++".as_slice())
-        || name.ends_with(b"-gdrv-cc".as_slice())
-        || name.ends_with(b"-gdrv-gcc".as_slice())
+    matches!(name, b"c99" | b"c99-gdrv")
+        || name.ends_with(b"++")
+        || name.ends_with(b"-gdrv-cc")
+        || name.ends_with(b"-gdrv-gcc")
 }
 
 /// Whether a name is that of a gcc with its release, as `gcc-13` and `TARGET-gcc-13`.
 fn is_release(name: &[u8]) -> bool {
     match split_at_last(b'-', name) {
         Some((gcc, release)) => {
-            (gcc == b"gcc".as_slice() || gcc.ends_with(b"-gcc".as_slice()))
+            (gcc == b"gcc".as_slice() || gcc.ends_with(b"-gcc"))
                 && !release.is_empty()
                 && release.iter().all(|byte| byte.is_ascii_digit())
         }
@@ -71,7 +62,7 @@ fn with_ending(alloc: Global, machine: &[u8]) -> Result<Word, AllocError> {
 
 /// The name of `gdrv-cc` for a compiler of this name, as ./install gives it.
 fn name_for(alloc: Global, name: &[u8]) -> Result<Option<Word>, AllocError> {
-    if is_of_machine(name) {
+    if matches!(name, b"gcc" | b"cc" | b"gdrv-cc" | b"gdrv-gcc") {
         return Ok(Some(Word::from_bytes(alloc, b"gdrv-cc")?));
     }
     if says_front(name) {
@@ -86,23 +77,18 @@ fn name_for(alloc: Global, name: &[u8]) -> Result<Option<Word>, AllocError> {
     }
 }
 
-/// The compiler for which `gdrv-cc` has this name.
-fn compiler_of(rt: &HostRuntime, name: &Word) -> Result<Program, AllocError> {
-    let calling = calling_of(rt.alloc(), name.as_bytes())?;
-    let own = own_specs(rt, calling.machine.as_bytes())?;
-    Ok(Program::Compiler(Compiler { calling, own }))
-}
-
 /// The program of this path or name, if it is one whose line is read.
 fn program_of(rt: &HostRuntime, path: &Word) -> Result<Option<Program>, AllocError> {
     let name = base(path.as_bytes());
     if name == b"gdrv".as_slice() {
         return Ok(Some(Program::Driver));
     }
-    match name_for(rt.alloc(), name)? {
-        Some(name) => Ok(Some(compiler_of(rt, &name)?)),
-        None => Ok(None),
-    }
+    let Some(name) = name_for(rt.alloc(), name)? else {
+        return Ok(None);
+    };
+    let calling = calling_of(rt.alloc(), name.as_bytes())?;
+    let own = own_specs(rt, calling.machine.as_bytes())?;
+    Ok(Some(Program::Compiler(Compiler { calling, own })))
 }
 
 /// The command of these words: a program by its name or path, and its line. A gcc's name means the

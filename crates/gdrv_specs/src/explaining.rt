@@ -1,233 +1,141 @@
-//! Where the words of a command's plan are from, what kept one away, and what became of its switches.
+//! Where the words of a command's plan are from, and what kept one away.
 
 use crate::colouring::Style;
 use crate::command_line::{CommandLine, Compiler, Program};
 use crate::outcome::Outcome;
 use crate::printing::Printer;
-use crate::reading::{Reading, Unread, read, say_first};
-use drv_args::{Line, line_of};
+use crate::reading::{read, say_first};
+use drv_args::{Line, Settings, line_of};
 use drv_check::sources_of;
-use drv_compile::{DriverLine, Host};
+use drv_compile::Host;
 use drv_plan::{Specified, plan_traced};
 use drv_run::{Ending, line_of_call, load_specs};
 use drv_search::Prefixes;
 use drv_specs::{SpecSet, builtin, suffixes};
 use drv_system::{FactTable, Outside, System};
-use drv_why::{Asked, Explained, Question, Report, answer};
+use drv_why::{Asked, Explained, answer};
 use drv_words::Word;
 use std::alloc::Global;
 
-/// What is asked about a command.
-#[derive(Drop)]
-pub enum Scope {
-    /// Where the words of its plan are from.
-    Words,
-    /// What became of its switches.
-    Switches,
-    /// Where this word is from, and which tests chose it.
-    Of(Word),
-    /// Which tests kept this word away.
-    Not(Word),
-}
-
-/// What is asked about a command, and the form of the answer.
-#[derive(Drop)]
-pub struct View {
-    /// What is asked.
-    pub scope: Scope,
-    /// The form.
-    pub report: Report,
-}
-
-impl View {
-    /// How the answer is laid out.
-    fn style(&self) -> Style {
-        match self.report {
-            Report::Lines => Style::Commands,
-            Report::Json => Style::Plain,
-        }
-    }
-}
-
 /// A line of the driver that was read, and what is asked about it.
-#[derive(Drop)]
+#[derive(Clone, Copy)]
 struct Explaining<'a> {
-    view: &'a View,
+    asked: &'a Asked,
     line: &'a Line,
     /// For the names of temporaries.
     seed: u32,
 }
 
-/// What is asked.
-fn asked_of(scope: &Scope) -> Asked<'_> {
-    match scope {
-        Scope::Words => Asked::Words,
-        Scope::Switches => Asked::Switches,
-        Scope::Of(word) => Asked::Of(word.as_bytes()),
-        Scope::Not(word) => Asked::Not(word.as_bytes()),
-    }
+/// A set with the spec files of a line.
+fn loaded<S: System>(
+    alloc: Global,
+    set: SpecSet,
+    settings: &Settings,
+    outside: &mut Outside<'_, S>,
+) -> Result<SpecSet, Ending> {
+    Ok(load_specs(alloc, set, settings, outside.sys, outside.facts)?)
 }
 
-/// The answer about a line with these specs.
-fn text_with<S: System>(
+/// The answer about a line whose spec files are loaded over a set.
+fn text_over<S: System>(
     alloc: Global,
-    explaining: &Explaining<'_>,
-    set: &SpecSet,
+    explaining: Explaining<'_>,
+    set: SpecSet,
     outside: &mut Outside<'_, S>,
 ) -> Result<Word, Ending> {
-    let line = explaining.line;
-    let folders = line.settings.prefixes.as_slice();
+    let Explaining { asked, line, seed } = explaining;
+    let settings = &line.settings;
+    let folders = settings.prefixes.as_slice();
+    let set = loaded(alloc, set, settings, outside)?;
     let prefixes = Prefixes::new(alloc, folders, outside.sys, outside.facts)?;
     let given = Specified {
         line,
-        set,
-        seed: explaining.seed,
+        set: &set,
+        seed,
     };
     let traced = plan_traced(alloc, &given, &prefixes, outside.sys, outside.facts)?;
-    let names = line.settings.specs.as_slice();
+    let names = settings.specs.as_slice();
     let sources = sources_of(alloc, folders, names, outside.sys, outside.facts)?;
     let explained = Explained {
         line,
-        set,
+        set: &set,
         plan: &traced.plan,
         traces: traced.traces.as_slice(),
         sources: sources.as_slice(),
     };
-    let question = Question {
-        asked: asked_of(&explaining.view.scope),
-        report: explaining.view.report,
-    };
-    Ok(answer(alloc, question, &explained)?)
+    Ok(answer(alloc, asked, &explained)?)
 }
 
-/// The answer about a line whose spec files are loaded over this set.
-fn text_over<S: System>(
-    alloc: Global,
-    explaining: &Explaining<'_>,
-    set: SpecSet,
-    outside: &mut Outside<'_, S>,
-) -> Result<Word, Ending> {
-    let settings = &explaining.line.settings;
-    let loaded = load_specs(alloc, set, settings, outside.sys, outside.facts)?;
-    text_with(alloc, explaining, &loaded, outside)
-}
-
-/// The text about a line of the driver, if it has a plan.
+/// The answer about a line of the driver.
 fn driver_text<S: System>(
     alloc: Global,
-    view: &View,
+    asked: &Asked,
     command: &CommandLine,
     outside: &mut Outside<'_, S>,
-) -> Result<Option<Word>, Ending> {
+) -> Result<Word, Outcome> {
     let words = command.words.clone()?;
     let line = line_of_call(alloc, words, outside.sys, outside.facts)?;
+    let set = builtin(alloc)?;
+    if line.settings.dump {
+        loaded(alloc, set, &line.settings, outside)?;
+        return Err(Outcome::NoPlan);
+    }
     let explaining = Explaining {
-        view,
+        asked,
         line: &line,
         seed: command.seed,
     };
-    if line.settings.dump {
-        let set = builtin(alloc)?;
-        load_specs(alloc, set, &line.settings, outside.sys, outside.facts)?;
-        return Ok(None);
-    }
-    let text = text_over(alloc, &explaining, builtin(alloc)?, outside)?;
-    Ok(Some(text))
+    Ok(text_over(alloc, explaining, set, outside)?)
 }
 
-/// The text about what a compiler's driver is called with.
-fn driven_text<S: System>(
-    alloc: Global,
-    view: &View,
-    driven: &DriverLine,
-    seed: u32,
-    outside: &mut Outside<'_, S>,
-) -> Result<Word, Ending> {
-    let line = line_of(alloc, driven.from_file, driven.items.as_slice())?;
-    let explaining = Explaining {
-        view,
-        line: &line,
-        seed,
-    };
-    text_over(alloc, &explaining, suffixes(alloc)?, outside)
-}
-
-/// The text about a compiler's line, if that is no question to the compiler.
+/// The answer about a compiler's line, by what its driver is called with.
 fn compiler_text<S: System, H: Host<S>>(
     alloc: Global,
-    view: &View,
+    asked: &Asked,
     compiler: &Compiler,
     command: &CommandLine,
-    sys: &mut S,
+    outside: &mut Outside<'_, S>,
     host: &mut H,
-) -> Result<Option<Word>, Unread> {
-    let reading = read(alloc, compiler, command, sys, host)?;
-    let Reading {
-        prepared,
-        mut facts,
-    } = reading;
-    say_first(sys, &prepared)?;
+) -> Result<Word, Outcome> {
+    let prepared = read(alloc, compiler, command, outside, host)?;
+    say_first(outside.sys, &prepared)?;
     let Some(driven) = &prepared.line else {
-        return Ok(None);
+        return Err(Outcome::Question);
     };
-    let outside = &mut Outside {
-        sys,
-        facts: &mut facts,
+    let line = match line_of(alloc, driven.from_file, driven.items.as_slice()) {
+        Ok(line) => line,
+        Err(fault) => return Err(Outcome::Ended(Ending::from(fault))),
     };
-    let text = driven_text(alloc, view, driven, command.seed, outside)?;
-    Ok(Some(text))
-}
-
-/// The outcome of a call with this answer; of a line that has no words of texts it is the other one.
-fn tell_text<S: System>(
-    alloc: Global,
-    sys: &mut S,
-    printer: &Printer,
-    style: Style,
-    text: Option<Word>,
-    none: Outcome,
-) -> Outcome {
-    match text {
-        Some(text) => printer.tell(alloc, sys, style, &text),
-        None => none,
-    }
-}
-
-/// Tells the answer about a line of the driver.
-fn tell_driver_why<S: System>(
-    alloc: Global,
-    sys: &mut S,
-    printer: &Printer,
-    view: &View,
-    command: &CommandLine,
-) -> Outcome {
-    let facts = &mut FactTable::new(alloc);
-    match driver_text(alloc, view, command, &mut Outside { sys, facts }) {
-        Ok(text) => tell_text(alloc, sys, printer, view.style(), text, Outcome::NoPlan),
-        Err(ending) => Outcome::Ended(ending),
-    }
+    let explaining = Explaining {
+        asked,
+        line: &line,
+        seed: command.seed,
+    };
+    Ok(text_over(alloc, explaining, suffixes(alloc)?, outside)?)
 }
 
 /// Writes to standard output the answer about a command, by what the run of its plan noted. These are
-/// its commands, and under each its words, each with the parts of texts that it has bytes of. Or it is
-/// what the texts that were run did with each switch, or which tests chose a word or kept it away. It asks what
-/// the plan needs, and does nothing else. A line that is refused, and one that has no plan, write
-/// nothing.
+/// its commands, and under each its words, each with the parts of texts that it has bytes of; or which
+/// tests chose a word or kept it away. It asks what the plan needs, and does nothing else. Answers the
+/// exit status.
+///
+/// # Errors
+/// The line is refused or has no plan: nothing is written.
 pub fn tell_why<S: System, H: Host<S>>(
     alloc: Global,
     sys: &mut S,
     host: &mut H,
     printer: &Printer,
-    view: &View,
+    asked: &Asked,
     command: &CommandLine,
-) -> Outcome {
-    match &command.program {
-        Program::Driver => tell_driver_why(alloc, sys, printer, view, command),
+) -> Result<u8, Outcome> {
+    let facts = &mut FactTable::new(alloc);
+    let outside = &mut Outside { sys, facts };
+    let text = match &command.program {
+        Program::Driver => driver_text(alloc, asked, command, outside)?,
         Program::Compiler(compiler) => {
-            match compiler_text(alloc, view, compiler, command, sys, host) {
-                Ok(text) => tell_text(alloc, sys, printer, view.style(), text, Outcome::Question),
-                Err(unread) => unread.outcome(),
-            }
+            compiler_text(alloc, asked, compiler, command, outside, host)?
         }
-    }
+    };
+    Ok(printer.put(alloc, outside.sys, Style::Commands, &text)?)
 }

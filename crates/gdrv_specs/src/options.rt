@@ -12,7 +12,7 @@ pub enum Tool {
     Check,
     /// The plan of a command.
     Plan,
-    /// Its run, over answers that are given ahead.
+    /// Its run, in which some commands fail.
     After,
     /// What two spec files make of it.
     Diff,
@@ -31,13 +31,11 @@ pub enum Choice {
     Script,
     /// The commands too.
     Full,
-    /// What becomes of the switches.
-    Switches,
     /// Where a word is from.
     Of,
     /// What keeps a word away.
     Not,
-    /// An answer that is given ahead.
+    /// A command fails.
     Fail,
     /// A file that is loaded first.
     Over,
@@ -74,14 +72,8 @@ macro_rules! row {
     };
 }
 
-/// The tools by their names.
-const TOOLS: [(&[u8], Tool); 5] = [
-    (b"check", Tool::Check),
-    (b"plan", Tool::Plan),
-    (b"after", Tool::After),
-    (b"diff", Tool::Diff),
-    (b"why", Tool::Why),
-];
+/// The tools.
+const TOOLS: [Tool; 5] = [Tool::Check, Tool::Plan, Tool::After, Tool::Diff, Tool::Why];
 
 /// The options of `check`.
 #[rattlefmt::skip]
@@ -115,7 +107,7 @@ const OF_PLAN: [OptionRow; 4] = [
 /// The options of `after`.
 #[rattlefmt::skip]
 const OF_AFTER: [OptionRow; 3] = [
-    row!(b"--fail", b"PLACE=ANSWER", Fail, b"the step at PLACE has this ANSWER"),
+    row!(b"--fail", b"PLACE=ANSWER", Fail, b"the command at PLACE ends so"),
     row!(b"--help", b"", Help, b"print this"),
     row!(b"-h", b"", Help, b"the same"),
 ];
@@ -130,11 +122,9 @@ const OF_DIFF: [OptionRow; 3] = [
 
 /// The options of `why`.
 #[rattlefmt::skip]
-const OF_WHY: [OptionRow; 6] = [
-    row!(b"--json", b"", Json, b"print JSON"),
+const OF_WHY: [OptionRow; 4] = [
     row!(b"--not", b"WORD", Not, b"print the tests that kept WORD away"),
     row!(b"--of", b"WORD", Of, b"print where WORD is from, and the tests that chose it"),
-    row!(b"--switches", b"", Switches, b"print what becomes of each switch"),
     row!(b"--help", b"", Help, b"print this"),
     row!(b"-h", b"", Help, b"the same"),
 ];
@@ -172,56 +162,7 @@ impl Tool {
 
 /// The tool of this name.
 pub fn tool_named(name: &[u8]) -> Option<Tool> {
-    for (named, tool) in TOOLS {
-        if named == name {
-            return Some(tool);
-        }
-    }
-    None
-}
-
-/// What a word that begins as an option says.
-#[derive(Clone, Copy)]
-pub enum Given<'a> {
-    /// It is this option.
-    Alone(OptionRow),
-    /// It is this option with its argument.
-    Joined(OptionRow, &'a [u8]),
-    /// It is this option, whose argument is the next word.
-    Awaits(OptionRow),
-}
-
-/// The argument that a word has behind the name of an option and `=`.
-fn argument_of<'a>(name: &[u8], word: &'a [u8]) -> Option<&'a [u8]> {
-    word.strip_prefix(name)?.strip_prefix(b"=".as_slice())
-}
-
-/// What a word says, if it is this option.
-fn given_by<'a>(row: OptionRow, word: &'a [u8]) -> Option<Given<'a>> {
-    if !row.takes_argument() {
-        return if row.name == word {
-            Some(Given::Alone(row))
-        } else {
-            None
-        };
-    }
-    if row.name == word {
-        return Some(Given::Awaits(row));
-    }
-    match argument_of(row.name, word) {
-        Some(argument) => Some(Given::Joined(row, argument)),
-        None => None,
-    }
-}
-
-/// What a word says, if it is an option of a tool.
-pub fn option_given<'a>(tool: Tool, word: &'a [u8]) -> Option<Given<'a>> {
-    for row in tool.options() {
-        if let Some(given) = given_by(*row, word) {
-            return Some(given);
-        }
-    }
-    None
+    TOOLS.iter().find(|tool| tool.name() == name).copied()
 }
 
 /// The names of a tool's options, each with a `=` that takes an argument.
@@ -240,8 +181,8 @@ fn option_names(alloc: Global, tool: Tool) -> Result<Listing<Word>, AllocError> 
 /// The names of the tools.
 fn tool_names(alloc: Global) -> Result<Listing<Word>, AllocError> {
     let mut names = Listing::new(alloc);
-    for (name, _) in TOOLS {
-        names.push(Word::from_bytes(alloc, name)?)?;
+    for tool in TOOLS {
+        names.push(Word::from_bytes(alloc, tool.name())?)?;
     }
     Ok(names)
 }

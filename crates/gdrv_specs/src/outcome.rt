@@ -1,11 +1,10 @@
-//! How a call of the program ends.
+//! How a call of the program ends, and what is said of that.
 
 use crate::calling::CallFault;
-use crate::misuse::misuse_line;
-use crate::wording::{line_around, line_of};
-use drv_after::GivenFault;
-use drv_run::{Ending, Refusal, refusal_text};
-use drv_words::{Word, copy_word};
+use drv_after::FailureFault;
+use drv_compile::Stop;
+use drv_run::{Ending, refusal_text};
+use drv_words::Word;
 use std::alloc::{AllocError, Global};
 
 /// How a call of the program ends.
@@ -13,27 +12,16 @@ use std::alloc::{AllocError, Global};
 pub enum Outcome {
     /// As a call of the driver ends.
     Ended(Ending),
-    /// `gdrv-cc` refuses the line with this text.
+    /// The line is refused with this text.
     Told(Word),
-    /// The driver of `gdrv-cc` refuses the line.
-    Undone {
-        /// What `gdrv-cc` says.
-        text: Word,
-        /// The spec file with which it is refused, where with another one it may not be.
-        with: Option<Word>,
-        /// Where in a spec file the fault is.
-        note: Word,
-    },
-    /// With the spec file of this path the line is refused, and with another one it may not be.
-    RefusedWith(Word, Refusal),
     /// The line asks for the specs, so it has no plan.
     NoPlan,
     /// The line asks for its plan alone, so nothing is carried out.
     NoRun,
     /// The line is a question, which the compiler answers.
     Question,
-    /// This word gives no answer.
-    Unanswered(Word, GivenFault),
+    /// This word names no failure.
+    NoFailure(Word, FailureFault),
     /// The call asks for nothing.
     Misused(CallFault),
 }
@@ -41,58 +29,91 @@ pub enum Outcome {
 /// The exit status of a call that tells nothing.
 pub const TROUBLE: u8 = 2;
 
-/// The text of a refused line: the words of the driver after the name of the program.
-fn refusal_line(alloc: Global, refusal: &Refusal) -> Result<Word, AllocError> {
-    let words = refusal_text(alloc, refusal)?;
-    line_of(alloc, words.as_bytes())
-}
-
-/// The note that names the spec file with which a line is refused.
-fn with_line(alloc: Global, path: &Word) -> Result<Word, AllocError> {
-    line_around(alloc, b"note: refused with '", path, b"'")
-}
-
-/// The text of a line that is refused with a spec file: a note names the file.
-fn refused_with_lines(alloc: Global, path: &Word, refusal: &Refusal) -> Result<Word, AllocError> {
-    let mut lines = refusal_line(alloc, refusal)?;
-    let note = with_line(alloc, path)?;
-    lines.extend_from_slice(note.as_bytes())?;
-    Ok(lines)
-}
-
-/// The text of a line that the driver of `gdrv-cc` refuses, with its notes.
-fn undone_lines(
-    alloc: Global,
-    text: &Word,
-    with: &Option<Word>,
-    note: &Word,
-) -> Result<Word, AllocError> {
-    let mut lines = text.clone()?;
-    if let Some(path) = copy_word(with)? {
-        let named = with_line(alloc, &path)?;
-        lines.extend_from_slice(named.as_bytes())?;
+impl From<AllocError> for Outcome {
+    fn from(_error: AllocError) -> Outcome {
+        Outcome::Ended(Ending::OutOfMemory)
     }
-    lines.extend_from_slice(note.as_bytes())?;
-    Ok(lines)
 }
 
-/// The text about a word that gives no answer.
-fn unanswered_line(alloc: Global, word: &Word, fault: GivenFault) -> Result<Word, AllocError> {
-    match fault {
-        GivenFault::NoForm => line_around(alloc, b"'", word, b"' is not PLACE=ANSWER"),
-        GivenFault::NoPlace => line_around(alloc, b"'", word, b"': the plan has no such place"),
-        GivenFault::NoAnswer => {
-            line_around(alloc, b"'", word, b"': no step there has such an answer")
+impl From<Ending> for Outcome {
+    fn from(ending: Ending) -> Outcome {
+        Outcome::Ended(ending)
+    }
+}
+
+impl From<Stop> for Outcome {
+    fn from(stop: Stop) -> Outcome {
+        match stop {
+            Stop::Told(text) | Stop::Undone(text, _) => Outcome::Told(text),
+            Stop::Memory => Outcome::Ended(Ending::OutOfMemory),
         }
     }
+}
+
+/// A line of these parts, in the name of the program.
+pub fn line_of(alloc: Global, parts: &[&[u8]]) -> Result<Word, AllocError> {
+    let mut line = Word::from_bytes(alloc, b"gdrv-specs: ")?;
+    for part in parts {
+        line.extend_from_slice(part)?;
+    }
+    line.push(b'\n')?;
+    Ok(line)
+}
+
+/// The line about a word of a call that is unknown: with what was meant, or where what there is is listed.
+#[rattlefmt::skip]
+fn unknown_line(alloc: Global, fault: &CallFault) -> Result<Word, AllocError> {
+    let listed = b"--help' lists them";
+    match fault {
+        CallFault::UnknownTool { word, near: Some(near) } =>
+            line_of(alloc, &[b"unknown tool '", word.as_bytes(), b"'; did you mean '", near.as_bytes(), b"'?"]),
+        CallFault::UnknownTool { word, near: None } =>
+            line_of(alloc, &[b"unknown tool '", word.as_bytes(), b"'; 'gdrv-specs ", listed]),
+        CallFault::UnknownOption { tool, word, near: Some(near) } =>
+            line_of(alloc, &[b"'", tool.name(), b"' has no option '", word.as_bytes(), b"'; did you mean '", near.as_bytes(), b"'?"]),
+        CallFault::UnknownOption { tool, word, near: None } => line_of(alloc,
+            &[b"'", tool.name(), b"' has no option '", word.as_bytes(), b"'; 'gdrv-specs ", tool.name(), b" ", listed]),
+        CallFault::UnknownProgram(program) => line_of(alloc, &[b"unknown program '", program.as_bytes(),
+            b"': the program is gdrv, gdrv-cc, gcc, cc, c99, TARGET-gdrv-cc or TARGET-gcc"]),
+        _ => line_of(alloc, &[b"out of memory"]),
+    }
+}
+
+/// The line about a call that asks for nothing.
+#[rattlefmt::skip]
+fn misuse_line(alloc: Global, fault: &CallFault) -> Result<Word, AllocError> {
+    match fault {
+        CallFault::NoTool => line_of(alloc, &[b"no tool; 'gdrv-specs --help' lists them"]),
+        CallFault::NotTwoFiles => line_of(alloc, &[b"'diff' takes two files, and a command after '--'"]),
+        CallFault::NoFiles => line_of(alloc, &[b"'check' takes one file or more"]),
+        CallFault::NoCommand(tool) => line_of(alloc, &[b"'", tool.name(), b"' takes a command after '--'"]),
+        CallFault::NoProgram => line_of(alloc, &[b"no program after '--'"]),
+        CallFault::MissingArgument(option) => line_of(alloc, &[b"missing argument to '", option, b"'"]),
+        CallFault::StrayWord { tool, word } => line_of(alloc,
+            &[b"'", tool.name(), b"' takes a command after '--', and no '", word.as_bytes(), b"' before it"]),
+        _ => unknown_line(alloc, fault),
+    }
+}
+
+/// The line about a word that names no failure.
+fn failure_line(alloc: Global, word: &Word, fault: FailureFault) -> Result<Word, AllocError> {
+    let why = match fault {
+        FailureFault::NoForm => b"' is not PLACE=ANSWER".as_slice(),
+        FailureFault::NoPlace => b"': the plan has no such command".as_slice(),
+        FailureFault::NoAnswer => b"': no command ends so".as_slice(),
+    };
+    line_of(alloc, &[b"'", word.as_bytes(), why])
 }
 
 /// The text about how a call of the driver ends: no byte where the call itself said all.
 fn ended_line(alloc: Global, ending: &Ending) -> Result<Word, AllocError> {
     match ending {
         Ending::Done(_) => Ok(Word::empty(alloc)),
-        Ending::Refused(refusal) => refusal_line(alloc, refusal),
-        Ending::OutOfMemory => line_of(alloc, b"out of memory"),
+        Ending::Refused(refusal) => {
+            let text = refusal_text(alloc, refusal)?;
+            line_of(alloc, &[text.as_bytes()])
+        }
+        Ending::OutOfMemory => line_of(alloc, &[b"out of memory"]),
     }
 }
 
@@ -105,26 +126,16 @@ impl Outcome {
         }
     }
 
-    /// The text about a line that has nothing to tell.
-    fn text_of_nothing(&self, alloc: Global) -> Result<Word, AllocError> {
-        match self {
-            Outcome::NoPlan => line_of(alloc, b"a line with '-dumpspecs' has no plan"),
-            Outcome::NoRun => line_of(alloc, b"a line with '-###' has no run"),
-            Outcome::Question => line_of(alloc, b"the compiler itself answers this line"),
-            _ => Ok(Word::empty(alloc)),
-        }
-    }
-
     /// The text on standard error: no byte where the call itself said all.
     pub fn text(&self, alloc: Global) -> Result<Word, AllocError> {
         match self {
             Outcome::Ended(ending) => ended_line(alloc, ending),
             Outcome::Told(text) => text.clone(),
-            Outcome::Undone { text, with, note } => undone_lines(alloc, text, with, note),
-            Outcome::RefusedWith(path, refusal) => refused_with_lines(alloc, path, refusal),
-            Outcome::Unanswered(word, fault) => unanswered_line(alloc, word, *fault),
+            Outcome::NoPlan => line_of(alloc, &[b"a line with '-dumpspecs' has no plan"]),
+            Outcome::NoRun => line_of(alloc, &[b"a line with '-###' has no run"]),
+            Outcome::Question => line_of(alloc, &[b"the compiler itself answers this line"]),
+            Outcome::NoFailure(word, fault) => failure_line(alloc, word, *fault),
             Outcome::Misused(fault) => misuse_line(alloc, fault),
-            _ => self.text_of_nothing(alloc),
         }
     }
 }

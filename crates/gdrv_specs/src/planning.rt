@@ -8,11 +8,11 @@ ghost use Rattle.gdrv_specs.specs.declared.command_line.Program.TheVariants.{Dri
 ghost use Rattle.std.specs.Option.{option_map};
 ghost use Rattle.std.specs.Prelude.{◌≡◌, IfOk, OnErr, Some};
 
-use crate::command_line::{CommandLine, Compiler, Program};
+use crate::command_line::{CommandLine, Program};
 use crate::forms::{Form, form_text};
 use crate::outcome::Outcome;
 use crate::printing::status_told;
-use crate::reading::{read, say_first};
+use crate::reading::work_of;
 use drv_compile::Host;
 use drv_run::{Ending, Work, work_of_call};
 use drv_system::{FactTable, System};
@@ -95,16 +95,11 @@ fn tell_compiler_plan<S: System, H: Host<S>>(
     sys: &mut S,
     host: &mut H,
     form: Form,
-    compiler: &Compiler,
     command: &CommandLine,
 ) -> Outcome {
-    let reading = match read(alloc, compiler, command, sys, host) {
-        Ok(reading) => reading,
-        Err(unread) => return unread.outcome(),
-    };
-    match say_first(sys, &reading.prepared) {
-        Ok(()) => tell_work(alloc, sys, form, &reading.prepared.work),
-        Err(_) => Outcome::Ended(Ending::OutOfMemory),
+    match work_of(alloc, command, sys, host) {
+        Ok(work) => tell_work(alloc, sys, form, &work),
+        Err(outcome) => outcome,
     }
 }
 
@@ -125,8 +120,6 @@ pub fn tell_plan<S: System, H: Host<S>>(
             Ok(words) => tell_driver_plan(alloc, sys, form, words, command.seed),
             Err(_) => Outcome::Ended(Ending::OutOfMemory),
         },
-        Program::Compiler(compiler) => {
-            tell_compiler_plan(alloc, sys, host, form, compiler, command)
-        }
+        Program::Compiler(_) => tell_compiler_plan(alloc, sys, host, form, command),
     }
 }

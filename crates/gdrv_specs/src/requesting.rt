@@ -1,60 +1,107 @@
 //! The words of a tool's call: its options, its files, and the command behind `--`.
 
 use crate::calling::CallFault;
-use crate::options::{Choice, Given, OptionRow, Tool, near_option, option_given};
+use crate::forms::Form;
+use crate::options::{Choice, OptionRow, Tool, near_option};
+use drv_check::Names;
+use drv_forms::Detail;
+use drv_why::Asked;
 use drv_words::{Listing, Word, copy_words};
 use std::alloc::{AllocError, Global};
 
-/// An option that a call has.
-#[derive(Drop)]
-pub struct Chosen {
-    /// What it asks.
-    pub choice: Choice,
-    /// Its argument; the option itself where it takes none.
-    pub argument: Word,
-}
-
-/// The words of a tool's call.
+/// What the words of a tool's call ask for. Of options that exclude one another the last one counts.
 #[derive(Drop)]
 pub struct Request {
-    /// Its options, in their order.
-    pub chosen: Listing<Chosen>,
-    /// Its words that are no option.
+    /// How the tool is used.
+    pub help: bool,
+    /// The form of what is printed.
+    pub form: Form,
+    /// How much is printed of two commands that differ.
+    pub detail: Detail,
+    /// What is asked about the words of a plan.
+    pub asked: Asked,
+    /// The commands that fail, as `PLACE=ANSWER`.
+    pub failures: Listing<Word>,
+    /// Whether warnings count for the exit status.
+    pub strict: bool,
+    /// Whose texts count as run, though no text names them.
+    pub whose: Names,
+    /// The options of the warnings that aren't printed.
+    pub off: Listing<Word>,
+    /// The paths of the files that are loaded first.
+    pub over: Listing<Word>,
+    /// The paths of the files: the words that are no option.
     pub files: Listing<Word>,
     /// The words behind `--`, if that is there.
     pub command: Option<Listing<Word>>,
 }
 
-/// The words that are read so far.
-#[derive(Drop)]
-struct Progress {
-    request: Request,
-    /// The option whose argument the next word is.
-    awaits: Option<OptionRow>,
+/// The path of a file: a hyphen is standard input.
+pub fn path_of(alloc: Global, word: &Word) -> Result<Word, AllocError> {
+    match word.as_bytes() {
+        b"-" => Word::from_bytes(alloc, b"/dev/stdin"),
+        path => Word::from_bytes(alloc, path),
+    }
+}
+
+/// Why a tool doesn't take an option.
+fn no_option(alloc: Global, tool: Tool, word: &Word) -> Result<CallFault, AllocError> {
+    Ok(CallFault::UnknownOption {
+        tool,
+        word: word.clone()?,
+        near: near_option(alloc, tool, word.as_bytes())?,
+    })
+}
+
+/// The row of an option that takes an argument, and its argument where that is in the same word.
+fn joined<'a>(tool: Tool, word: &'a [u8]) -> Option<(OptionRow, Option<&'a [u8]>)> {
+    for row in tool.options() {
+        if row.takes_argument()
+            && let Some(rest) = word.strip_prefix(row.name)
+        {
+            match rest {
+                [] => return Some((*row, None)),
+                [b'=', argument @ ..] => return Some((*row, Some(argument))),
+                _ => {}
+            }
+        }
+    }
+    None
 }
 
 impl Request {
     /// The call without words.
     fn new(alloc: Global) -> Request {
         Request {
-            chosen: Listing::new(alloc),
+            help: false,
+            form: Form::Lines,
+            detail: Detail::Words,
+            asked: Asked::Words,
+            failures: Listing::new(alloc),
+            strict: false,
+            whose: Names::Driver,
+            off: Listing::new(alloc),
+            over: Listing::new(alloc),
             files: Listing::new(alloc),
             command: None,
         }
     }
 
-    /// Whether it asks how the tool is used.
-    pub fn asks_help(&self) -> bool {
-        self.chosen
-            .as_slice()
-            .iter()
-            .any(|chosen| matches!(chosen.choice, Choice::Help))
-    }
-
-    /// Adds an option.
-    fn choose(&mut self, row: OptionRow, argument: Word) -> Result<(), AllocError> {
-        let choice = row.choice;
-        self.chosen.push(Chosen { choice, argument })?;
+    /// Takes an option, with its argument if it has one.
+    fn choose(&mut self, alloc: Global, choice: Choice, argument: &Word) -> Result<(), AllocError> {
+        match choice {
+            Choice::Help => self.help = true,
+            Choice::Json => self.form = Form::Json,
+            Choice::Script => self.form = Form::Script,
+            Choice::Full => self.detail = Detail::Lines,
+            Choice::Of => self.asked = Asked::Of(argument.clone()?),
+            Choice::Not => self.asked = Asked::Not(argument.clone()?),
+            Choice::Fail => self.failures.push(argument.clone()?)?,
+            Choice::Over => self.over.push(path_of(alloc, argument)?)?,
+            Choice::Gcc => self.whose = Names::Gcc,
+            Choice::Strict => self.strict = true,
+            Choice::Silent => self.off.push(argument.clone()?)?,
+        }
         Ok(())
     }
 
@@ -63,77 +110,56 @@ impl Request {
         self.files.push(word.clone()?)?;
         Ok(())
     }
-}
 
-/// Why a tool doesn't take an option.
-fn no_option(alloc: Global, tool: Tool, word: &Word) -> CallFault {
-    let near = match near_option(alloc, tool, word.as_bytes()) {
-        Ok(near) => near,
-        Err(_) => return CallFault::Memory,
-    };
-    match word.clone() {
-        Ok(word) => CallFault::UnknownOption { tool, word, near },
-        Err(_) => CallFault::Memory,
-    }
-}
-
-impl Progress {
-    /// Takes what a word says of an option.
-    fn take_given(&mut self, alloc: Global, given: Given<'_>) -> Result<(), AllocError> {
-        match given {
-            Given::Alone(row) => self.request.choose(row, Word::from_bytes(alloc, row.name)?),
-            Given::Joined(row, argument) => {
-                self.request.choose(row, Word::from_bytes(alloc, argument)?)
-            }
-            Given::Awaits(row) => {
-                self.awaits = Some(row);
-                Ok(())
+    /// Takes a word that begins as an option. Answers the option whose argument the next word is.
+    fn take_option(
+        &mut self,
+        alloc: Global,
+        tool: Tool,
+        word: &Word,
+    ) -> Result<Option<OptionRow>, CallFault> {
+        for row in tool.options() {
+            if !row.takes_argument() && row.name == word.as_bytes() {
+                self.choose(alloc, row.choice, word)?;
+                return Ok(None);
             }
         }
-    }
-
-    /// Takes a word that begins as an option.
-    fn take_option(&mut self, alloc: Global, tool: Tool, word: &Word) -> Result<(), CallFault> {
-        match option_given(tool, word.as_bytes()) {
-            Some(given) => Ok(self.take_given(alloc, given)?),
-            None => Err(no_option(alloc, tool, word)),
+        match joined(tool, word.as_bytes()) {
+            Some((row, None)) => Ok(Some(row)),
+            Some((row, Some(argument))) => {
+                self.choose(alloc, row.choice, &Word::from_bytes(alloc, argument)?)?;
+                Ok(None)
+            }
+            None => Err(no_option(alloc, tool, word)?),
         }
     }
 
-    /// Takes one more word. A hyphen alone is no option.
-    fn take(&mut self, alloc: Global, tool: Tool, word: &Word) -> Result<(), CallFault> {
-        if let Some(row) = self.awaits.take() {
-            return Ok(self.request.choose(row, word.clone()?)?);
+    /// Takes the words before the `--`, if that is there, and answers how many they are. A hyphen alone
+    /// is no option.
+    fn take_words(
+        &mut self,
+        alloc: Global,
+        tool: Tool,
+        words: &[Word],
+    ) -> Result<usize, CallFault> {
+        let mut awaits: Option<OptionRow> = None;
+        let mut count = words.len();
+        for (place, word) in words.iter().enumerate() {
+            if word.as_bytes() == b"--".as_slice() {
+                count = place;
+                break;
+            }
+            match (awaits.take(), word.as_bytes()) {
+                (Some(row), _) => self.choose(alloc, row.choice, word)?,
+                (None, [b'-', _, ..]) => awaits = self.take_option(alloc, tool, word)?,
+                (None, _) => self.add_file(word)?,
+            }
         }
-        if word.len() > 1 && word.as_bytes().starts_with(b"-") {
-            return self.take_option(alloc, tool, word);
-        }
-        Ok(self.request.add_file(word)?)
-    }
-
-    /// The call, if no option awaits its argument.
-    fn whole(self) -> Result<Request, CallFault> {
-        let Progress { request, awaits } = self;
         match awaits {
             Some(row) => Err(CallFault::MissingArgument(row.name)),
-            None => Ok(request),
+            None => Ok(count),
         }
     }
-}
-
-/// The words before the `--`, if that is there, and how many they are.
-fn options_of(alloc: Global, tool: Tool, words: &[Word]) -> Result<(Progress, usize), CallFault> {
-    let mut progress = Progress {
-        request: Request::new(alloc),
-        awaits: None,
-    };
-    for (place, word) in words.iter().enumerate() {
-        if word.as_bytes() == b"--".as_slice() {
-            return Ok((progress, place));
-        }
-        progress.take(alloc, tool, word)?;
-    }
-    Ok((progress, words.len()))
 }
 
 /// What the words of a tool's call ask for.
@@ -142,9 +168,9 @@ fn options_of(alloc: Global, tool: Tool, words: &[Word]) -> Result<(Progress, us
 /// Lack of memory; the first word that begins as an option and is none of the tool; an option
 /// without its argument.
 pub fn request_of(alloc: Global, tool: Tool, words: &[Word]) -> Result<Request, CallFault> {
-    let (progress, place) = options_of(alloc, tool, words)?;
-    let mut request = progress.whole()?;
-    if let [_, command @ ..] = words.get(place..).unwrap_or(&[]) {
+    let mut request = Request::new(alloc);
+    let place = request.take_words(alloc, tool, words)?;
+    if let Some([_, command @ ..]) = words.get(place..) {
         request.command = Some(copy_words(alloc, command)?);
     }
     Ok(request)

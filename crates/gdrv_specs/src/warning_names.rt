@@ -64,7 +64,7 @@ pub fn warning_text(alloc: Global, warning: Warning) -> Result<Word, AllocError>
     Ok(text)
 }
 
-/// Whether this is the name of a warning.
-pub fn is_name_of(name: &[u8], warning: Warning) -> bool {
-    name == warning_name(warning)
+/// Whether an option switches a warning off.
+pub fn is_off_by(option: &[u8], warning: Warning) -> bool {
+    option.strip_prefix(b"-Wno-".as_slice()) == Some(warning_name(warning))
 }
