@@ -32,13 +32,21 @@ pub struct Comparison {
     pub second: Side,
 }
 
-/// A command with the spec file of this path, before its own words.
+/// A command with the spec file of this path, before its own words but a first `--c99`, which makes
+/// the line one of c99.
 pub fn side_of(alloc: Global, path: &Word, command: CommandLine) -> Result<Side, AllocError> {
     let mut option = Word::from_bytes(alloc, b"-specs=")?;
     option.extend_from_slice(path.as_bytes())?;
+    let (front, rest) = match command.words.as_slice() {
+        [first, rest @ ..] if first.as_bytes() == b"--c99".as_slice() => (Some(first), rest),
+        words => (None, words),
+    };
     let mut words = Listing::new(alloc);
+    if let Some(word) = front {
+        words.push(word.clone()?)?;
+    }
     words.push(option)?;
-    for word in command.words.as_slice() {
+    for word in rest {
         words.push(word.clone()?)?;
     }
     Ok(Side {
