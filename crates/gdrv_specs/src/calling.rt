@@ -46,7 +46,7 @@ pub enum CallFault {
         near: Option<Word>,
     },
     /// No word follows this option, which is the last word.
-    MissingArgument(&'static [u8]),
+    MissingArgument(Word),
     /// `diff` takes the paths of two spec files, and then nothing, or `--` and a command.
     NotTwoFiles,
     /// `check` takes the path of one file or more.

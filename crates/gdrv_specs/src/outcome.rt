@@ -44,7 +44,8 @@ impl From<Ending> for Outcome {
 impl From<Stop> for Outcome {
     fn from(stop: Stop) -> Outcome {
         match stop {
-            Stop::Told(text) | Stop::Undone(text, _) => Outcome::Told(text),
+            Stop::Told(text) => Outcome::Told(text),
+            Stop::Undone(text, _line) => Outcome::Told(text),
             Stop::Memory => Outcome::Ended(Ending::OutOfMemory),
         }
     }
@@ -63,16 +64,15 @@ pub fn line_of(alloc: Global, parts: &[&[u8]]) -> Result<Word, AllocError> {
 /// The line about a word of a call that is unknown: with what was meant, or where what there is is listed.
 #[rattlefmt::skip]
 fn unknown_line(alloc: Global, fault: &CallFault) -> Result<Word, AllocError> {
-    let listed = b"--help' lists them";
     match fault {
         CallFault::UnknownTool { word, near: Some(near) } =>
             line_of(alloc, &[b"unknown tool '", word.as_bytes(), b"'; did you mean '", near.as_bytes(), b"'?"]),
         CallFault::UnknownTool { word, near: None } =>
-            line_of(alloc, &[b"unknown tool '", word.as_bytes(), b"'; 'gdrv-specs ", listed]),
+            line_of(alloc, &[b"unknown tool '", word.as_bytes(), b"'; 'gdrv-specs --help' lists them"]),
         CallFault::UnknownOption { tool, word, near: Some(near) } =>
             line_of(alloc, &[b"'", tool.name(), b"' has no option '", word.as_bytes(), b"'; did you mean '", near.as_bytes(), b"'?"]),
         CallFault::UnknownOption { tool, word, near: None } => line_of(alloc,
-            &[b"'", tool.name(), b"' has no option '", word.as_bytes(), b"'; 'gdrv-specs ", tool.name(), b" ", listed]),
+            &[b"'", tool.name(), b"' has no option '", word.as_bytes(), b"'; 'gdrv-specs ", tool.name(), b" --help' lists them"]),
         CallFault::UnknownProgram(program) => line_of(alloc, &[b"unknown program '", program.as_bytes(),
             b"': the program is gdrv, gdrv-cc, gcc, cc, c99, TARGET-gdrv-cc or TARGET-gcc"]),
         _ => line_of(alloc, &[b"out of memory"]),
@@ -88,7 +88,7 @@ fn misuse_line(alloc: Global, fault: &CallFault) -> Result<Word, AllocError> {
         CallFault::NoFiles => line_of(alloc, &[b"'check' takes one file or more"]),
         CallFault::NoCommand(tool) => line_of(alloc, &[b"'", tool.name(), b"' takes a command after '--'"]),
         CallFault::NoProgram => line_of(alloc, &[b"no program after '--'"]),
-        CallFault::MissingArgument(option) => line_of(alloc, &[b"missing argument to '", option, b"'"]),
+        CallFault::MissingArgument(option) => line_of(alloc, &[b"missing argument to '", option.as_bytes(), b"'"]),
         CallFault::StrayWord { tool, word } => line_of(alloc,
             &[b"'", tool.name(), b"' takes a command after '--', and no '", word.as_bytes(), b"' before it"]),
         _ => unknown_line(alloc, fault),

@@ -156,7 +156,7 @@ impl Request {
             }
         }
         match awaits {
-            Some(row) => Err(CallFault::MissingArgument(row.name)),
+            Some(row) => Err(CallFault::MissingArgument(Word::from_bytes(alloc, row.name)?)),
             None => Ok(count),
         }
     }
