@@ -71,8 +71,10 @@ fn driver_text<S: System>(
     alloc: Global,
     asked: &Asked,
     command: &CommandLine,
-    outside: &mut Outside<'_, S>,
+    sys: &mut S,
 ) -> Result<Word, Outcome> {
+    let facts = &mut FactTable::new(alloc);
+    let outside = &mut Outside { sys, facts };
     let words = command.words.clone()?;
     let line = line_of_call(alloc, words, outside.sys, outside.facts)?;
     let set = builtin(alloc)?;
@@ -94,12 +96,12 @@ fn compiler_text<S: System, H: Host<S>>(
     asked: &Asked,
     compiler: &Compiler,
     command: &CommandLine,
-    outside: &mut Outside<'_, S>,
+    sys: &mut S,
     host: &mut H,
 ) -> Result<Word, Outcome> {
-    let prepared = read(alloc, compiler, command, outside, host)?;
-    say_first(outside.sys, &prepared)?;
-    let Some(driven) = &prepared.line else {
+    let mut reading = read(alloc, compiler, command, sys, host)?;
+    say_first(sys, &reading.prepared)?;
+    let Some(driven) = &reading.prepared.line else {
         return Err(Outcome::Question);
     };
     let line = match line_of(alloc, driven.from_file, driven.items.as_slice()) {
@@ -110,6 +112,10 @@ fn compiler_text<S: System, H: Host<S>>(
         asked,
         line: &line,
         seed: command.seed,
+    };
+    let outside = &mut Outside {
+        sys,
+        facts: &mut reading.facts,
     };
     Ok(text_over(alloc, explaining, suffixes(alloc)?, outside)?)
 }
@@ -129,13 +135,9 @@ pub fn tell_why<S: System, H: Host<S>>(
     asked: &Asked,
     command: &CommandLine,
 ) -> Result<u8, Outcome> {
-    let facts = &mut FactTable::new(alloc);
-    let outside = &mut Outside { sys, facts };
     let text = match &command.program {
-        Program::Driver => driver_text(alloc, asked, command, outside)?,
-        Program::Compiler(compiler) => {
-            compiler_text(alloc, asked, compiler, command, outside, host)?
-        }
+        Program::Driver => driver_text(alloc, asked, command, sys)?,
+        Program::Compiler(compiler) => compiler_text(alloc, asked, compiler, command, sys, host)?,
     };
-    Ok(printer.put(alloc, outside.sys, Style::Commands, &text)?)
+    Ok(printer.put(alloc, sys, Style::Commands, &text)?)
 }

@@ -149,7 +149,7 @@ impl Tool {
     }
 
     /// Its name.
-    pub fn name(self) -> &'static [u8] {
+    pub fn name(&self) -> &[u8] {
         match self {
             Tool::Check => b"check",
             Tool::Plan => b"plan",

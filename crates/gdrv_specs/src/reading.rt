@@ -8,6 +8,13 @@ use drv_system::{FactTable, Outside, System};
 use drv_words::Word;
 use std::alloc::{AllocError, Global};
 
+/// A compiler's line up to its plan, and the answers that it goes by.
+#[derive(Drop)]
+pub struct Reading {
+    pub prepared: Prepared,
+    pub facts: FactTable,
+}
+
 /// Reads a compiler's line up to its plan. It asks what `gdrv-cc` would ask, and does nothing else.
 ///
 /// # Errors
@@ -16,17 +23,23 @@ pub fn read<S: System, H: Host<S>>(
     alloc: Global,
     compiler: &Compiler,
     command: &CommandLine,
-    outside: &mut Outside<'_, S>,
+    sys: &mut S,
     host: &mut H,
-) -> Result<Prepared, Outcome> {
-    settle(alloc, outside.sys, outside.facts, host)?;
+) -> Result<Reading, Outcome> {
+    let mut facts = FactTable::new(alloc);
+    settle(alloc, sys, &mut facts, host)?;
     let request = Request {
         calling: &compiler.calling,
         own: &compiler.own,
         args: &command.words,
         seed: command.seed,
     };
-    Ok(prepare(alloc, &request, outside, host)?)
+    let outside = &mut Outside {
+        sys,
+        facts: &mut facts,
+    };
+    let prepared = prepare(alloc, &request, outside, host)?;
+    Ok(Reading { prepared, facts })
 }
 
 /// Says first what `gdrv-cc` says of a compiler that is another than when its spec file was written:
@@ -48,16 +61,16 @@ pub fn work_of<S: System, H: Host<S>>(
     sys: &mut S,
     host: &mut H,
 ) -> Result<Work, Outcome> {
-    let facts = &mut FactTable::new(alloc);
     match &command.program {
         Program::Driver => {
             let words = command.words.clone()?;
+            let facts = &mut FactTable::new(alloc);
             Ok(work_of_call(alloc, words, command.seed, sys, facts)?)
         }
         Program::Compiler(compiler) => {
-            let prepared = read(alloc, compiler, command, &mut Outside { sys, facts }, host)?;
-            say_first(sys, &prepared)?;
-            Ok(prepared.work)
+            let reading = read(alloc, compiler, command, sys, host)?;
+            say_first(sys, &reading.prepared)?;
+            Ok(reading.prepared.work)
         }
     }
 }
