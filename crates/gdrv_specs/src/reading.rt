@@ -69,8 +69,9 @@ pub fn work_of<S: System, H: Host<S>>(
         }
         Program::Compiler(compiler) => {
             let reading = read(alloc, compiler, command, sys, host)?;
-            say_first(sys, &reading.prepared)?;
-            Ok(reading.prepared.work)
+            let prepared = reading.prepared;
+            say_first(sys, &prepared)?;
+            Ok(prepared.work)
         }
     }
 }
